@@ -3,6 +3,7 @@ ghost use mathlib.Core.Path.{_≡_};
 ghost use Prim.Native.Nat.{_+_, _-_, _*_, _^_, _≤_, _<_};
 ghost use lib.Ieee.{nan, binary64, toBits, ofBits};
 ghost use Rattle.numbers.specs.Root.{Sqrt, sqrtOf};
+ghost use Rattle.numbers.specs.Numbers.{allowed};
 ghost use Rattle.numbers.specs.Steps.{NearestWhole, Scaled, RootBits, normalSize};
 
 // The square root of x: ±0 and +inf give themselves, a negative x and a NaN give the NaN, and any
@@ -191,4 +192,15 @@ fn slow_root(n: u64) -> u64
         return s + 1;
     }
     s
+}
+
+// Finite, and of magnitude at most 2^200.
+pub fn component_allowed(x: f64) -> bool
+    ensures { λ r. ⌜ r ≡ allowed x ⌝ }
+{
+    if x <= 1606938044258990275541962092341162602522202993782792835301376.0 {
+        -1606938044258990275541962092341162602522202993782792835301376.0 <= x
+    } else {
+        false
+    }
 }

@@ -1,0 +1,6 @@
+-- What the contracts of `complex` cite.
+pub mod Arithmetic
+pub mod Cells
+pub mod CellLaws
+pub mod Zeros
+pub mod Loops

@@ -1,0 +1,152 @@
+// Complex numbers by value, and cells of two adjacent f64 in a slice, real part first.
+use answers::Answer;
+ghost use mathlib.Core.Path.{_≡_};
+ghost use Prim.Native.Nat.{_+_, _*_, _<_, _≤_};
+ghost use lib.ListN.{length};
+ghost use Rattle.answers.specs.Paper.{paper};
+ghost use Rattle.complex.specs.Arithmetic.{complexOf, product, sum, difference, negation, conjugate, scaled, quotient, normSqr, modulusOf};
+ghost use Rattle.complex.specs.Cells.{cellAt, setCell, components};
+ghost use Rattle.complex.specs.Zeros.{zeroed};
+
+pub struct Complex {
+    pub re: f64,
+    pub im: f64,
+}
+
+impl Complex {
+    pub fn new(re: f64, im: f64) -> Complex
+        ensures { λ r. ⌜ r ≡ complexOf re im ⌝ }
+    {
+        Complex { re, im }
+    }
+
+    pub fn mul(self, o: Complex) -> Complex
+        ensures { λ r. ⌜ r ≡ product self o ⌝ }
+    {
+        Complex {
+            re: self.re * o.re - self.im * o.im,
+            im: self.re * o.im + self.im * o.re,
+        }
+    }
+
+    pub fn add(self, o: Complex) -> Complex
+        ensures { λ r. ⌜ r ≡ sum self o ⌝ }
+    {
+        Complex {
+            re: self.re + o.re,
+            im: self.im + o.im,
+        }
+    }
+
+    pub fn sub(self, o: Complex) -> Complex
+        ensures { λ r. ⌜ r ≡ difference self o ⌝ }
+    {
+        Complex {
+            re: self.re - o.re,
+            im: self.im - o.im,
+        }
+    }
+
+    pub fn neg(self) -> Complex
+        ensures { λ r. ⌜ r ≡ negation self ⌝ }
+    {
+        Complex {
+            re: -self.re,
+            im: -self.im,
+        }
+    }
+
+    pub fn conj(self) -> Complex
+        ensures { λ r. ⌜ r ≡ conjugate self ⌝ }
+    {
+        Complex {
+            re: self.re,
+            im: -self.im,
+        }
+    }
+
+    // By a real number: each part.
+    pub fn scale(self, k: f64) -> Complex
+        ensures { λ r. ⌜ r ≡ scaled self k ⌝ }
+    {
+        Complex {
+            re: self.re * k,
+            im: self.im * k,
+        }
+    }
+
+    // Divided by a real number: each part.
+    pub fn div_real(self, k: f64) -> Complex
+        ensures { λ r. ⌜ r ≡ quotient self k ⌝ }
+    {
+        Complex {
+            re: self.re / k,
+            im: self.im / k,
+        }
+    }
+
+    pub fn norm_sqr(self) -> f64
+        ensures { λ r. ⌜ r ≡ normSqr self ⌝ }
+    {
+        self.re * self.re + self.im * self.im
+    }
+
+    // The root of norm_sqr: the one place that says what a modulus is.
+    pub fn modulus(self) -> f64
+        ensures { λ r. ⌜ r ≡ modulusOf self ⌝ }
+    {
+        numbers::sqrt(self.norm_sqr())
+    }
+}
+
+// The cell x of s.
+pub fn read_cell(s: &[f64], x: usize) -> Complex
+    requires { ⌜ 2 * x + 1 < length (now s) ⌝ }
+    ensures { λ r. ⌜ r ≡ cellAt (now (s .entry)) x ⌝ }
+{
+    let at = 2 * x;
+    let next = at + 1;
+    Complex {
+        re: s[at],
+        im: s[next],
+    }
+}
+
+// The cell x of s becomes z.
+pub fn write_cell(s: &mut [f64], x: usize, z: Complex)
+    requires { ⌜ 2 * x + 1 < length (now s) ⌝ }
+    ensures { λ _. ⌜ now (s .exit) ≡ setCell (now (s .entry)) x z ⌝ }
+{
+    let at = 2 * x;
+    let next = at + 1;
+    s[at] = z.re;
+    s[next] = z.im;
+}
+
+// The first cell of s with a component that is not allowed: 7.
+pub fn check_components(s: &[f64]) -> Answer
+    ensures { λ r. ⌜ paper r ≡ components 0 (now (s .entry)) ⌝ }
+{
+    let mut i = 0;
+    while i < s.len() {
+        let x = s[i];
+        if numbers::component_allowed(x) {
+            i += 1;
+        } else {
+            return Answer::Component(i / 2);
+        }
+    }
+    Answer::Done
+}
+
+// The first m numbers of s become +0.0.
+pub fn zero_first(s: &mut [f64], m: usize)
+    requires { ⌜ m ≤ length (now s) ⌝ }
+    ensures { λ _. ⌜ now (s .exit) ≡ zeroed m (now (s .entry)) ⌝ }
+{
+    let mut i = 0;
+    while i < m {
+        s[i] = 0.0;
+        i += 1;
+    }
+}
