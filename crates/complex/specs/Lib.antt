@@ -2,5 +2,6 @@
 pub mod Arithmetic
 pub mod Cells
 pub mod CellLaws
+pub mod Planes
 pub mod Zeros
 pub mod Loops

@@ -6,6 +6,7 @@ ghost use lib.ListN.{length};
 ghost use Rattle.answers.specs.Paper.{paper};
 ghost use Rattle.complex.specs.Arithmetic.{complexOf, product, sum, difference, negation, conjugate, scaled, quotient, normSqr, modulusOf};
 ghost use Rattle.complex.specs.Cells.{cellAt, setCell, components};
+ghost use Rattle.complex.specs.Planes.{planeAt, setPlane};
 ghost use Rattle.complex.specs.Zeros.{zeroed};
 
 pub struct Complex {
@@ -120,6 +121,28 @@ pub fn write_cell(s: &mut [f64], x: usize, z: Complex)
     let at = 2 * x;
     let next = at + 1;
     s[at] = z.re;
+    s[next] = z.im;
+}
+
+// The cell i of a matrix of c cells whose planes are s.
+pub fn read_plane(s: &[f64], c: usize, i: usize) -> Complex
+    requires { ⌜ (i < c) × (c + i < length (now s)) ⌝ }
+    ensures { λ r. ⌜ r ≡ planeAt (now (s .entry)) c i ⌝ }
+{
+    let next = c + i;
+    Complex {
+        re: s[i],
+        im: s[next],
+    }
+}
+
+// The cell i of a matrix of c cells whose planes are s becomes z.
+pub fn write_plane(s: &mut [f64], c: usize, i: usize, z: Complex)
+    requires { ⌜ (i < c) × (c + i < length (now s)) ⌝ }
+    ensures { λ _. ⌜ now (s .exit) ≡ setPlane (now (s .entry)) c i z ⌝ }
+{
+    let next = c + i;
+    s[i] = z.re;
     s[next] = z.im;
 }
 

@@ -16,31 +16,24 @@ Inv-loop s i₀ i = (i ≤ length s) × (components 0 s ≡ components i (drop i
 abbrev μ-loop : tie.MeasureT-loop
 μ-loop s i₀ i = length s - i
 
--- src/lib.rt:55:5
 loop-holds : tie.Need-loop-holds Inv-loop μ-loop
 loop-holds c = (omega arith, refl)
 
--- src/lib.rt:56:17
 mul-x : tie.Need-mul-x Inv-loop μ-loop
 mul-x c = search needs
 
--- src/lib.rt:56:17
 shared-slice-read-x : tie.Need-shared-slice-read-x Inv-loop μ-loop
 shared-slice-read-x c = search needs
 
--- src/lib.rt:57:12
 component-allowed-requires : tie.Need-component-allowed-requires Inv-loop μ-loop
 component-allowed-requires c κs = search needs
 
--- src/lib.rt:58:13
 add-i : tie.Need-add-i Inv-loop μ-loop
 add-i c = search needs
 
--- src/lib.rt:55:5
 loop-less : tie.Need-loop-less Inv-loop μ-loop
 loop-less c = search needs
 
--- src/lib.rt:55:5
 loop-again : tie.Need-loop-again Inv-loop μ-loop
 loop-again c =
     let b = c .before .before in (
@@ -48,13 +41,11 @@ loop-again c =
       b .before .before .loop .inv .1 ∙ components-good _ _ (b .before .loop-test .taken) (sym (c .before .component-allowed .ensures) ∙ c .if1 .taken),
     )
 
--- src/lib.rt:60:13
 returns : tie.Need-returns Inv-loop μ-loop
 returns c =
     let b = c .before .before in
     sym (b .before .before .loop .inv .1 ∙ components-bad _ _ (b .before .loop-test .taken) (sym (c .before .component-allowed .ensures) ∙ c .if1 .left))
 
--- src/lib.rt:51:1
 returns-2 : tie.Need-returns-2 Inv-loop μ-loop
 returns-2 c = sym (c .before .loop .inv .1 ∙ components-end _ _ (c .loop-test .left))
 
