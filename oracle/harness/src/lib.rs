@@ -1,0 +1,7 @@
+//! Asks the published Rust what each entry point must give, bit for bit.
+
+pub mod call;
+pub mod cases;
+pub mod oracle;
+pub mod random;
+pub mod table;

@@ -1,0 +1,100 @@
+//! What the supplied text lacks, so that its four files compile: the modules around them, stand-ins for the errors and
+//! limits that they name, `NORM_CLAMP_MIN` and `insert_zero_bit`. No arithmetic of the port stands here.
+#![allow(dead_code, unused_imports)]
+
+pub use num_complex::Complex64;
+
+pub mod backend {
+    /// Stand-in: the commit's value is not in the text supplied.
+    pub const NORM_CLAMP_MIN: f64 = 1e-30;
+
+    pub mod mps {
+        use num_complex::Complex64;
+
+        include!(concat!(env!("OUT_DIR"), "/constants.rs"));
+        include!(concat!(env!("OUT_DIR"), "/mod_svd.rs"));
+
+        pub use svd::{SvdResult, svd, svd_jacobi};
+    }
+
+    include!(concat!(env!("OUT_DIR"), "/mod_schmidt.rs"));
+    include!(concat!(env!("OUT_DIR"), "/mod_reduced_density.rs"));
+
+    pub mod statevector {
+        /// Its body is not in the text supplied: bits at q and above move up one, bit q is zero.
+        #[inline(always)]
+        pub fn insert_zero_bit(index: usize, q: usize) -> usize {
+            let low = (1usize << q) - 1;
+            ((index & !low) << 1) | (index & low)
+        }
+    }
+}
+
+pub mod gates {
+    include!(concat!(env!("OUT_DIR"), "/mod_spectral.rs"));
+
+    /// Only a power of a unitary asks for it, which is not ported.
+    pub fn principal_angle(_: f64) -> f64 {
+        unreachable!()
+    }
+}
+
+/// The errors that the four files raise, without their texts.
+pub mod error {
+    #[derive(Debug, Clone, PartialEq)]
+    pub enum PrismError {
+        InvalidQubit { index: usize, register_size: usize },
+        InvalidParameter { message: String },
+        BackendUnsupported { backend: String, operation: String },
+        ResourceLimit { required: u128, limit: u128 },
+    }
+
+    pub enum ResourceKind {
+        Qubits,
+    }
+
+    pub type Result<T> = std::result::Result<T, PrismError>;
+}
+
+/// The one limit that the four files read: the export cap.
+pub mod limits {
+    use crate::error::{PrismError, ResourceKind};
+
+    pub enum LimitKnob {
+        ExportQubits,
+    }
+
+    #[derive(Clone, Copy)]
+    pub struct LimitSource;
+
+    pub struct Limit {
+        pub value: usize,
+        pub source: LimitSource,
+    }
+
+    pub struct ResolvedLimits {
+        pub export_qubits: Limit,
+    }
+
+    impl ResolvedLimits {
+        pub fn export(cap: usize) -> Self {
+            Self { export_qubits: Limit { value: cap, source: LimitSource } }
+        }
+
+        pub fn export_cap(&self) -> usize {
+            self.export_qubits.value.min(usize::BITS as usize - 1)
+        }
+    }
+
+    pub fn resource_limit_error(
+        _: &str,
+        _: impl Into<String>,
+        _: ResourceKind,
+        required: u128,
+        limit: u128,
+        _: LimitKnob,
+        _: LimitSource,
+    ) -> PrismError {
+        PrismError::ResourceLimit { required, limit }
+    }
+}
