@@ -1,0 +1,3 @@
+pub mod Submasks
+pub mod SubmaskLaws
+pub mod BitLaws
