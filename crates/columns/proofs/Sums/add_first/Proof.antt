@@ -1,0 +1,15 @@
+-- `columns::Sums::add_first` meets its contract: the first sum is the callee's, the others are as they were. Assumes nothing.
+use Rattle.columns.specs.Dot.{addFirst}
+use borrow.Author.Needs.{needs}
+use Rattle.columns.proofs.Sums.add_first.Statement.{statement}
+use Rattle.columns.proofs.Sums.add_first.Tie as tie
+
+add-requires : tie.Need-add-requires
+add-requires c κs = search needs
+
+returns : tie.Need-returns
+unfolding addFirst
+returns c = cc
+
+pub add-first-spec : {M : Type 1} → statement M
+add-first-spec = tie.close (tie.spec add-requires returns)
