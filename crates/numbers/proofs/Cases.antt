@@ -24,7 +24,7 @@ use Rattle.numbers.proofs.Patterns.{normal-size, small-size, normal-num
 plus-sign : (a b c : ℕ) → a + b + c ≡ a + (0 + b + c)
 plus-sign a b c = omega arith
 
-minus-bits : (m : ℕ) (e : ℤ) → toBits binary64 (fin true m e) ≡ 2 ^ 63 + toBits binary64 (fin false m e)
+pub minus-bits : (m : ℕ) (e : ℤ) → toBits binary64 (fin true m e) ≡ 2 ^ 63 + toBits binary64 (fin false m e)
 unfolding toBits
 minus-bits m e =
     let n = m * up e * 2 ^ 1074 / down e in
@@ -43,7 +43,7 @@ unfolding fits
 either-sign zero e f = f
 either-sign (suc m) e f = f
 
-plus-bits : (m : ℕ) (e : ℤ) → T (fits binary64 (fin false m e)) → toBits binary64 (fin false m e) < 2 ^ 63
+pub plus-bits : (m : ℕ) (e : ℤ) → T (fits binary64 (fin false m e)) → toBits binary64 (fin false m e) < 2 ^ 63
 plus-bits m e f =
     let h : toBits binary64 (fin true m e) < 2 * 2 ^ 63 = toBits-lt binary64 (fin true m e) (either-sign m e f) in
     omega (arith, minus-bits m e)

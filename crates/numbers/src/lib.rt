@@ -1,9 +1,10 @@
-// The square root of an f64, rounded to the nearest f64, worked out from the bits with whole numbers.
+// Number helpers: the square root of an f64, rounded to the nearest f64 and worked out from the bits with
+// whole numbers; magnitude, sign, finite test, total order, and the test of an allowed component.
 ghost use mathlib.Core.Path.{_≡_};
 ghost use Prim.Native.Nat.{_+_, _-_, _*_, _^_, _≤_, _<_};
 ghost use lib.Ieee.{nan, binary64, toBits, ofBits};
 ghost use Rattle.numbers.specs.Root.{Sqrt, sqrtOf};
-ghost use Rattle.numbers.specs.Numbers.{allowed};
+ghost use Rattle.numbers.specs.Numbers.{minusSign, magnitudeOf, signOf, finite, totalLess, totalOrder, orderNumber, allowed};
 ghost use Rattle.numbers.specs.Steps.{NearestWhole, Scaled, RootBits, normalSize};
 
 // The square root of x: ±0 and +inf give themselves, a negative x and a NaN give the NaN, and any
@@ -192,6 +193,87 @@ fn slow_root(n: u64) -> u64
         return s + 1;
     }
     s
+}
+
+// Whether x has a minus sign: that of -0 counts, a NaN has none.
+pub fn minus_sign(x: f64) -> bool
+    ensures { λ r. ⌜ r ≡ minusSign x ⌝ }
+{
+    if x != x {
+        return false;
+    }
+    0x8000_0000_0000_0000 <= f64::to_bits(x)
+}
+
+// x with its sign cleared, that of -0 too. A NaN gives itself.
+pub fn magnitude(x: f64) -> f64
+    ensures { λ r. ⌜ r ≡ magnitudeOf x ⌝ }
+{
+    if minus_sign(x) { -x } else { x }
+}
+
+// 1 for +0.0 and what is above, -1 for -0.0 and what is below. A NaN gives itself.
+pub fn sign(x: f64) -> f64
+    ensures { λ r. ⌜ r ≡ signOf x ⌝ }
+{
+    if x != x {
+        return x;
+    }
+    if minus_sign(x) { -1.0 } else { 1.0 }
+}
+
+// Neither a NaN nor an infinity.
+pub fn is_finite(x: f64) -> bool
+    ensures { λ r. ⌜ r ≡ finite x ⌝ }
+{
+    let infinity = f64::from_bits(0x7ff0_0000_0000_0000);
+    if x < infinity { -infinity < x } else { false }
+}
+
+pub enum Order {
+    Less,
+    Equal,
+    Greater,
+}
+
+// Whether x stands below y in the total order, in which -0 is below +0 and the NaN above all else.
+pub fn total_less(x: f64, y: f64) -> bool
+    ensures { λ r. ⌜ r ≡ totalLess x y ⌝ }
+{
+    if y != y {
+        return x == x;
+    }
+    if x < y {
+        return true;
+    }
+    if x == y {
+        return if minus_sign(x) { !minus_sign(y) } else { false };
+    }
+    false
+}
+
+// How x stands to y in the total order.
+pub fn total_order(x: f64, y: f64) -> Order
+    ensures { λ r. ⌜ r ≡ totalOrder x y ⌝ }
+{
+    if total_less(x, y) {
+        return Order::Less;
+    }
+    if total_less(y, x) {
+        return Order::Greater;
+    }
+    Order::Equal
+}
+
+// The number of an order: 0 below, 1 equal, 2 above.
+pub fn order_number(o: Order) -> u32
+    ensures { λ r. ⌜ r ≡ orderNumber o ⌝ }
+{
+    match o {
+        Order::Less => 0,
+        Order::Equal => 1,
+        Order::Greater => 2,
+    }
 }
 
 // Finite, and of magnitude at most 2^200.
