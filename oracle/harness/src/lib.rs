@@ -4,4 +4,5 @@ pub mod call;
 pub mod cases;
 pub mod oracle;
 pub mod random;
+pub mod small;
 pub mod table;

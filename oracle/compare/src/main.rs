@@ -1,0 +1,129 @@
+//! The port against the published Rust: the same calls to both, every answer, place, value and lent cell compared.
+//!
+//!     compare SEED COUNT         every small shape, then COUNT drawn calls of each entry point
+//!     compare replay FILE        the calls of FILE, one to a line, as a mismatch prints them
+//!
+//! It ends with status 1 on a mismatch. The last line has the count of calls and the seed.
+
+mod ours;
+
+use std::collections::BTreeMap;
+use std::process::exit;
+
+use harness::call::{Call, ENTRIES, Entry, Outcome};
+use harness::cases::{self, Bounds};
+use harness::oracle::{Build, outcome};
+use harness::random::Random;
+use harness::small;
+
+/// How many mismatches are shown in full.
+const SHOWN: usize = 20;
+
+#[derive(Default)]
+struct Tally {
+    calls: usize,
+    wrong: usize,
+    answers: BTreeMap<(Entry, u32), usize>,
+}
+
+impl Tally {
+    fn see(&mut self, call: &Call) {
+        let Some(ours) = ours::run(call) else { return };
+        let theirs = outcome(call, Build::Replaced);
+        self.calls += 1;
+        *self.answers.entry((call.entry, theirs.number)).or_insert(0) += 1;
+        if ours.as_ref() == Some(&theirs) {
+            return;
+        }
+        self.wrong += 1;
+        if self.wrong <= SHOWN {
+            println!("MISMATCH {}", call.line());
+            match ours {
+                Some(ours) => show(&ours, &theirs),
+                None => println!("  the port wrote outside of a slice"),
+            }
+        }
+    }
+
+    fn print(&self) {
+        let mut by_entry: BTreeMap<Entry, String> = BTreeMap::new();
+        for ((entry, number), count) in &self.answers {
+            by_entry.entry(*entry).or_default().push_str(&format!("  {number}: {count}"));
+        }
+        for (entry, answers) in by_entry {
+            println!("{:<28} {answers}", entry.name());
+        }
+        let missing: Vec<String> =
+            ENTRIES.iter().filter(|&&entry| !ours::has(entry)).map(|entry| entry.name()).collect();
+        if !missing.is_empty() {
+            println!("not in the library, so not compared: {}", missing.join(" "));
+        }
+    }
+}
+
+fn show(ours: &Outcome, theirs: &Outcome) {
+    let head =
+        |outcome: &Outcome| format!("answer {} place {} value {:X}", outcome.number, outcome.place, outcome.value);
+    println!("  port {}; oracle {}", head(ours), head(theirs));
+    for (slice, (a, b)) in ours.slices.iter().zip(&theirs.slices).enumerate() {
+        if let Some(at) = (0..a.len()).find(|&at| a[at] != b[at]) {
+            println!("  slice {slice} first differs at {at}: port {:016X}, oracle {:016X}", a[at], b[at]);
+        }
+    }
+}
+
+/// Small draws mostly, and now and then one near the largest sizes.
+fn bounds(rng: &mut Random) -> Bounds {
+    match rng.below(200) {
+        0 => Bounds { qubits: 12, side: 64 },
+        1..=5 => Bounds { qubits: 9, side: 32 },
+        6..=40 => Bounds { qubits: 7, side: 16 },
+        _ => Bounds { qubits: 5, side: 6 },
+    }
+}
+
+fn run(seed: u64, count: usize) -> Tally {
+    let mut tally = Tally::default();
+    for entry in ENTRIES {
+        if !ours::has(entry) {
+            continue;
+        }
+        small::each(entry, &mut |call| tally.see(&call));
+        let rng = &mut Random::new(seed ^ (entry as u64) << 32);
+        for drawn in 0..count {
+            let bounds = bounds(rng);
+            tally.see(&cases::any(rng, entry, bounds));
+            if drawn % 16 == 0 {
+                let call = cases::accepted(rng, entry, Bounds { qubits: 4, side: 5 });
+                small::lengths(rng, &call, &mut |call| tally.see(&call));
+            }
+        }
+    }
+    tally
+}
+
+fn main() {
+    std::panic::set_hook(Box::new(|_| {}));
+    let args: Vec<String> = std::env::args().skip(1).collect();
+    let start = std::time::Instant::now();
+    let (tally, how) = match args.iter().map(String::as_str).collect::<Vec<_>>()[..] {
+        ["replay", file] => {
+            let mut tally = Tally::default();
+            let text = std::fs::read_to_string(file).expect("a file of calls");
+            for line in text.lines().map(|line| line.trim_start_matches("MISMATCH ")) {
+                if !line.is_empty() && !line.starts_with(['#', ' ']) {
+                    tally.see(&Call::parse(line));
+                }
+            }
+            (tally, format!("replay of {file}"))
+        }
+        [seed, count] => {
+            let number = |word: &str| word.parse().expect("a number");
+            (run(number(seed), number(count) as usize), format!("seed {seed}"))
+        }
+        _ => panic!("usage: compare SEED COUNT, or compare replay FILE"),
+    };
+    tally.print();
+    println!("compared {} calls, {} mismatches, {how}, {} s", tally.calls, tally.wrong, start.elapsed().as_secs());
+    exit(if tally.wrong > 0 || tally.calls == 0 { 1 } else { 0 });
+}

@@ -1,0 +1,161 @@
+//! The port's entry points, called through its static library on copies of a call's slices. Each copy stands between
+//! guard words, so that a write outside of a slice is seen.
+
+use harness::call::{Call, Entry, Entry::*, Outcome};
+
+const GUARD: u64 = 0xD1CE_0B5E_55ED_CAFE;
+const GUARDS: usize = 8;
+
+#[rustfmt::skip]
+#[allow(dead_code)]
+unsafe extern "C" {
+    fn zg_validate_qubit_set(list: *const usize, list_len: usize, n: usize, place: *mut usize) -> u32;
+    fn zg_validate_subsystem(list: *const usize, list_len: usize, n: usize, place: *mut usize) -> u32;
+    fn zg_row_offsets(list: *const usize, list_len: usize, n: usize, cap: usize, out: *mut usize, out_len: usize, place: *mut usize) -> u32;
+    fn zg_traced_base(e: usize, list: *const usize, list_len: usize, n: usize, cap: usize, place: *mut usize, base: *mut usize) -> u32;
+    fn zg_smaller_side(list: *const usize, list_len: usize, n: usize, cap: usize, others: *mut usize, others_len: usize, place: *mut usize) -> u32;
+    fn zg_cut_matrix(state: *const f64, state_len: usize, n: usize, list: *const usize, list_len: usize, cap: usize, out: *mut f64, out_len: usize, place: *mut usize) -> u32;
+    fn zg_dense_schmidt_values(state: *const f64, state_len: usize, n: usize, list: *const usize, list_len: usize, cap: usize, out: *mut f64, out_len: usize, scratch: *mut f64, scratch_len: usize, place: *mut usize, count: *mut usize) -> u32;
+    fn zg_dense_reduced_density(state: *const f64, state_len: usize, n: usize, list: *const usize, list_len: usize, cap: usize, out: *mut f64, out_len: usize, scratch: *mut f64, scratch_len: usize, place: *mut usize) -> u32;
+    fn zg_mirror_lower_triangle(rho: *mut f64, rho_len: usize, dim: usize, place: *mut usize) -> u32;
+    fn zg_normalize_trace(rho: *mut f64, rho_len: usize, dim: usize, place: *mut usize) -> u32;
+    fn zg_multiply_block_factor(rho: *mut f64, rho_len: usize, dim: usize, positions: *const usize, positions_len: usize, factor: *const f64, factor_len: usize, side: usize, place: *mut usize) -> u32;
+    fn zg_svd_jacobi(a: *const f64, a_len: usize, m: usize, n: usize, u: *mut f64, u_len: usize, s: *mut f64, s_len: usize, vt: *mut f64, vt_len: usize, scratch: *mut f64, scratch_len: usize, place: *mut usize) -> u32;
+    fn zg_factorize_gram_schmidt(a: *const f64, a_len: usize, rows: usize, cols: usize, q: *mut f64, q_len: usize, r: *mut f64, r_len: usize, scratch: *mut f64, scratch_len: usize, place: *mut usize, rank: *mut usize) -> u32;
+    fn zg_hermitian_eigenvalues(a: *const f64, a_len: usize, dim: usize, out: *mut f64, out_len: usize, scratch: *mut f64, scratch_len: usize, place: *mut usize) -> u32;
+    fn zg_finish_schmidt_values(values: *const f64, values_len: usize, out: *mut f64, out_len: usize, place: *mut usize, count: *mut usize) -> u32;
+    fn zg_schmidt_values_from_density(rho: *const f64, rho_len: usize, dim: usize, out: *mut f64, out_len: usize, scratch: *mut f64, scratch_len: usize, place: *mut usize, count: *mut usize) -> u32;
+    fn zg_hermitian_eigen(matrix: *const f64, matrix_len: usize, dim: usize, values: *mut f64, values_len: usize, vectors: *mut f64, vectors_len: usize, scratch: *mut f64, scratch_len: usize, place: *mut usize) -> u32;
+    fn zg_truncated_svd_rank(values: *const f64, values_len: usize, epsilon: f64, max_bond_dim: usize, place: *mut usize, rank: *mut usize) -> u32;
+    fn zg_discards_resolvable_weight(values: *const f64, values_len: usize, chi: usize, place: *mut usize, yes: *mut bool) -> u32;
+    fn zg_cut_rank(bond_left: usize, bond_mid: usize, bond_right: usize, place: *mut usize, rank: *mut u64) -> u32;
+    fn zg_widest_block_cut(bond_left: usize, bond_right: usize, n: usize, place: *mut usize, rank: *mut u64) -> u32;
+    fn zg_fill_isometry_site_data(columns: *const f64, columns_len: usize, stride: usize, bond_left: usize, chi: usize, out: *mut f64, out_len: usize, place: *mut usize) -> u32;
+    fn zg_fill_scaled_u_site_data(u: *const f64, u_len: usize, s: *const f64, s_len: usize, stride: usize, bond_left: usize, chi: usize, out: *mut f64, out_len: usize, place: *mut usize) -> u32;
+    fn zg_fill_vt_site_data(vt: *const f64, vt_len: usize, row_len: usize, chi: usize, physical_dim: usize, bond_right: usize, out: *mut f64, out_len: usize, place: *mut usize) -> u32;
+    fn zg_fill_scaled_vt_data(s: *const f64, s_len: usize, vt: *const f64, vt_len: usize, row_len: usize, chi: usize, physical_dim: usize, bond_right: usize, out: *mut f64, out_len: usize, place: *mut usize) -> u32;
+}
+
+/// Copies of a call's slices, each between guard words.
+struct Copies {
+    words: Vec<Vec<u64>>,
+}
+
+#[allow(dead_code)]
+impl Copies {
+    fn of(call: &Call) -> Copies {
+        let fenced = |slice: &[u64]| [&[GUARD; GUARDS], slice, &[GUARD; GUARDS]].concat();
+        Copies { words: call.slices().iter().map(|&at| fenced(call.many(at))).collect() }
+    }
+
+    fn pointer(&mut self, slice: usize) -> *mut u64 {
+        self.words[slice][GUARDS..].as_mut_ptr()
+    }
+
+    fn length(&self, slice: usize) -> usize {
+        self.words[slice].len() - 2 * GUARDS
+    }
+
+    /// The slices afterwards, or none where a guard word was written.
+    fn after(self) -> Option<Vec<Vec<u64>>> {
+        let mut slices = vec![];
+        for words in self.words {
+            let (front, rest) = words.split_at(GUARDS);
+            let (slice, back) = rest.split_at(rest.len() - GUARDS);
+            if front.iter().chain(back).any(|&word| word != GUARD) {
+                return None;
+            }
+            slices.push(slice.to_vec());
+        }
+        Some(slices)
+    }
+}
+
+/// Calls what the library has, and gives none where it does not have it.
+macro_rules! ask {
+    ($has:ident, $call:expr) => {{
+        #[cfg($has)]
+        {
+            Some(unsafe { $call })
+        }
+        #[cfg(not($has))]
+        {
+            None
+        }
+    }};
+}
+
+/// Whether the library has the entry point.
+pub fn has(entry: Entry) -> bool {
+    let empty = harness::cases::accepted(
+        &mut harness::random::Random::new(0),
+        entry,
+        harness::cases::Bounds { qubits: 2, side: 2 },
+    );
+    run(&empty).is_some()
+}
+
+/// What the port leaves of a call; an inner none where it wrote outside of a slice.
+#[rustfmt::skip]
+#[allow(unused_mut, unused_variables, unused_macros, dead_code)]
+pub fn run(call: &Call) -> Option<Option<Outcome>> {
+    let mut copies = Copies::of(call);
+    let (mut place, mut value) = (usize::MAX, u64::MAX);
+    let one = |at: usize| call.one(at);
+    // A slice's pointer to floats, its pointer to whole numbers, its length.
+    macro_rules! f { ($slice:literal) => { copies.pointer($slice).cast::<f64>() } }
+    macro_rules! w { ($slice:literal) => { copies.pointer($slice).cast::<usize>() } }
+    macro_rules! l { ($slice:literal) => { copies.length($slice) } }
+    let p = &raw mut place;
+    let v = &raw mut value;
+    let number: Option<u32> = match call.entry {
+        validate_qubit_set => ask!(has_zg_validate_qubit_set, zg_validate_qubit_set(w!(0), l!(0), one(1), p)),
+        validate_subsystem => ask!(has_zg_validate_subsystem, zg_validate_subsystem(w!(0), l!(0), one(1), p)),
+        row_offsets => ask!(has_zg_row_offsets, zg_row_offsets(w!(0), l!(0), one(1), one(2), w!(1), l!(1), p)),
+        traced_base => ask!(has_zg_traced_base, zg_traced_base(one(0), w!(0), l!(0), one(2), one(3), p, v.cast())),
+        smaller_side => ask!(has_zg_smaller_side, zg_smaller_side(w!(0), l!(0), one(1), one(2), w!(1), l!(1), p)),
+        cut_matrix => ask!(has_zg_cut_matrix, zg_cut_matrix(f!(0), l!(0), one(1), w!(1), l!(1), one(3), f!(2), l!(2), p)),
+        dense_schmidt_values => ask!(has_zg_dense_schmidt_values,
+            zg_dense_schmidt_values(f!(0), l!(0), one(1), w!(1), l!(1), one(3), f!(2), l!(2), f!(3), l!(3), p, v.cast())),
+        dense_reduced_density => ask!(has_zg_dense_reduced_density,
+            zg_dense_reduced_density(f!(0), l!(0), one(1), w!(1), l!(1), one(3), f!(2), l!(2), f!(3), l!(3), p)),
+        mirror_lower_triangle => ask!(has_zg_mirror_lower_triangle, zg_mirror_lower_triangle(f!(0), l!(0), one(1), p)),
+        normalize_trace => ask!(has_zg_normalize_trace, zg_normalize_trace(f!(0), l!(0), one(1), p)),
+        multiply_block_factor => ask!(has_zg_multiply_block_factor,
+            zg_multiply_block_factor(f!(0), l!(0), one(1), w!(1), l!(1), f!(2), l!(2), one(4), p)),
+        svd_jacobi => ask!(has_zg_svd_jacobi,
+            zg_svd_jacobi(f!(0), l!(0), one(1), one(2), f!(1), l!(1), f!(2), l!(2), f!(3), l!(3), f!(4), l!(4), p)),
+        factorize_gram_schmidt => ask!(has_zg_factorize_gram_schmidt,
+            zg_factorize_gram_schmidt(f!(0), l!(0), one(1), one(2), f!(1), l!(1), f!(2), l!(2), f!(3), l!(3), p, v.cast())),
+        hermitian_eigenvalues => ask!(has_zg_hermitian_eigenvalues,
+            zg_hermitian_eigenvalues(f!(0), l!(0), one(1), f!(1), l!(1), f!(2), l!(2), p)),
+        finish_schmidt_values => ask!(has_zg_finish_schmidt_values,
+            zg_finish_schmidt_values(f!(0), l!(0), f!(1), l!(1), p, v.cast())),
+        schmidt_values_from_density => ask!(has_zg_schmidt_values_from_density,
+            zg_schmidt_values_from_density(f!(0), l!(0), one(1), f!(1), l!(1), f!(2), l!(2), p, v.cast())),
+        hermitian_eigen => ask!(has_zg_hermitian_eigen,
+            zg_hermitian_eigen(f!(0), l!(0), one(1), f!(1), l!(1), f!(2), l!(2), f!(3), l!(3), p)),
+        truncated_svd_rank => ask!(has_zg_truncated_svd_rank,
+            zg_truncated_svd_rank(f!(0), l!(0), call.float(1), one(2), p, v.cast())),
+        discards_resolvable_weight => ask!(has_zg_discards_resolvable_weight, {
+            let mut yes = false;
+            let number = zg_discards_resolvable_weight(f!(0), l!(0), one(1), p, &raw mut yes);
+            value = u64::from(yes);
+            number
+        }),
+        cut_rank => ask!(has_zg_cut_rank, zg_cut_rank(one(0), one(1), one(2), p, v)),
+        widest_block_cut => ask!(has_zg_widest_block_cut, zg_widest_block_cut(one(0), one(1), one(2), p, v)),
+        fill_isometry_site_data => ask!(has_zg_fill_isometry_site_data,
+            zg_fill_isometry_site_data(f!(0), l!(0), one(1), one(2), one(3), f!(1), l!(1), p)),
+        fill_scaled_u_site_data => ask!(has_zg_fill_scaled_u_site_data,
+            zg_fill_scaled_u_site_data(f!(0), l!(0), f!(1), l!(1), one(2), one(3), one(4), f!(2), l!(2), p)),
+        fill_vt_site_data => ask!(has_zg_fill_vt_site_data,
+            zg_fill_vt_site_data(f!(0), l!(0), one(1), one(2), one(3), one(4), f!(1), l!(1), p)),
+        fill_scaled_vt_data => ask!(has_zg_fill_scaled_vt_data,
+            zg_fill_scaled_vt_data(f!(0), l!(0), f!(1), l!(1), one(2), one(3), one(4), one(5), f!(2), l!(2), p)),
+        sqrt | sqrt_bits | magnitude | sign | is_finite | total_less => None,
+    };
+    let number = number?;
+    let value = if call.entry.returns() { value } else { 0 };
+    Some(copies.after().map(|slices| Outcome { number, place: place as u64, value, slices }))
+}

@@ -1,0 +1,251 @@
+//! What differs between the two builds, by kind of input: `survey SEED COUNT` prints a table, and the smallest inputs
+//! of small whole numbers that show a difference.
+
+use harness::call::{Arg, Call, Entry, Entry::*, Outcome};
+use harness::cases::{self, STYLES, lent, numbers, one};
+use harness::oracle::{Build, outcome};
+use harness::random::Random;
+use harness::table::{self, Role};
+
+/// One row of the table.
+#[derive(Default)]
+struct Row {
+    calls: usize,
+    differ: usize,
+    answers: usize,
+    counts: usize,
+    values: f64,
+    vectors: f64,
+    values_moved: usize,
+}
+
+fn both(call: &Call) -> (Outcome, Outcome) {
+    (outcome(call, Build::Published), outcome(call, Build::Replaced))
+}
+
+/// Which slices hold values, and which hold vectors.
+fn results(entry: Entry) -> (&'static [usize], &'static [usize]) {
+    match entry {
+        svd_jacobi => (&[2], &[1, 3]),
+        hermitian_eigen => (&[1], &[2]),
+        dense_schmidt_values => (&[2], &[]),
+        _ => (&[1], &[]),
+    }
+}
+
+fn needed(call: &Call, slice: usize) -> usize {
+    match table::roles(call)[slice] {
+        Role::Output(needed) => needed,
+        _ => 0,
+    }
+}
+
+/// The largest difference of two slices, as a part of `of` or of the largest number in them.
+fn apart(call: &Call, slice: usize, a: &Outcome, b: &Outcome, relative: bool) -> f64 {
+    let floats = |outcome: &Outcome| -> Vec<f64> {
+        outcome.slices[slice][..needed(call, slice)].iter().map(|&word| f64::from_bits(word)).collect()
+    };
+    let (a, b) = (floats(a), floats(b));
+    let most = |x: &[f64]| x.iter().fold(0.0, |most: f64, x| most.max(x.abs()));
+    let difference: Vec<f64> = a.iter().zip(&b).map(|(x, y)| x - y).collect();
+    if relative { most(&difference) / most(&a).max(most(&b)) } else { most(&difference) }
+}
+
+impl Row {
+    fn add(&mut self, call: &Call) {
+        let (a, b) = both(call);
+        self.calls += 1;
+        if a == b {
+            return;
+        }
+        self.differ += 1;
+        if (a.number, a.place) != (b.number, b.place) {
+            self.answers += 1;
+            return;
+        }
+        if a.value != b.value {
+            self.counts += 1;
+            return;
+        }
+        let (values, vectors) = results(call.entry);
+        let mut moved = false;
+        for &slice in values {
+            let size = apart(call, slice, &a, &b, true);
+            moved |= a.slices[slice] != b.slices[slice];
+            self.values = self.values.max(size);
+        }
+        self.values_moved += usize::from(moved);
+        for &slice in vectors {
+            self.vectors = self.vectors.max(apart(call, slice, &a, &b, false));
+        }
+    }
+
+    fn print(&self, entry: Entry, kind: &str) {
+        println!(
+            "| {} | {kind} | {} | {} | {} | {} | {} | {:.1e} | {:.1e} |",
+            entry.name(),
+            self.calls,
+            self.differ,
+            self.values_moved,
+            self.counts,
+            self.answers,
+            self.values,
+            self.vectors
+        );
+    }
+}
+
+fn with_lent(rng: &mut Random, entry: Entry, mut args: Vec<Arg>) -> Call {
+    let given = args.len();
+    args.resize(entry.kinds().len(), Arg::Many(vec![]));
+    let mut call = Call::new(entry, args);
+    let roles = table::roles(&call);
+    for (slice, at) in call.slices().into_iter().enumerate() {
+        if let (true, Role::Output(needed) | Role::Scratch(needed)) = (at >= given, roles[slice]) {
+            *call.many_mut(at) = lent(rng, needed);
+        }
+    }
+    call
+}
+
+fn matrices(seed: u64, count: usize) {
+    for entry in [svd_jacobi, hermitian_eigenvalues, schmidt_values_from_density, hermitian_eigen] {
+        for style in STYLES {
+            let mut rng = Random::new(seed);
+            let mut row = Row::default();
+            for _ in 0..count {
+                let real = rng.chance(3);
+                let kind = rng.below(10);
+                let (m, n) = (rng.within(2, 8), rng.within(2, 8));
+                let args = if entry == svd_jacobi {
+                    vec![Arg::Many(numbers(&cases::matrix_of(&mut rng, m, n, style, real, kind))), one(m), one(n)]
+                } else {
+                    // Hermitian or a density.
+                    let kind = rng.below(6);
+                    vec![Arg::Many(numbers(&cases::square_of(&mut rng, m, style, kind))), one(m)]
+                };
+                row.add(&with_lent(&mut rng, entry, args));
+            }
+            row.print(entry, &format!("{style:?}"));
+        }
+    }
+}
+
+fn states(seed: u64, count: usize) {
+    let kinds =
+        ["product", "GHZ", "W", "cluster", "one amplitude", "zero", "all equal", "two products", "sparse", "random"];
+    for (kind, name) in kinds.iter().enumerate() {
+        let mut rng = Random::new(seed);
+        let mut row = Row::default();
+        for _ in 0..count {
+            let n = rng.within(2, 8);
+            let k = rng.within(1, n - 1);
+            let state = Arg::Many(numbers(&cases::state_of(&mut rng, n, kind)));
+            let list = Arg::Many(cases::list(&mut rng, n, k));
+            row.add(&with_lent(&mut rng, dense_schmidt_values, vec![state, one(n), list, one(13)]));
+        }
+        row.print(dense_schmidt_values, name);
+    }
+}
+
+/// Matrices of two by two with small whole cells, from the least sum of magnitudes up, until one differs.
+fn smallest(entry: Entry, real: bool) -> Option<Call> {
+    let mut rng = Random::new(0);
+    let parts = if real { 4 } else { 8 };
+    for total in 1..=14i32 {
+        let mut found = None;
+        let mut cells = vec![0i32; parts];
+        walk(&mut cells, 0, total, &mut |cells| {
+            if found.is_some() {
+                return;
+            }
+            let numbers: Vec<u64> = (0..8)
+                .map(|at| if real { if at % 2 == 0 { cells[at / 2] } else { 0 } } else { cells[at] })
+                .map(|x| f64::from(x).to_bits())
+                .collect();
+            let args = match entry {
+                svd_jacobi => vec![Arg::Many(numbers), one(2), one(2)],
+                dense_schmidt_values => vec![Arg::Many(numbers), one(2), Arg::Many(vec![0]), one(13)],
+                _ => {
+                    // Hermitian only.
+                    let (low, high) = (&numbers[2..4], &numbers[4..6]);
+                    let mirrored = f64::from_bits(low[0]) == f64::from_bits(high[0])
+                        && f64::from_bits(low[1]) == -f64::from_bits(high[1]);
+                    if !mirrored || numbers[1] << 1 != 0 || numbers[7] << 1 != 0 {
+                        return;
+                    }
+                    vec![Arg::Many(numbers), one(2)]
+                }
+            };
+            let call = with_lent(&mut rng, entry, args);
+            let (a, b) = both(&call);
+            if a != b {
+                found = Some(call);
+            }
+        });
+        if found.is_some() {
+            return found;
+        }
+    }
+    None
+}
+
+/// Every way to give the cells whole numbers whose magnitudes sum to `left`.
+fn walk(cells: &mut Vec<i32>, at: usize, left: i32, see: &mut impl FnMut(&[i32])) {
+    if at == cells.len() {
+        if left == 0 {
+            see(cells);
+        }
+        return;
+    }
+    for size in 0..=left {
+        cells[at] = size;
+        walk(cells, at + 1, left - size, see);
+        if size > 0 {
+            cells[at] = -size;
+            walk(cells, at + 1, left - size, see);
+        }
+    }
+    cells[at] = 0;
+}
+
+fn show(call: &Call) {
+    let (a, b) = both(call);
+    let input: Vec<f64> = call.floats(0);
+    println!("{}: input {input:?}", call.entry.name());
+    let (values, vectors) = results(call.entry);
+    for &slice in values.iter().chain(vectors) {
+        let hex = |outcome: &Outcome| -> String {
+            outcome.slices[slice][..needed(call, slice)].iter().map(|word| format!(" {word:016X}")).collect()
+        };
+        if a.slices[slice] != b.slices[slice] {
+            println!("  slice {slice} published{}\n          replaced{}", hex(&a), hex(&b));
+        }
+    }
+    if (a.number, a.value) != (b.number, b.value) {
+        println!("  published: answer {} count {}; replaced: answer {} count {}", a.number, a.value, b.number, b.value);
+    }
+}
+
+fn main() {
+    std::panic::set_hook(Box::new(|_| {}));
+    let mut args = std::env::args().skip(1);
+    let seed = args.next().map_or(1, |word| word.parse().expect("a seed"));
+    let count = args.next().map_or(2000, |word| word.parse().expect("a count"));
+    println!(
+        "| call | kind | calls | differ | values move | other count | other answer | most, values | most, vectors |"
+    );
+    println!("|---|---|---|---|---|---|---|---|---|");
+    matrices(seed, count);
+    states(seed, count);
+    for entry in [svd_jacobi, hermitian_eigenvalues, schmidt_values_from_density, hermitian_eigen, dense_schmidt_values]
+    {
+        for real in [true, false] {
+            match smallest(entry, real) {
+                Some(call) => show(&call),
+                None => println!("{}: none up to a sum of magnitudes of 14, real {real}", entry.name()),
+            }
+        }
+    }
+    println!("survey: seed {seed}, {count} calls of each kind");
+}
