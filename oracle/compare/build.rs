@@ -16,11 +16,14 @@ fn main() {
         return;
     };
     println!("cargo::rustc-link-arg={}", archive.display());
-    let mut names: Vec<String> = bytes
-        .split(|&byte| byte == 0 || byte == b'\n' || byte == b'/')
-        .filter(|part| part.starts_with(b"zg_"))
-        .filter_map(|part| String::from_utf8(part.to_vec()).ok())
-        .collect();
+    // The archive's index has each exported name, ended by a zero byte.
+    let name_at = |at: usize| {
+        let rest = &bytes[at..];
+        let length = rest.iter().take_while(|byte| byte.is_ascii_lowercase() || **byte == b'_').count();
+        let whole = rest.starts_with(b"zg_") && rest.get(length) == Some(&0);
+        whole.then(|| String::from_utf8_lossy(&rest[..length]).into_owned())
+    };
+    let mut names: Vec<String> = (0..bytes.len()).filter_map(name_at).collect();
     names.sort();
     names.dedup();
     for name in names {

@@ -34,6 +34,12 @@ unsafe extern "C" {
     fn zg_fill_scaled_u_site_data(u: *const f64, u_len: usize, s: *const f64, s_len: usize, stride: usize, bond_left: usize, chi: usize, out: *mut f64, out_len: usize, place: *mut usize) -> u32;
     fn zg_fill_vt_site_data(vt: *const f64, vt_len: usize, row_len: usize, chi: usize, physical_dim: usize, bond_right: usize, out: *mut f64, out_len: usize, place: *mut usize) -> u32;
     fn zg_fill_scaled_vt_data(s: *const f64, s_len: usize, vt: *const f64, vt_len: usize, row_len: usize, chi: usize, physical_dim: usize, bond_right: usize, out: *mut f64, out_len: usize, place: *mut usize) -> u32;
+    fn zg_sqrt(x: f64) -> f64;
+    fn zg_sqrt_bits(b: u64) -> u64;
+    fn zg_magnitude(x: f64) -> f64;
+    fn zg_sign(x: f64) -> f64;
+    fn zg_is_finite(x: f64) -> bool;
+    fn zg_total_less(x: f64, y: f64) -> bool;
 }
 
 /// Copies of a call's slices, each between guard words.
@@ -83,6 +89,19 @@ macro_rules! ask {
             None
         }
     }};
+}
+
+/// The answer of a call that never refuses and so has none.
+#[allow(dead_code)]
+unsafe fn never(place: *mut usize) -> u32 {
+    unsafe { *place = 0 };
+    0
+}
+
+/// A NaN's bits are open except where the paper names them, at the square root.
+#[allow(dead_code)]
+fn one_nan(x: f64) -> u64 {
+    if x.is_nan() { harness::oracle::NAN } else { x.to_bits() }
 }
 
 /// Whether the library has the entry point.
@@ -153,7 +172,12 @@ pub fn run(call: &Call) -> Option<Option<Outcome>> {
             zg_fill_vt_site_data(f!(0), l!(0), one(1), one(2), one(3), one(4), f!(1), l!(1), p)),
         fill_scaled_vt_data => ask!(has_zg_fill_scaled_vt_data,
             zg_fill_scaled_vt_data(f!(0), l!(0), f!(1), l!(1), one(2), one(3), one(4), one(5), f!(2), l!(2), p)),
-        sqrt | sqrt_bits | magnitude | sign | is_finite | total_less => None,
+        sqrt => ask!(has_zg_sqrt, { value = zg_sqrt(call.float(0)).to_bits(); never(p) }),
+        sqrt_bits => ask!(has_zg_sqrt_bits, { value = zg_sqrt_bits(one(0) as u64); never(p) }),
+        magnitude => ask!(has_zg_magnitude, { value = one_nan(zg_magnitude(call.float(0))); never(p) }),
+        sign => ask!(has_zg_sign, { value = one_nan(zg_sign(call.float(0))); never(p) }),
+        is_finite => ask!(has_zg_is_finite, { value = u64::from(zg_is_finite(call.float(0))); never(p) }),
+        total_less => ask!(has_zg_total_less, { value = u64::from(zg_total_less(call.float(0), call.float(1))); never(p) }),
     };
     let number = number?;
     let value = if call.entry.returns() { value } else { 0 };

@@ -160,7 +160,11 @@ macro_rules! build {
                     magnitude => done(one_nan(call.float(0).abs()), vec![]),
                     sign => done(one_nan(call.float(0).signum()), vec![]),
                     is_finite => done(call.float(0).is_finite() as u64, vec![]),
-                    total_less => done((call.float(0).total_cmp(&call.float(1)).is_lt()) as u64, vec![]),
+                    // With one NaN only: the Rust's order tells NaNs apart by sign and payload.
+                    total_less => {
+                        let [a, b] = [0, 1].map(|at| f64::from_bits(one_nan(call.float(at))));
+                        done(a.total_cmp(&b).is_lt() as u64, vec![])
+                    }
                 }
             }
         }
@@ -170,9 +174,11 @@ macro_rules! build {
 build!(as_published, published);
 build!(as_replaced, replaced);
 
-/// The paper names one NaN.
+/// The one NaN that the paper names.
+pub const NAN: u64 = 0x7FF8000000000000;
+
 fn one_nan(x: f64) -> u64 {
-    if x.is_nan() { 0x7FF8000000000000 } else { x.to_bits() }
+    if x.is_nan() { NAN } else { x.to_bits() }
 }
 
 /// Kept values, +0.0 after them.
