@@ -1,6 +1,7 @@
 //! Copies the published files into the build folder, where the compiler finds them. Their text stays as it is, except that
-//! a last line is added that opens their private calls to the harness (`doors.rs`), and that the build named `replaced`
-//! writes the root of `norm_sqr` for each call of `norm`.
+//! a module is added at the end that opens their private calls to the harness (`doors.rs`), and that the build named
+//! `replaced` writes the root of `norm_sqr` for each call of `norm`. The build named `counting` does that too, and counts
+//! the sweeps begun and the pairs turned.
 
 use std::path::{Path, PathBuf};
 use std::{env, fs};
@@ -31,14 +32,21 @@ fn main() {
     let doors = here.join("../scaffold/doors.rs");
     let doors = read(&doors);
     let out = PathBuf::from(env::var("OUT_DIR").unwrap());
-    let replaced = env::var("CARGO_PKG_NAME").unwrap() == "replaced";
+    let build = env::var("CARGO_PKG_NAME").unwrap();
     println!("cargo::rerun-if-env-changed=ZEGRAFULT_RUST");
 
     for (file, name, norms) in FILES {
         let mut text = read(&root.join(file));
         assert_eq!(text.matches(".norm()").count(), norms, "calls of norm in {file}");
-        if replaced {
+        if build != "published" {
             text = text.replace(".norm()", ".norm_sqr().sqrt()");
+        }
+        if build == "counting" {
+            for (mark, call) in [("let mut rotated = false;", "sweep"), ("rotated = true;", "turn")] {
+                let sweeping = matches!(name, "svd" | "schmidt");
+                assert_eq!(text.matches(mark).count(), usize::from(sweeping), "{mark} in {file}");
+                text = text.replace(mark, &format!("{mark} crate::count::{call}();"));
+            }
         }
         let door = door_of(&doors, name);
         let copy = out.join(format!("{name}.rs"));

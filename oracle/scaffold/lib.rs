@@ -39,6 +39,38 @@ pub mod gates {
     }
 }
 
+/// Used by the build named `counting` alone.
+pub mod count {
+    use std::cell::Cell;
+
+    /// Sweeps begun, pairs turned, and pairs turned since the last sweep began.
+    #[derive(Clone, Copy, Debug, Default, PartialEq, Eq)]
+    pub struct Count {
+        pub sweeps: usize,
+        pub turns: usize,
+        pub turns_of_last: usize,
+    }
+
+    thread_local! {
+        static COUNT: Cell<Count> = Cell::default();
+    }
+
+    pub fn sweep() {
+        let count = COUNT.get();
+        COUNT.set(Count { sweeps: count.sweeps + 1, turns_of_last: 0, ..count });
+    }
+
+    pub fn turn() {
+        let count = COUNT.get();
+        COUNT.set(Count { turns: count.turns + 1, turns_of_last: count.turns_of_last + 1, ..count });
+    }
+
+    /// The counts since it was last asked.
+    pub fn taken() -> Count {
+        COUNT.replace(Count::default())
+    }
+}
+
 /// The errors that the four files raise, without their texts.
 pub mod error {
     #[derive(Debug, Clone, PartialEq)]
