@@ -1,0 +1,86 @@
+-- `jacobi::pair` meets its contract: the decision is that of the definition, since its number and values are, and both matrices and the counts follow it. Assumes nothing.
+use Rattle.jacobi.specs.Decisions.{verdict-one}
+use Rattle.jacobi.specs.Sweeping.{column-fits, pair-made}
+use native.Mathlib.Omega.{arith}
+use Prim.Native.Nat.{_+_, _*_, _≤_}
+use borrow.Author.Needs.{needs}
+use Rattle.jacobi.proofs.pair.Statement.{statement}
+use Rattle.jacobi.proofs.pair.Tie as tie
+
+-- each of the columns ends within its matrix
+work-p : (c : tie.Start) → c .args .p * c .args .m + c .args .m ≤ c .args .n * c .args .m
+work-p c = column-fits _ _ _ (c .pre .1)
+
+work-q : (c : tie.Start) → c .args .q * c .args .m + c .args .m ≤ c .args .n * c .args .m
+work-q c = column-fits _ _ _ (c .pre .2)
+
+v-p : (c : tie.Start) → c .args .p * c .args .n + c .args .n ≤ c .args .n * c .args .n
+v-p c = column-fits _ _ _ (c .pre .1)
+
+v-q : (c : tie.Start) → c .args .q * c .args .n + c .args .n ≤ c .args .n * c .args .n
+v-q c = column-fits _ _ _ (c .pre .2)
+
+mul-a : tie.Need-mul-a
+mul-a c = omega (arith, work-p (c .before .before))
+
+mul-b : tie.Need-mul-b
+mul-b c = omega (arith, work-q (c .before .before))
+
+mul-gram-of : tie.Need-mul-gram-of
+mul-gram-of c = search needs
+
+gram-of-requires : tie.Need-gram-of-requires
+gram-of-requires c κs = omega (arith, work-p (c .before .before .before), work-q (c .before .before .before))
+
+decide-requires : tie.Need-decide-requires
+decide-requires c κs = search needs
+
+mul-apply : tie.Need-mul-apply
+mul-apply c = search needs
+
+apply-requires : tie.Need-apply-requires
+apply-requires c κs = omega (arith, work-p (c .before .before .before .before .before .before), work-q (c .before .before .before .before .before .before))
+
+mul-apply-2 : tie.Need-mul-apply-2
+mul-apply-2 c = search needs
+
+mul-apply-3 : tie.Need-mul-apply-3
+mul-apply-3 c = omega (arith, v-p (c .before .before .before .before .before .before .before .before .before .before))
+
+mul-apply-4 : tie.Need-mul-apply-4
+mul-apply-4 c = omega (arith, v-q (c .before .before .before .before .before .before .before .before .before .before))
+
+apply-requires-2 : tie.Need-apply-requires-2
+apply-requires-2 c κs = omega (arith, v-p (c .before .before .before .before .before .before .before .before .before .before), v-q (c .before .before .before .before .before .before .before .before .before .before))
+
+count-requires : tie.Need-count-requires
+count-requires c κs = search needs
+
+same-length : tie.Need-same-length
+same-length c = search needs
+
+same-length-2 : tie.Need-same-length-2
+same-length-2 c = search needs
+
+returns : tie.Need-returns
+returns c = pair-made _ _ _ _ _ _ _ _ _ (verdict-one _ _ (rw (c .before .before .before .before .before .before .before .before .before .before .gram-of .ensures) at (c .before .before .before .before .before .before .before .before .before .decide .ensures))) (c .before .before .before .before .before .before .before .apply .ensures) (c .before .before .before .apply2 .ensures) (c .count .ensures)
+
+pub pair-spec : {M : Type 1} → statement M
+pair-spec =
+    tie.close
+    (tie.spec
+    mul-a
+    mul-b
+    mul-gram-of
+    gram-of-requires
+    decide-requires
+    mul-apply
+    apply-requires
+    mul-apply-2
+    mul-apply-3
+    mul-apply-4
+    apply-requires-2
+    count-requires
+    same-length
+    same-length-2
+    returns)
