@@ -1,0 +1,205 @@
+// For the programs that replay cases, and for them alone: hexadecimal words read from a text and written
+// to standard output. What they promise is only what a loop over a text needs; the gate compares the output.
+ghost use mathlib.Core.Path.{_≡_};
+ghost use mathlib.Core.Bool.{true};
+ghost use Prim.Native.Nat.{_≤_, _<_, _*_, _+_};
+ghost use lib.ListN.{length};
+
+// A word of the text, and where the text goes on.
+pub struct Word {
+    pub found: bool,
+    pub value: u64,
+    pub next: usize,
+}
+
+// The value of a hexadecimal digit, and 16 for any other byte.
+fn digit(b: u8) -> u64
+    ensures { λ r. ⌜ r ≤ 16 ⌝ }
+{
+    if b < b'0' {
+        return 16;
+    }
+    if b <= b'9' {
+        return wide(b - b'0');
+    }
+    if b < b'A' {
+        return 16;
+    }
+    if b <= b'F' {
+        return wide(b - b'A') + 10;
+    }
+    16
+}
+
+// The byte as a number.
+fn wide(b: u8) -> u64
+    ensures { λ r. ⌜ r ≡ b ⌝ }
+{
+    b as u64
+}
+
+// Where the next word starts, or the text ends: a '#' and the rest of its line are a comment.
+fn word_start(text: &[u8], at: usize) -> usize
+    requires { ⌜ at ≤ length (now text) ⌝ }
+    ensures { λ r. ⌜ (at ≤ r) × (r ≤ length (now (text .entry))) ⌝ }
+{
+    let mut i = at;
+    let mut comment = false;
+    while i < text.len() {
+        let b = text[i];
+        if comment {
+            comment = b != b'\n';
+        } else {
+            if digit(b) < 16 {
+                return i;
+            }
+            comment = b == b'#';
+        }
+        i += 1;
+    }
+    i
+}
+
+// The next word of the text from `at` on.
+pub fn next_word(text: &[u8], at: usize) -> Word
+    ensures { λ r. ⌜ (r .found ≡ true → (at < r .next) × (r .next ≤ length (now (text .entry)))) ⌝ }
+{
+    if text.len() < at {
+        return Word {
+            found: false,
+            value: 0,
+            next: at,
+        };
+    }
+    let start = word_start(text, at);
+    let mut i = start;
+    let mut value = 0u64;
+    while i < text.len() {
+        let d = digit(text[i]);
+        if d > 15 {
+            break;
+        }
+        value = value % 0x1000_0000_0000_0000 * 16 + d;
+        i += 1;
+    }
+    Word {
+        found: start < i,
+        value,
+        next: i,
+    }
+}
+
+// The float with these bits. Every NaN's pattern gives the one NaN that the square root gives.
+pub fn float_of(bits: u64) -> f64 {
+    if bits % 0x8000_0000_0000_0000 > 0x7ff0_0000_0000_0000 {
+        return numbers::sqrt(-1.0);
+    }
+    f64::from_bits(bits)
+}
+
+// The bits of the float, those of a NaN as 7FF8000000000000.
+pub fn bits_of(x: f64) -> u64 {
+    if x != x {
+        return 0x7ff8_0000_0000_0000;
+    }
+    f64::to_bits(x)
+}
+
+fn least(a: usize, b: usize) -> usize
+    ensures { λ r. ⌜ (r ≤ a) × (r ≤ b) ⌝ }
+{
+    if a < b { a } else { b }
+}
+
+// The first `count` numbers of out, or all where it has fewer, from the words of the text from `at` on,
+// and where the text goes on. Past the text's end each word is 0.
+pub fn read_floats(text: &[u8], at: usize, out: &mut [f64], count: usize) -> usize {
+    let most = least(count, out.len());
+    let mut next = at;
+    let mut i = 0;
+    while i < most {
+        let word = next_word(text, next);
+        out[i] = float_of(word.value);
+        next = word.next;
+        i += 1;
+    }
+    next
+}
+
+// The same for whole numbers.
+pub fn read_counts(text: &[u8], at: usize, out: &mut [usize], count: usize) -> usize {
+    let most = least(count, out.len());
+    let mut next = at;
+    let mut i = 0;
+    while i < most {
+        let word = next_word(text, next);
+        out[i] = size_of(word.value);
+        next = word.next;
+        i += 1;
+    }
+    next
+}
+
+// The word as a size.
+pub fn size_of(value: u64) -> usize
+    ensures { λ r. ⌜ r ≡ value ⌝ }
+{
+    value as usize
+}
+
+// The size as a word.
+pub fn word_of(size: usize) -> u64
+    ensures { λ r. ⌜ r ≡ size ⌝ }
+{
+    size as u64
+}
+
+// The digit of a value below 16, in capitals.
+fn glyph(d: u8) -> u8
+    requires { ⌜ d < 16 ⌝ }
+{
+    if d < 10 { b'0' + d } else { b'A' + (d - 10) }
+}
+
+// Writes the word as 16 digits and a space.
+pub fn print_word(value: u64) {
+    let mut out = [b' '; 17];
+    let mut rest = value;
+    let mut i = 16;
+    while 0 < i {
+        i -= 1;
+        out[i] = glyph((rest % 16) as u8);
+        rest /= 16;
+    }
+    io::write_all(1, &out);
+}
+
+// Writes the bits of each number of the slice.
+pub fn print_floats(s: &[f64]) {
+    let mut i = 0;
+    while i < s.len() {
+        print_word(bits_of(s[i]));
+        i += 1;
+    }
+}
+
+// Writes each number of the slice.
+pub fn print_counts(s: &[usize]) {
+    let mut i = 0;
+    while i < s.len() {
+        print_word(word_of(s[i]));
+        i += 1;
+    }
+}
+
+// Ends the line.
+pub fn end_line() {
+    io::write_all(1, b"\n");
+}
+
+// Writes an answer: its number and its place.
+pub fn print_answer(a: answers::Answer) {
+    let r = answers::number_of(a);
+    print_word(word_of(r.number));
+    print_word(word_of(r.place));
+}
