@@ -1,0 +1,4 @@
+-- What the contracts of `finish` cite.
+pub mod Finish
+pub mod Outcome
+pub mod OutcomeLaws

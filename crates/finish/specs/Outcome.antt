@@ -1,0 +1,27 @@
+-- What a call of the finish answers and leaves: one outcome for each input, refusals too. Definitions only.
+use mathlib.Core.Path.{_≡_}
+use mathlib.Core.List.{List}
+use lib.Ieee.{Float}
+use lib.ListN.{length}
+use Rattle.answers.specs.Paper.{paper, ifDone, atEnd}
+use Rattle.complex.specs.Zeros.{zeroed}
+use Rattle.finish.specs.declared.Kept.{Kept}
+use Rattle.finish.specs.Finish.{finishSorted, sortedReply, finishOf, finishReply, padded, answerOf}
+
+-- of values that are sorted, in place
+pub record SortedOutcome (s : List Float) (r : Kept) (end : List Float) : Type 0 where
+  pub answer : paper (r .answer) ≡ sortedReply s
+  pub count : r .count ≡ ifDone (sortedReply s .0) (length (finishSorted s)) 0
+  pub values : end ≡ ifDone (sortedReply s .0) (padded (length s) (finishSorted s) s) (zeroed (length s) s)
+
+-- of values that need no check
+pub record FinishedOutcome (values old : List Float) (r : Kept) (end : List Float) : Type 0 where
+  pub answer : paper (r .answer) ≡ finishReply values
+  pub count : r .count ≡ ifDone (finishReply values .0) (length (finishOf values)) 0
+  pub out : end ≡ ifDone (finishReply values .0) (padded (length values) (finishOf values) old) (zeroed (length values) old)
+
+-- of the entry point
+pub record Outcome (values old : List Float) (r : Kept) (end : List Float) : Type 0 where
+  pub answer : paper (r .answer) ≡ answerOf values old
+  pub count : r .count ≡ ifDone (answerOf values old .0) (length (finishOf values)) 0
+  pub out : end ≡ atEnd (answerOf values old .0) (padded (length values) (finishOf values) old) (zeroed (length values) old) old
