@@ -1,0 +1,63 @@
+-- What `cutprint` prints, line by line, as lists of bytes. Assumes nothing.
+use mathlib.Core.List.{[], List, _∷_, _++_}
+use Prim.Native.Nat.{ℕ, zero, suc}
+use lib.Ieee.{Float, nan, binary64, toBits}
+use lib.ListN.{length, getD}
+use Rattle.answers.specs.Paper.{Reply}
+use Rattle.texts.specs.Text.{hex, itemText, line, pairLine}
+
+-- the words as bytes: `cut `, `side`, `value `, `end `, `refused `, and a blank
+abbrev pub cutWord : List ℕ
+cutWord = 99 ∷ 117 ∷ 116 ∷ 32 ∷ []
+
+abbrev pub sideWord : List ℕ
+sideWord = 115 ∷ 105 ∷ 100 ∷ 101 ∷ []
+
+abbrev pub valueWord : List ℕ
+valueWord = 118 ∷ 97 ∷ 108 ∷ 117 ∷ 101 ∷ 32 ∷ []
+
+abbrev pub endWord : List ℕ
+endWord = 101 ∷ 110 ∷ 100 ∷ 32 ∷ []
+
+abbrev pub refusedWord : List ℕ
+refusedWord = 114 ∷ 101 ∷ 102 ∷ 117 ∷ 115 ∷ 101 ∷ 100 ∷ 32 ∷ []
+
+abbrev pub blank : List ℕ
+blank = 32 ∷ []
+
+-- `refused N P`, the number and the place
+unfoldable pub refusedLine : Reply → List ℕ
+unfolding pairLine
+refusedLine r = pairLine refusedWord (r .0) (r .1)
+
+-- `cut n k rows cols`
+unfoldable pub cutLine : ℕ → ℕ → ℕ → ℕ → List ℕ
+unfolding itemText pairLine
+cutLine n k rows cols = itemText cutWord n ++ itemText blank k ++ pairLine blank rows cols
+
+-- `value rank bits`
+unfoldable pub valueLine : ℕ → ℕ → List ℕ
+unfolding itemText hex
+valueLine rank bits = itemText valueWord rank ++ blank ++ hex 16 bits ++ 10 ∷ []
+
+-- the m first numbers of a list, a blank before each
+unfoldable pub items : ℕ → List ℕ → List ℕ
+unfolding itemText
+items zero l = []
+items (suc m) l = items m l ++ itemText blank (getD l m 0)
+
+-- `side` and the list
+unfoldable pub sideLine : List ℕ → List ℕ
+unfolding items
+sideLine l = sideWord ++ items (length l) l ++ 10 ∷ []
+
+-- the lines of the m first values
+unfoldable pub valueLines : ℕ → List Float → List ℕ
+unfolding valueLine
+valueLines zero l = []
+valueLines (suc m) l = valueLines m l ++ valueLine m (toBits binary64 (getD l m nan))
+
+-- all that is printed of a cut that is answered 0
+unfoldable pub listing : ℕ → ℕ → ℕ → ℕ → List ℕ → List Float → ℕ → List ℕ
+unfolding cutLine sideLine valueLines line
+listing n k rows cols side values count = cutLine n k rows cols ++ sideLine side ++ valueLines count values ++ line endWord count

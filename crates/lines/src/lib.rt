@@ -1,0 +1,108 @@
+// The lines of the printout, put into a lent buffer of bytes. Inner: the caller gives room. Each function answers the place
+// past what it put, and touches nothing else.
+use answers::Answer;
+ghost use mathlib.Core.Path.{_≡_};
+ghost use Prim.Native.Nat.{_+_, _*_, _≤_};
+ghost use lib.Ieee.{binary64, toBits};
+ghost use lib.ListN.{length};
+ghost use Rattle.answers.specs.Paper.{paper};
+ghost use Rattle.texts.specs.Text.{Puts};
+ghost use Rattle.lines.specs.Lines.{refusedLine, cutLine, valueLine, items, sideLine, valueLines, listing};
+
+// Puts the one line of a refusal.
+pub fn put_refused(out: &mut [u8], answer: Answer) -> usize
+    requires { ⌜ 50 ≤ length (now out) ⌝ }
+    ensures { λ r. ⌜ Puts 0 (refusedLine (paper answer)) (now (out .entry)) r (now (out .exit)) ⌝ }
+{
+    let reply = answers::number_of(answer);
+    texts::put_pair_line(out, 0, b"refused ", reply.number, reply.place)
+}
+
+// Puts the first line: n, k, rows, columns.
+pub fn put_cut(out: &mut [u8], at: usize, n: usize, k: usize, rows: usize, cols: usize) -> usize
+    requires { ⌜ at + 88 ≤ length (now out) ⌝ }
+    ensures { λ r. ⌜ Puts at (cutLine n k rows cols) (now (out .entry)) r (now (out .exit)) ⌝ }
+{
+    let past_n = texts::put_item(out, at, b"cut ", n);
+    let past_k = texts::put_item(out, past_n, b" ", k);
+    texts::put_pair_line(out, past_k, b" ", rows, cols)
+}
+
+// Puts the line of a value: its rank from 0, and its bits.
+pub fn put_value(out: &mut [u8], at: usize, rank: usize, bits: u64) -> usize
+    requires { ⌜ at + 64 ≤ length (now out) ⌝ }
+    ensures { λ r. ⌜ Puts at (valueLine rank bits) (now (out .entry)) r (now (out .exit)) ⌝ }
+{
+    let past_rank = texts::put_item(out, at, b"value ", rank);
+    let digits = texts::put_text(out, past_rank, b" ");
+    let end = texts::put_hex(out, digits, bits);
+    texts::put_text(out, end, b"\n")
+}
+
+// The bits of a float; of a NaN those of the one that the logic writes.
+pub fn bits_of(x: f64) -> u64
+    ensures { λ r. ⌜ r ≡ toBits binary64 x ⌝ }
+{
+    if x != x {
+        return 0x7ff8_0000_0000_0000;
+    }
+    f64::to_bits(x)
+}
+
+// Puts the line of the smaller side's list.
+pub fn put_side(out: &mut [u8], at: usize, list: &[usize]) -> usize
+    requires { ⌜ at + 5 + 21 * length (now list) ≤ length (now out) ⌝ }
+    ensures { λ r. ⌜ Puts at (sideLine (now (list .entry))) (now (out .entry)) r (now (out .exit)) ⌝ }
+{
+    let next = texts::put_text(out, at, b"side");
+    let last = put_items(out, next, list);
+    texts::put_text(out, last, b"\n")
+}
+
+fn put_items(out: &mut [u8], at: usize, list: &[usize]) -> usize
+    requires { ⌜ at + 21 * length (now list) ≤ length (now out) ⌝ }
+    ensures { λ r. ⌜ Puts at (items (length (now (list .entry))) (now (list .entry))) (now (out .entry)) r (now (out .exit)) ⌝ }
+{
+    let mut next = at;
+    let mut i = 0;
+    while i < list.len() {
+        next = texts::put_item(out, next, b" ", list[i]);
+        i += 1;
+    }
+    next
+}
+
+// Puts the lines of the first count values.
+pub fn put_values(out: &mut [u8], at: usize, values: &[f64], count: usize) -> usize
+    requires { ⌜ (count ≤ length (now values)) × (at + 64 * count ≤ length (now out)) ⌝ }
+    ensures { λ r. ⌜ Puts at (valueLines count (now (values .entry))) (now (out .entry)) r (now (out .exit)) ⌝ }
+{
+    let mut next = at;
+    let mut i = 0;
+    while i < count {
+        let bits = bits_of(values[i]);
+        next = put_value(out, next, i, bits);
+        i += 1;
+    }
+    next
+}
+
+// Puts the whole listing of a cut that is answered 0.
+pub fn put_listing(
+    out: &mut [u8],
+    n: usize,
+    k: usize,
+    rows: usize,
+    cols: usize,
+    side: &[usize],
+    values: &[f64],
+    count: usize,
+) -> usize
+    requires { ⌜ (count ≤ length (now values)) × (118 + 21 * length (now side) + 64 * count ≤ length (now out)) ⌝ }
+    ensures { λ r. ⌜ Puts 0 (listing n k rows cols (now (side .entry)) (now (values .entry)) count) (now (out .entry)) r (now (out .exit)) ⌝ }
+{
+    let second = put_cut(out, 0, n, k, rows, cols);
+    let third = put_side(out, second, side);
+    let last = put_values(out, third, values, count);
+    texts::put_line(out, last, b"end ", count)
+}

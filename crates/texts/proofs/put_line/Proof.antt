@@ -1,0 +1,30 @@
+-- `texts::put_line` meets its contract. Two texts, one after the other.
+-- Assumes nothing.
+use native.Mathlib.Omega.{arith}
+use denote.Ref.{now}
+use Rattle.texts.specs.Text.{line}
+use Rattle.texts.specs.TextLaws.{length-item, puts-then}
+use borrow.Author.Needs.{needs}
+use Rattle.texts.proofs.put_line.Statement.{statement}
+use Rattle.texts.proofs.put_line.Tie as tie
+
+put-item-requires : tie.Need-put-item-requires
+put-item-requires c κs = search needs
+
+slice-aggregate-put-text : tie.Need-slice-aggregate-put-text
+slice-aggregate-put-text c = search needs
+
+put-text-requires : tie.Need-put-text-requires
+put-text-requires c κs = omega (arith, c .before .before .before .before .put-item .ensures .next, c .before .before .before .before .put-item .kept .0, length-item (now (c .before .before .before .before .before .before .before .before .args .word)) (c .before .before .before .before .before .before .before .before .args .a))
+
+same-length : tie.Need-same-length
+same-length c = search needs
+
+returns : tie.Need-returns
+unfolding line
+returns c = puts-then _ _ _ _ _ _ _ _ (omega (arith, length-item (now (c .before .before .before .before .before .before .before .before .before .before .before .args .word)) (c .before .before .before .before .before .before .before .before .before .before .before .args .a))) (c .before .before .before .before .before .before .before .put-item .ensures) (c .before .before .put-text .ensures)
+
+pub put-line-spec : {M : Type 1} → statement M
+put-line-spec =
+    tie.close
+    (tie.spec put-item-requires slice-aggregate-put-text put-text-requires same-length returns)
