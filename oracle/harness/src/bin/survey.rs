@@ -1,11 +1,14 @@
-//! What differs between the two builds, by kind of input: `survey SEED COUNT` prints a table, and the smallest inputs
-//! of small whole numbers that show a difference.
+//! What differs between the two builds, by kind of input: `survey SEED COUNT` prints a table, the smallest inputs of
+//! whole numbers that show a difference, and all states of four qubits with amplitudes 0 and 1.
 
 use harness::call::{Arg, Call, Entry, Entry::*, Outcome};
 use harness::cases::{self, STYLES, lent, numbers, one};
 use harness::oracle::{Build, outcome};
 use harness::random::Random;
 use harness::table::{self, Role};
+
+/// A value that moves by more than this part of the largest has moved far.
+const FAR: f64 = 1e-12;
 
 /// One row of the table.
 #[derive(Default)]
@@ -17,6 +20,7 @@ struct Row {
     values: f64,
     vectors: f64,
     values_moved: usize,
+    far: usize,
 }
 
 fn both(call: &Call) -> (Outcome, Outcome) {
@@ -68,13 +72,15 @@ impl Row {
             return;
         }
         let (values, vectors) = results(call.entry);
-        let mut moved = false;
+        let (mut moved, mut far) = (false, false);
         for &slice in values {
             let size = apart(call, slice, &a, &b, true);
             moved |= a.slices[slice] != b.slices[slice];
             self.values = self.values.max(size);
+            far |= size > FAR;
         }
         self.values_moved += usize::from(moved);
+        self.far += usize::from(far);
         for &slice in vectors {
             self.vectors = self.vectors.max(apart(call, slice, &a, &b, false));
         }
@@ -82,11 +88,12 @@ impl Row {
 
     fn print(&self, entry: Entry, kind: &str) {
         println!(
-            "| {} | {kind} | {} | {} | {} | {} | {} | {:.1e} | {:.1e} |",
+            "| {} | {kind} | {} | {} | {} | {} | {} | {} | {:.1e} | {:.1e} |",
             entry.name(),
             self.calls,
             self.differ,
             self.values_moved,
+            self.far,
             self.counts,
             self.answers,
             self.values,
@@ -148,34 +155,34 @@ fn states(seed: u64, count: usize) {
     }
 }
 
-/// Matrices of two by two with small whole cells, from the least sum of magnitudes up, until one differs.
+/// Matrices of two by two with whole cells, and states of two qubits, from the least sum of magnitudes up, until one
+/// differs. The spectra take Hermitian ones, which have four parts: two on the diagonal and one cell off it.
 fn smallest(entry: Entry, real: bool) -> Option<Call> {
     let mut rng = Random::new(0);
-    let parts = if real { 4 } else { 8 };
-    for total in 1..=14i32 {
+    let hermitian = !matches!(entry, svd_jacobi | dense_schmidt_values);
+    let (parts, most) = match (hermitian, real) {
+        (false, true) => (4, 14),
+        (false, false) => (8, 10),
+        (true, true) => (3, 100),
+        (true, false) => (4, 60),
+    };
+    for total in 1..=most {
         let mut found = None;
-        let mut cells = vec![0i32; parts];
-        walk(&mut cells, 0, total, &mut |cells| {
+        walk(&mut vec![0i32; parts], 0, total, &mut |parts| {
             if found.is_some() {
                 return;
             }
-            let numbers: Vec<u64> = (0..8)
-                .map(|at| if real { if at % 2 == 0 { cells[at / 2] } else { 0 } } else { cells[at] })
-                .map(|x| f64::from(x).to_bits())
-                .collect();
+            let part = |at: usize| parts.get(at).map_or(0.0, |&x| f64::from(x));
+            let cells = match (hermitian, real) {
+                (true, _) => [part(0), 0.0, part(1), part(3), part(1), -part(3), part(2), 0.0],
+                (false, true) => [part(0), 0.0, part(1), 0.0, part(2), 0.0, part(3), 0.0],
+                (false, false) => std::array::from_fn(part),
+            };
+            let cells = Arg::Many(cells.iter().map(|x| x.to_bits()).collect());
             let args = match entry {
-                svd_jacobi => vec![Arg::Many(numbers), one(2), one(2)],
-                dense_schmidt_values => vec![Arg::Many(numbers), one(2), Arg::Many(vec![0]), one(13)],
-                _ => {
-                    // Hermitian only.
-                    let (low, high) = (&numbers[2..4], &numbers[4..6]);
-                    let mirrored = f64::from_bits(low[0]) == f64::from_bits(high[0])
-                        && f64::from_bits(low[1]) == -f64::from_bits(high[1]);
-                    if !mirrored || numbers[1] << 1 != 0 || numbers[7] << 1 != 0 {
-                        return;
-                    }
-                    vec![Arg::Many(numbers), one(2)]
-                }
+                svd_jacobi => vec![cells, one(2), one(2)],
+                dense_schmidt_values => vec![cells, one(2), Arg::Many(vec![0]), one(13)],
+                _ => vec![cells, one(2)],
             };
             let call = with_lent(&mut rng, entry, args);
             let (a, b) = both(&call);
@@ -209,6 +216,25 @@ fn walk(cells: &mut Vec<i32>, at: usize, left: i32, see: &mut impl FnMut(&[i32])
     cells[at] = 0;
 }
 
+/// All states of four qubits with amplitudes 0 and 1, cut in two halves.
+fn whole_states() {
+    let mut rng = Random::new(0);
+    let (mut row, mut worst, mut shown) = (Row::default(), 0.0, None);
+    for code in 1..1u32 << 16 {
+        let state = (0..16).flat_map(|at| [f64::from(code >> at & 1).to_bits(), 0]).collect();
+        let call =
+            with_lent(&mut rng, dense_schmidt_values, vec![Arg::Many(state), one(4), Arg::Many(vec![0, 1]), one(13)]);
+        row.add(&call);
+        if row.values > worst {
+            worst = row.values;
+            shown = Some(call);
+        }
+    }
+    row.print(dense_schmidt_values, "all 0/1 states of 4 qubits, list 0,1");
+    println!();
+    show(&shown.expect("a state that moves"));
+}
+
 fn show(call: &Call) {
     let (a, b) = both(call);
     let input: Vec<f64> = call.floats(0);
@@ -232,18 +258,17 @@ fn main() {
     let mut args = std::env::args().skip(1);
     let seed = args.next().map_or(1, |word| word.parse().expect("a seed"));
     let count = args.next().map_or(2000, |word| word.parse().expect("a count"));
-    println!(
-        "| call | kind | calls | differ | values move | other count | other answer | most, values | most, vectors |"
-    );
-    println!("|---|---|---|---|---|---|---|---|---|");
+    println!("| call | kind | calls | differ | values move | far | other count | other answer | values | vectors |");
+    println!("|---|---|---|---|---|---|---|---|---|---|");
     matrices(seed, count);
     states(seed, count);
+    whole_states();
     for entry in [svd_jacobi, hermitian_eigenvalues, schmidt_values_from_density, hermitian_eigen, dense_schmidt_values]
     {
         for real in [true, false] {
             match smallest(entry, real) {
                 Some(call) => show(&call),
-                None => println!("{}: none up to a sum of magnitudes of 14, real {real}", entry.name()),
+                None => println!("{}: none of the whole ones tried, real {real}", entry.name()),
             }
         }
     }
