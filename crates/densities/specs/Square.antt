@@ -1,16 +1,14 @@
--- Square matrices, row after row: the answer that refuses one, and the mirror of its lower half. Assumes nothing.
+-- The answer that refuses a square matrix, and what a call that works on its own input leaves. Assumes nothing.
 use mathlib.Core.Path.{_≡_}
-use mathlib.Core.Bool.{not, cond}
+use mathlib.Core.Bool.{not}
 use mathlib.Core.List.{List}
-use Prim.Native.Nat.{ℕ, _+_, _*_, _/_, _%_, _≤_}
-use lib.Dec.{leb, ltb, eqb}
+use Prim.Native.Nat.{ℕ, _*_}
+use lib.Dec.{ltb, eqb}
 use lib.Ieee.{Float}
 use lib.ListN.{length}
 use Rattle.answers.specs.declared.Answer.{Answer}
 use Rattle.answers.specs.Paper.{Reply, paper, refuse, ifDone}
-use Rattle.complex.specs.declared.Complex.{Complex}
-use Rattle.complex.specs.Arithmetic.{conjugate}
-use Rattle.complex.specs.Cells.{cellAt, written, components}
+use Rattle.complex.specs.Cells.{components}
 
 -- 1: the side; 6: a cell for each row and column, and no more; 7
 abbrev pub squareAnswer : List Float → ℕ → Reply
@@ -19,31 +17,7 @@ squareAnswer s dim =
     (refuse (ltb 64 dim) (1, 0)
     (refuse (not (eqb (length s) (2 * (dim * dim)))) (6, 0) (components 0 s)))
 
--- the entry of row t and column u of a matrix whose lower half is known: above the diagonal the lower entry's conjugate
-abbrev pub mirroredEntry : (ℕ → ℕ → Complex) → ℕ → ℕ → Complex
-mirroredEntry lower t u = cond (leb u t) (lower t u) (conjugate (lower u t))
-
--- the k-th cell of a matrix, row after row, from its entries
-abbrev pub rowMajor : ℕ → (ℕ → ℕ → Complex) → ℕ → Complex
-rowMajor dim entry k = entry (k / dim) (k % dim)
-
--- the entry that the list holds
-abbrev pub entryAt : List Float → ℕ → ℕ → ℕ → Complex
-entryAt s dim t u = cellAt s (t * dim + u)
-
-abbrev pub mirrorCell : List Float → ℕ → ℕ → Complex
-mirrorCell s dim = rowMajor dim (mirroredEntry (entryAt s dim))
-
--- a matrix whose lower half s holds, with the upper half its conjugate
-abbrev pub mirrored : List Float → ℕ → List Float
-mirrored s dim = written (dim * dim) (mirrorCell s dim) s
-
 -- a call that works on its own input: the answer r is a's, and the matrix at the end is `new` on answer 0 and `old` on any other
 pub record InPlace (a : Reply) (new old : List Float) (r : Answer) (end : List Float) : Type 0 where
   pub answer : paper r ≡ a
   pub matrix : end ≡ ifDone (a .0) new old
-
--- what the inner functions ask of a matrix
-pub record Square (dim : ℕ) (s : List Float) : Type 0 where
-  pub small : dim ≤ 64
-  pub room : 2 * (dim * dim) ≤ length s

@@ -12,7 +12,8 @@ use Rattle.answers.specs.declared.Answer.{Answer}
 use Rattle.answers.specs.Paper.{Reply, paper, refuse}
 use Rattle.answers.specs.PaperLaws.{refuse-done, paper-one, done-new, done-old}
 use Rattle.complex.specs.Cells.{components}
-use Rattle.densities.specs.Square.{squareAnswer, mirrored, InPlace, Square}
+use Rattle.entries.specs.Squares.{mirrored, Square}
+use Rattle.densities.specs.Square.{squareAnswer, InPlace}
 
 -- a matrix that 1 and 6 do not refuse
 pub square-done : (s : List Float) (dim : ℕ) → squareAnswer s dim .0 ≡ 0 → Square dim s

@@ -1,10 +1,9 @@
 // Densities: the mirror of a lower triangle.
 use answers::Answer;
 ghost use mathlib.Core.Path.{_≡_};
-ghost use Prim.Native.Nat.{_<_};
 ghost use Rattle.answers.specs.Paper.{paper};
-ghost use Rattle.densities.specs.Square.{squareAnswer, mirrored, Square, InPlace};
-ghost use Rattle.densities.specs.Mirrored.{ColumnTurns};
+ghost use Rattle.entries.specs.Squares.{mirrored};
+ghost use Rattle.densities.specs.Square.{squareAnswer, InPlace};
 
 // A square matrix among a call's own arguments: 1 by its side, 6 by its length, 7 by its components.
 fn square_refusal(rho: &[f64], dim: usize) -> Answer
@@ -23,31 +22,6 @@ fn square_refusal(rho: &[f64], dim: usize) -> Answer
     complex::check_components(rho)
 }
 
-// The column t above the diagonal becomes the conjugate of the row t before it.
-fn mirror_column(rho: &mut [f64], dim: usize, t: usize)
-    requires { ⌜ Square dim (now rho) × (t < dim) ⌝ }
-    ensures { λ _. ⌜ ColumnTurns dim t (now (rho .entry)) (now (rho .exit)) t ⌝ }
-{
-    let mut u: usize = 0;
-    while u < t {
-        let z = complex::read_cell(rho, t * dim + u);
-        complex::write_cell(rho, u * dim + t, z.conj());
-        u += 1;
-    }
-}
-
-// The upper half becomes the conjugate of the lower, inner: nothing is refused.
-fn mirror(rho: &mut [f64], dim: usize)
-    requires { ⌜ Square dim (now rho) ⌝ }
-    ensures { λ _. ⌜ now (rho .exit) ≡ mirrored (now (rho .entry)) dim ⌝ }
-{
-    let mut t: usize = 0;
-    while t < dim {
-        mirror_column(rho, dim, t);
-        t += 1;
-    }
-}
-
 // The upper half of a square matrix becomes the conjugate of the lower; the diagonal stays as it is.
 pub fn mirror_lower_triangle(rho: &mut [f64], dim: usize) -> Answer
     ensures { λ r. ⌜ InPlace (squareAnswer (now (rho .entry)) dim) (mirrored (now (rho .entry)) dim) (now (rho .entry)) r (now (rho .exit)) ⌝ }
@@ -56,6 +30,6 @@ pub fn mirror_lower_triangle(rho: &mut [f64], dim: usize) -> Answer
     let Answer::Done = first else {
         return first;
     };
-    mirror(rho, dim);
+    entries::mirror(rho, dim);
     Answer::Done
 }

@@ -1,12 +1,12 @@
--- `densities::mirror_column` meets its contract. The loop's invariant and its turn are those of `Mirrored`. Assumes nothing.
+-- `entries::mirror_column` meets its contract. The loop's invariant and its turn are those of `Mirrored`. Assumes nothing.
 use Prim.Native.Nat.{_-_}
 use native.Mathlib.Omega.{arith}
 use mathlib.Core.Path.{_∙_, ap}
 use Rattle.complex.specs.Arithmetic.{conjugate}
-use Rattle.densities.specs.Mirrored.{ColumnTurns, column-begin, column-turn, column-end, index-small, cell-in}
+use Rattle.entries.specs.Mirrored.{ColumnTurns, column-begin, column-turn, column-end, index-small, cell-in}
 use borrow.Author.Needs.{needs}
-use Rattle.densities.proofs.mirror_column.Statement.{statement}
-use Rattle.densities.proofs.mirror_column.Tie as tie
+use Rattle.entries.proofs.mirror_column.Statement.{statement}
+use Rattle.entries.proofs.mirror_column.Tie as tie
 
 abbrev Inv-loop : tie.InvT-loop
 Inv-loop rho₀ dim t u₀ rho u = ColumnTurns dim t rho₀ rho u

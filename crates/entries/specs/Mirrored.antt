@@ -15,8 +15,8 @@ use Rattle.complex.specs.declared.Complex.{Complex}
 use Rattle.complex.specs.Arithmetic.{conjugate}
 use Rattle.complex.specs.Cells.{cellAt, setCell, cellsOf, written}
 use Rattle.complex.specs.Loops.{cond-yes, cond-no}
-use Rattle.densities.specs.CellChanges.{length-setCell, cell-same, cell-other, past-cells, whole}
-use Rattle.densities.specs.Square.{Square, entryAt, mirrorCell, mirroredEntry}
+use Rattle.entries.specs.CellChanges.{length-setCell, cell-same, cell-other, past-cells, whole}
+use Rattle.entries.specs.Squares.{Square, entryAt, mirrorCell, mirroredEntry}
 
 pub square-small : (dim : ℕ) → dim ≤ 64 → dim * dim ≤ 4096
 square-small dim h = mul-le-mul h h

@@ -1,10 +1,10 @@
--- `densities::mirror` meets its contract. The loop's invariant and its turn are those of `Mirrored`. Assumes nothing.
+-- `entries::mirror` meets its contract. The loop's invariant and its turn are those of `Mirrored`. Assumes nothing.
 use Prim.Native.Nat.{_-_}
 use native.Mathlib.Omega.{arith}
-use Rattle.densities.specs.Mirrored.{RowTurns, row-begin, row-turn, row-end, mirror-end}
+use Rattle.entries.specs.Mirrored.{RowTurns, row-begin, row-turn, row-end, mirror-end}
 use borrow.Author.Needs.{needs}
-use Rattle.densities.proofs.mirror.Statement.{statement}
-use Rattle.densities.proofs.mirror.Tie as tie
+use Rattle.entries.proofs.mirror.Statement.{statement}
+use Rattle.entries.proofs.mirror.Tie as tie
 
 abbrev Inv-loop : tie.InvT-loop
 Inv-loop rho₀ dim t₀ rho t = RowTurns dim rho₀ rho t
