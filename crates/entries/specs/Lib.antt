@@ -2,3 +2,8 @@
 pub mod CellChanges
 pub mod Squares
 pub mod Mirrored
+pub mod Entries
+pub mod Blocks
+pub mod Pairs
+pub mod Filled
+pub mod EntryLaws
