@@ -1,0 +1,4 @@
+-- What the contracts of `factors` cite.
+pub mod Columns
+pub mod Grids
+pub mod Finite

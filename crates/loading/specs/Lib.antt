@@ -1,0 +1,3 @@
+-- What the contracts of `loading` cite.
+pub mod Numbers
+pub mod Loading
