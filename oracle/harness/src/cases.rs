@@ -547,6 +547,17 @@ fn edge_component(rng: &mut Random) -> u64 {
     ])
 }
 
+/// The call with one number of an input replaced by one that is not allowed, or the last that is.
+pub fn spoil(rng: &mut Random, call: &mut Call) {
+    let inputs: Vec<usize> = call.slices().into_iter().filter(|&at| call.entry.kinds()[at] == Kind::Floats).collect();
+    let inputs: Vec<usize> = inputs.into_iter().filter(|&at| !call.many(at).is_empty()).collect();
+    if !inputs.is_empty() {
+        let numbers = call.many_mut(rng.pick(&inputs));
+        let place = rng.below(numbers.len());
+        numbers[place] = edge_component(rng);
+    }
+}
+
 /// The call with one argument made worse: a size, a list entry, a length or a component.
 pub fn damage(rng: &mut Random, call: &mut Call) {
     let at = rng.below(call.args.len());

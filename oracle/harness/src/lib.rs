@@ -4,5 +4,6 @@ pub mod call;
 pub mod cases;
 pub mod oracle;
 pub mod random;
+pub mod sample;
 pub mod small;
 pub mod table;
