@@ -63,8 +63,8 @@ items-room at m r l old out room h p =
     let i = length-items m l in
     (length-puts at r (items m l) old out (omega arith) p, omega (arith, p .next))
 
-pub values-room : (at m r count : ℕ) (l : List Float) (old out : List ℕ) → at + 64 * count ≤ length old → m ≤ count → Puts at (valueLines m l) old r out → (length out ≡ length old) × (r ≤ at + 64 * m)
-values-room at m r count l old out room h p =
+pub values-room : (at m r : ℕ) (l : List Float) (old out : List ℕ) → at + 64 * length l ≤ length old → m ≤ length l → Puts at (valueLines m l) old r out → (length out ≡ length old) × (r ≤ at + 64 * m)
+values-room at m r l old out room h p =
     let i = length-values m l in
     (length-puts at r (valueLines m l) old out (omega arith) p, omega (arith, p .next))
 
@@ -100,22 +100,22 @@ length-side l =
     let w = sideWord in
     omega (arith, length-append (w ++ items (length l) l) (10 ∷ []), length-append w (items (length l) l), length-items (length l) l)
 
-pub length-listing : (n k rows cols : ℕ) (side : List ℕ) (values : List Float) (count : ℕ) → length (listing n k rows cols side values count) ≤ 118 + 21 * length side + 64 * count
+pub length-listing : (n k rows cols : ℕ) (side : List ℕ) (values : List Float) → length (listing n k rows cols side values) ≤ 118 + 21 * length side + 64 * length values
 unfolding listing
-length-listing n k rows cols side values count =
+length-listing n k rows cols side values =
     let u = cutLine n k rows cols in
     let v = sideLine side in
-    let w = valueLines count values in
+    let w = valueLines (length values) values in
     let e = endWord in
     omega (
       arith,
-      length-append (u ++ v ++ w) (line e count),
+      length-append (u ++ v ++ w) (line e (length values)),
       length-append (u ++ v) w,
       length-append u v,
       length-cut n k rows cols,
       length-side side,
-      length-values count values,
-      length-line e count,
+      length-values (length values) values,
+      length-line e (length values),
     )
 
 pub length-refused : (r : Reply) → length (refusedLine r) ≤ 50

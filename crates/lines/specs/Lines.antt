@@ -57,7 +57,7 @@ unfolding valueLine
 valueLines zero l = []
 valueLines (suc m) l = valueLines m l ++ valueLine m (toBits binary64 (getD l m nan))
 
--- all that is printed of a cut that is answered 0
-unfoldable pub listing : ℕ → ℕ → ℕ → ℕ → List ℕ → List Float → ℕ → List ℕ
+-- all that is printed of a cut that is answered 0: the last line says how many values there are
+unfoldable pub listing : ℕ → ℕ → ℕ → ℕ → List ℕ → List Float → List ℕ
 unfolding cutLine sideLine valueLines line
-listing n k rows cols side values count = cutLine n k rows cols ++ sideLine side ++ valueLines count values ++ line endWord count
+listing n k rows cols side values = cutLine n k rows cols ++ sideLine side ++ valueLines (length values) values ++ line endWord (length values)

@@ -72,14 +72,14 @@ fn put_items(out: &mut [u8], at: usize, list: &[usize]) -> usize
     next
 }
 
-// Puts the lines of the first count values.
-pub fn put_values(out: &mut [u8], at: usize, values: &[f64], count: usize) -> usize
-    requires { ⌜ (count ≤ length (now values)) × (at + 64 * count ≤ length (now out)) ⌝ }
-    ensures { λ r. ⌜ Puts at (valueLines count (now (values .entry))) (now (out .entry)) r (now (out .exit)) ⌝ }
+// Puts the lines of the values.
+pub fn put_values(out: &mut [u8], at: usize, values: &[f64]) -> usize
+    requires { ⌜ at + 64 * length (now values) ≤ length (now out) ⌝ }
+    ensures { λ r. ⌜ Puts at (valueLines (length (now (values .entry))) (now (values .entry))) (now (out .entry)) r (now (out .exit)) ⌝ }
 {
     let mut next = at;
     let mut i = 0;
-    while i < count {
+    while i < values.len() {
         let bits = bits_of(values[i]);
         next = put_value(out, next, i, bits);
         i += 1;
@@ -87,7 +87,7 @@ pub fn put_values(out: &mut [u8], at: usize, values: &[f64], count: usize) -> us
     next
 }
 
-// Puts the whole listing of a cut that is answered 0.
+// Puts the whole printout of a cut that is answered 0.
 pub fn put_listing(
     out: &mut [u8],
     n: usize,
@@ -96,13 +96,12 @@ pub fn put_listing(
     cols: usize,
     side: &[usize],
     values: &[f64],
-    count: usize,
 ) -> usize
-    requires { ⌜ (count ≤ length (now values)) × (118 + 21 * length (now side) + 64 * count ≤ length (now out)) ⌝ }
-    ensures { λ r. ⌜ Puts 0 (listing n k rows cols (now (side .entry)) (now (values .entry)) count) (now (out .entry)) r (now (out .exit)) ⌝ }
+    requires { ⌜ 118 + 21 * length (now side) + 64 * length (now values) ≤ length (now out) ⌝ }
+    ensures { λ r. ⌜ Puts 0 (listing n k rows cols (now (side .entry)) (now (values .entry))) (now (out .entry)) r (now (out .exit)) ⌝ }
 {
     let second = put_cut(out, 0, n, k, rows, cols);
     let third = put_side(out, second, side);
-    let last = put_values(out, third, values, count);
-    texts::put_line(out, last, b"end ", count)
+    let last = put_values(out, third, values);
+    texts::put_line(out, last, b"end ", values.len())
 }

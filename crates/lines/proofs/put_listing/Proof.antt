@@ -3,7 +3,7 @@
 use native.Mathlib.Omega.{arith}
 use mathlib.Core.List.{_++_}
 use denote.Ref.{now}
-use lib.ListN.{length-append}
+use lib.ListN.{length, length-append}
 use Rattle.lines.specs.Lines.{cutLine, sideLine, valueLines, listing}
 use Rattle.texts.specs.TextLaws.{puts-then}
 use Rattle.lines.specs.LineLaws.{length-cut, length-side, length-values}
@@ -24,14 +24,14 @@ slice-aggregate-put-line : tie.Need-slice-aggregate-put-line
 slice-aggregate-put-line c = search needs
 
 put-line-requires : tie.Need-put-line-requires
-put-line-requires c κs = omega (arith, c .before .before .before .before .before .before .before .before .before .before .before .before .put-cut .ensures .next, c .before .before .before .before .before .before .before .before .before .before .before .before .put-cut .kept .0, length-cut (c .before .before .before .before .before .before .before .before .before .before .before .before .before .before .before .before .before .args .n) (c .before .before .before .before .before .before .before .before .before .before .before .before .before .before .before .before .before .args .k) (c .before .before .before .before .before .before .before .before .before .before .before .before .before .before .before .before .before .args .rows) (c .before .before .before .before .before .before .before .before .before .before .before .before .before .before .before .before .before .args .cols), c .before .before .before .before .before .before .before .before .put-side .ensures .next, c .before .before .before .before .before .before .before .before .put-side .kept .0, length-side (now (c .before .before .before .before .before .before .before .before .before .before .before .before .before .before .before .before .before .args .side)), c .before .before .before .before .put-values .ensures .next, c .before .before .before .before .put-values .kept .0, length-values (c .before .before .before .before .before .before .before .before .before .before .before .before .before .before .before .before .before .args .count) (now (c .before .before .before .before .before .before .before .before .before .before .before .before .before .before .before .before .before .args .values)))
+put-line-requires c κs = omega (arith, c .before .before .before .before .before .before .before .before .before .before .before .before .put-cut .ensures .next, c .before .before .before .before .before .before .before .before .before .before .before .before .put-cut .kept .0, length-cut (c .before .before .before .before .before .before .before .before .before .before .before .before .before .before .before .before .before .args .n) (c .before .before .before .before .before .before .before .before .before .before .before .before .before .before .before .before .before .args .k) (c .before .before .before .before .before .before .before .before .before .before .before .before .before .before .before .before .before .args .rows) (c .before .before .before .before .before .before .before .before .before .before .before .before .before .before .before .before .before .args .cols), c .before .before .before .before .before .before .before .before .put-side .ensures .next, c .before .before .before .before .before .before .before .before .put-side .kept .0, length-side (now (c .before .before .before .before .before .before .before .before .before .before .before .before .before .before .before .before .before .args .side)), c .before .before .before .before .put-values .ensures .next, c .before .before .before .before .put-values .kept .0, length-values (length (now (c .before .before .before .before .before .before .before .before .before .before .before .before .before .before .before .before .before .args .values))) (now (c .before .before .before .before .before .before .before .before .before .before .before .before .before .before .before .before .before .args .values)))
 
 same-length : tie.Need-same-length
 same-length c = search needs
 
 returns : tie.Need-returns
 unfolding listing
-returns c = let s = c .before .before .before .before .before .before .before .before .before .before .before .before .before .before .before .before .before .before .before .before .args in let p = c .before .before .before .before .before .before .before .before .before .before .before .before .before .before .before .before .before .before .before .before .pre .1 in let u = cutLine (s .n) (s .k) (s .rows) (s .cols) in let v = sideLine (now (s .side)) in let w = valueLines (s .count) (now (s .values)) in let i = length-cut (s .n) (s .k) (s .rows) (s .cols) in let j = length-side (now (s .side)) in let k = length-values (s .count) (now (s .values)) in let a = length-append u v in let b = length-append (u ++ v) w in puts-then _ _ _ _ _ _ _ _ (omega arith) (puts-then _ _ _ _ _ _ _ _ (omega arith) (puts-then _ _ _ _ _ _ _ _ (omega arith) (c .before .before .before .before .before .before .before .before .before .before .before .before .before .before .before .put-cut .ensures) (c .before .before .before .before .before .before .before .before .before .before .before .put-side .ensures)) (c .before .before .before .before .before .before .before .put-values .ensures)) (c .before .before .put-line .ensures)
+returns c = let s = c .before .before .before .before .before .before .before .before .before .before .before .before .before .before .before .before .before .before .before .before .args in let p = c .before .before .before .before .before .before .before .before .before .before .before .before .before .before .before .before .before .before .before .before .pre in let u = cutLine (s .n) (s .k) (s .rows) (s .cols) in let v = sideLine (now (s .side)) in let w = valueLines (length (now (s .values))) (now (s .values)) in let i = length-cut (s .n) (s .k) (s .rows) (s .cols) in let j = length-side (now (s .side)) in let k = length-values (length (now (s .values))) (now (s .values)) in let a = length-append u v in let b = length-append (u ++ v) w in puts-then _ _ _ _ _ _ _ _ (omega arith) (puts-then _ _ _ _ _ _ _ _ (omega arith) (puts-then _ _ _ _ _ _ _ _ (omega arith) (c .before .before .before .before .before .before .before .before .before .before .before .before .before .before .before .put-cut .ensures) (c .before .before .before .before .before .before .before .before .before .before .before .put-side .ensures)) (c .before .before .before .before .before .before .before .put-values .ensures)) (c .before .before .put-line .ensures)
 
 pub put-listing-spec : {M : Type 1} → statement M
 put-listing-spec =
