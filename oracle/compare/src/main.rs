@@ -5,8 +5,6 @@
 //!
 //! It ends with status 1 on a mismatch. The last line has the count of calls and the seed.
 
-mod ours;
-
 use std::collections::BTreeMap;
 use std::process::exit;
 
@@ -28,7 +26,7 @@ struct Tally {
 
 impl Tally {
     fn see(&mut self, call: &Call) {
-        let Some(ours) = ours::run(call) else { return };
+        let Some(ours) = port::run(call) else { return };
         let theirs = outcome(call, Build::Replaced);
         self.calls += 1;
         *self.answers.entry((call.entry, theirs.number)).or_insert(0) += 1;
@@ -54,7 +52,7 @@ impl Tally {
             println!("{:<28} {answers}", entry.name());
         }
         let missing: Vec<String> =
-            ENTRIES.iter().filter(|&&entry| !ours::has(entry)).map(|entry| entry.name()).collect();
+            ENTRIES.iter().filter(|&&entry| !port::has(entry)).map(|entry| entry.name()).collect();
         if !missing.is_empty() {
             println!("not in the library, so not compared: {}", missing.join(" "));
         }
@@ -85,7 +83,7 @@ fn bounds(rng: &mut Random) -> Bounds {
 fn run(seed: u64, count: usize) -> Tally {
     let mut tally = Tally::default();
     for entry in ENTRIES {
-        if !ours::has(entry) {
+        if !port::has(entry) {
             continue;
         }
         small::each(entry, &mut |call| tally.see(&call));

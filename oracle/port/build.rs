@@ -15,7 +15,10 @@ fn main() {
         println!("cargo::warning={} is not there: nothing to compare", archive.display());
         return;
     };
-    println!("cargo::rustc-link-arg={}", archive.display());
+    let folder = archive.parent().expect("a folder").display();
+    let file = archive.file_stem().and_then(|stem| stem.to_str()).expect("a file");
+    println!("cargo::rustc-link-search=native={folder}");
+    println!("cargo::rustc-link-lib=static={}", file.strip_prefix("lib").expect("a library's file"));
     // The archive's index has each exported name, ended by a zero byte.
     let name_at = |at: usize| {
         let rest = &bytes[at..];

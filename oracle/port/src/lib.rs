@@ -1,5 +1,6 @@
-//! The port's entry points, called through its static library on copies of a call's slices. Each copy stands between
-//! guard words, so that a write outside of a slice is seen.
+//! The port's entry points, as its static library has them, and calls of them as plain data on copies of the slices. Each
+//! copy stands between guard words, so that a write outside of a slice is seen. An entry point that the library lacks is
+//! not called.
 
 use harness::call::{Call, Entry, Entry::*, Outcome};
 
@@ -9,37 +10,37 @@ const GUARDS: usize = 8;
 #[rustfmt::skip]
 #[allow(dead_code)]
 unsafe extern "C" {
-    fn zg_validate_qubit_set(list: *const usize, list_len: usize, n: usize, place: *mut usize) -> u32;
-    fn zg_validate_subsystem(list: *const usize, list_len: usize, n: usize, place: *mut usize) -> u32;
-    fn zg_row_offsets(list: *const usize, list_len: usize, n: usize, cap: usize, out: *mut usize, out_len: usize, place: *mut usize) -> u32;
-    fn zg_traced_base(e: usize, list: *const usize, list_len: usize, n: usize, cap: usize, place: *mut usize, base: *mut usize) -> u32;
-    fn zg_smaller_side(list: *const usize, list_len: usize, n: usize, cap: usize, others: *mut usize, others_len: usize, place: *mut usize) -> u32;
-    fn zg_cut_matrix(state: *const f64, state_len: usize, n: usize, list: *const usize, list_len: usize, cap: usize, out: *mut f64, out_len: usize, place: *mut usize) -> u32;
-    fn zg_dense_schmidt_values(state: *const f64, state_len: usize, n: usize, list: *const usize, list_len: usize, cap: usize, out: *mut f64, out_len: usize, scratch: *mut f64, scratch_len: usize, place: *mut usize, count: *mut usize) -> u32;
-    fn zg_dense_reduced_density(state: *const f64, state_len: usize, n: usize, list: *const usize, list_len: usize, cap: usize, out: *mut f64, out_len: usize, scratch: *mut f64, scratch_len: usize, place: *mut usize) -> u32;
-    fn zg_mirror_lower_triangle(rho: *mut f64, rho_len: usize, dim: usize, place: *mut usize) -> u32;
-    fn zg_normalize_trace(rho: *mut f64, rho_len: usize, dim: usize, place: *mut usize) -> u32;
-    fn zg_multiply_block_factor(rho: *mut f64, rho_len: usize, dim: usize, positions: *const usize, positions_len: usize, factor: *const f64, factor_len: usize, side: usize, place: *mut usize) -> u32;
-    fn zg_svd_jacobi(a: *const f64, a_len: usize, m: usize, n: usize, u: *mut f64, u_len: usize, s: *mut f64, s_len: usize, vt: *mut f64, vt_len: usize, scratch: *mut f64, scratch_len: usize, place: *mut usize) -> u32;
-    fn zg_factorize_gram_schmidt(a: *const f64, a_len: usize, rows: usize, cols: usize, q: *mut f64, q_len: usize, r: *mut f64, r_len: usize, scratch: *mut f64, scratch_len: usize, place: *mut usize, rank: *mut usize) -> u32;
-    fn zg_hermitian_eigenvalues(a: *const f64, a_len: usize, dim: usize, out: *mut f64, out_len: usize, scratch: *mut f64, scratch_len: usize, place: *mut usize) -> u32;
-    fn zg_finish_schmidt_values(values: *const f64, values_len: usize, out: *mut f64, out_len: usize, place: *mut usize, count: *mut usize) -> u32;
-    fn zg_schmidt_values_from_density(rho: *const f64, rho_len: usize, dim: usize, out: *mut f64, out_len: usize, scratch: *mut f64, scratch_len: usize, place: *mut usize, count: *mut usize) -> u32;
-    fn zg_hermitian_eigen(matrix: *const f64, matrix_len: usize, dim: usize, values: *mut f64, values_len: usize, vectors: *mut f64, vectors_len: usize, scratch: *mut f64, scratch_len: usize, place: *mut usize) -> u32;
-    fn zg_truncated_svd_rank(values: *const f64, values_len: usize, epsilon: f64, max_bond_dim: usize, place: *mut usize, rank: *mut usize) -> u32;
-    fn zg_discards_resolvable_weight(values: *const f64, values_len: usize, chi: usize, place: *mut usize, yes: *mut bool) -> u32;
-    fn zg_cut_rank(bond_left: usize, bond_mid: usize, bond_right: usize, place: *mut usize, rank: *mut u64) -> u32;
-    fn zg_widest_block_cut(bond_left: usize, bond_right: usize, n: usize, place: *mut usize, rank: *mut u64) -> u32;
-    fn zg_fill_isometry_site_data(columns: *const f64, columns_len: usize, stride: usize, bond_left: usize, chi: usize, out: *mut f64, out_len: usize, place: *mut usize) -> u32;
-    fn zg_fill_scaled_u_site_data(u: *const f64, u_len: usize, s: *const f64, s_len: usize, stride: usize, bond_left: usize, chi: usize, out: *mut f64, out_len: usize, place: *mut usize) -> u32;
-    fn zg_fill_vt_site_data(vt: *const f64, vt_len: usize, row_len: usize, chi: usize, physical_dim: usize, bond_right: usize, out: *mut f64, out_len: usize, place: *mut usize) -> u32;
-    fn zg_fill_scaled_vt_data(s: *const f64, s_len: usize, vt: *const f64, vt_len: usize, row_len: usize, chi: usize, physical_dim: usize, bond_right: usize, out: *mut f64, out_len: usize, place: *mut usize) -> u32;
-    fn zg_sqrt(x: f64) -> f64;
-    fn zg_sqrt_bits(b: u64) -> u64;
-    fn zg_magnitude(x: f64) -> f64;
-    fn zg_sign(x: f64) -> f64;
-    fn zg_is_finite(x: f64) -> bool;
-    fn zg_total_less(x: f64, y: f64) -> bool;
+    pub fn zg_validate_qubit_set(list: *const usize, list_len: usize, n: usize, place: *mut usize) -> u32;
+    pub fn zg_validate_subsystem(list: *const usize, list_len: usize, n: usize, place: *mut usize) -> u32;
+    pub fn zg_row_offsets(list: *const usize, list_len: usize, n: usize, cap: usize, out: *mut usize, out_len: usize, place: *mut usize) -> u32;
+    pub fn zg_traced_base(e: usize, list: *const usize, list_len: usize, n: usize, cap: usize, place: *mut usize, base: *mut usize) -> u32;
+    pub fn zg_smaller_side(list: *const usize, list_len: usize, n: usize, cap: usize, others: *mut usize, others_len: usize, place: *mut usize) -> u32;
+    pub fn zg_cut_matrix(state: *const f64, state_len: usize, n: usize, list: *const usize, list_len: usize, cap: usize, out: *mut f64, out_len: usize, place: *mut usize) -> u32;
+    pub fn zg_dense_schmidt_values(state: *const f64, state_len: usize, n: usize, list: *const usize, list_len: usize, cap: usize, out: *mut f64, out_len: usize, scratch: *mut f64, scratch_len: usize, place: *mut usize, count: *mut usize) -> u32;
+    pub fn zg_dense_reduced_density(state: *const f64, state_len: usize, n: usize, list: *const usize, list_len: usize, cap: usize, out: *mut f64, out_len: usize, scratch: *mut f64, scratch_len: usize, place: *mut usize) -> u32;
+    pub fn zg_mirror_lower_triangle(rho: *mut f64, rho_len: usize, dim: usize, place: *mut usize) -> u32;
+    pub fn zg_normalize_trace(rho: *mut f64, rho_len: usize, dim: usize, place: *mut usize) -> u32;
+    pub fn zg_multiply_block_factor(rho: *mut f64, rho_len: usize, dim: usize, positions: *const usize, positions_len: usize, factor: *const f64, factor_len: usize, side: usize, place: *mut usize) -> u32;
+    pub fn zg_svd_jacobi(a: *const f64, a_len: usize, m: usize, n: usize, u: *mut f64, u_len: usize, s: *mut f64, s_len: usize, vt: *mut f64, vt_len: usize, scratch: *mut f64, scratch_len: usize, place: *mut usize) -> u32;
+    pub fn zg_factorize_gram_schmidt(a: *const f64, a_len: usize, rows: usize, cols: usize, q: *mut f64, q_len: usize, r: *mut f64, r_len: usize, scratch: *mut f64, scratch_len: usize, place: *mut usize, rank: *mut usize) -> u32;
+    pub fn zg_hermitian_eigenvalues(a: *const f64, a_len: usize, dim: usize, out: *mut f64, out_len: usize, scratch: *mut f64, scratch_len: usize, place: *mut usize) -> u32;
+    pub fn zg_finish_schmidt_values(values: *const f64, values_len: usize, out: *mut f64, out_len: usize, place: *mut usize, count: *mut usize) -> u32;
+    pub fn zg_schmidt_values_from_density(rho: *const f64, rho_len: usize, dim: usize, out: *mut f64, out_len: usize, scratch: *mut f64, scratch_len: usize, place: *mut usize, count: *mut usize) -> u32;
+    pub fn zg_hermitian_eigen(matrix: *const f64, matrix_len: usize, dim: usize, values: *mut f64, values_len: usize, vectors: *mut f64, vectors_len: usize, scratch: *mut f64, scratch_len: usize, place: *mut usize) -> u32;
+    pub fn zg_truncated_svd_rank(values: *const f64, values_len: usize, epsilon: f64, max_bond_dim: usize, place: *mut usize, rank: *mut usize) -> u32;
+    pub fn zg_discards_resolvable_weight(values: *const f64, values_len: usize, chi: usize, place: *mut usize, yes: *mut bool) -> u32;
+    pub fn zg_cut_rank(bond_left: usize, bond_mid: usize, bond_right: usize, place: *mut usize, rank: *mut u64) -> u32;
+    pub fn zg_widest_block_cut(bond_left: usize, bond_right: usize, n: usize, place: *mut usize, rank: *mut u64) -> u32;
+    pub fn zg_fill_isometry_site_data(columns: *const f64, columns_len: usize, stride: usize, bond_left: usize, chi: usize, out: *mut f64, out_len: usize, place: *mut usize) -> u32;
+    pub fn zg_fill_scaled_u_site_data(u: *const f64, u_len: usize, s: *const f64, s_len: usize, stride: usize, bond_left: usize, chi: usize, out: *mut f64, out_len: usize, place: *mut usize) -> u32;
+    pub fn zg_fill_vt_site_data(vt: *const f64, vt_len: usize, row_len: usize, chi: usize, physical_dim: usize, bond_right: usize, out: *mut f64, out_len: usize, place: *mut usize) -> u32;
+    pub fn zg_fill_scaled_vt_data(s: *const f64, s_len: usize, vt: *const f64, vt_len: usize, row_len: usize, chi: usize, physical_dim: usize, bond_right: usize, out: *mut f64, out_len: usize, place: *mut usize) -> u32;
+    pub fn zg_sqrt(x: f64) -> f64;
+    pub fn zg_sqrt_bits(b: u64) -> u64;
+    pub fn zg_magnitude(x: f64) -> f64;
+    pub fn zg_sign(x: f64) -> f64;
+    pub fn zg_is_finite(x: f64) -> bool;
+    pub fn zg_total_less(x: f64, y: f64) -> bool;
 }
 
 /// Copies of a call's slices, each between guard words.
