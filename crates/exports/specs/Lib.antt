@@ -1,0 +1,2 @@
+-- What the contracts of `exports` cite beside those of the entry points.
+pub mod Told

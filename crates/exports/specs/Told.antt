@@ -1,0 +1,30 @@
+-- What an exported call says of its answer. Assumes nothing.
+use mathlib.Core.Path.{_≡_}
+use Prim.Native.Nat.{ℕ, _≤_}
+use native.Mathlib.Omega.{arith}
+use Rattle.answers.specs.declared.Answer.the-variants.{Done, Size, OutOfRange, Twice, Empty, Whole, Length, Component, NoWeight, NotFinite, Malformed}
+use Rattle.answers.specs.declared.Answer.{Answer}
+use Rattle.answers.specs.Paper.{paper}
+
+-- the answer's number and place, as the paper has them
+pub record Told (a : Answer) (number place : ℕ) : Type 0 where
+  pub numbered : number ≡ paper a .0
+  pub placed : place ≡ paper a .1
+
+-- the entry point's contract holds of the answer that has this number and place
+abbrev pub Exported : (Answer → Type 0) → ℕ → ℕ → Type 0
+Exported contract number place = (a : Answer) × Told a number place × contract a
+
+-- the table's numbers are small
+pub paper-small : (a : Answer) → paper a .0 ≤ 10
+paper-small Done = omega arith
+paper-small Size = omega arith
+paper-small (OutOfRange p) = omega arith
+paper-small (Twice p) = omega arith
+paper-small Empty = omega arith
+paper-small Whole = omega arith
+paper-small (Length p) = omega arith
+paper-small (Component p) = omega arith
+paper-small NoWeight = omega arith
+paper-small NotFinite = omega arith
+paper-small Malformed = omega arith
