@@ -15,6 +15,10 @@ pub record Told (a : Answer) (number place : ℕ) : Type 0 where
 abbrev pub Exported : (Answer → Type 0) → ℕ → ℕ → Type 0
 Exported contract number place = (a : Answer) × Told a number place × contract a
 
+-- the same for a call that gives a further result, a count, rank, base or yes and no
+abbrev pub ExportedWith : {R W : Type 0} → (R → Answer) → (R → W) → (R → Type 0) → ℕ → ℕ → W → Type 0
+ExportedWith {R} answer value contract number place result = (k : R) × Told (answer k) number place × (result ≡ value k) × contract k
+
 -- the table's numbers are small
 pub paper-small : (a : Answer) → paper a .0 ≤ 10
 paper-small Done = omega arith
