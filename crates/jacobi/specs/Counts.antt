@@ -2,13 +2,17 @@
 use mathlib.Core.Path.{_≡_, refl, _∙_}
 use Prim.Native.Nat.{ℕ, zero, suc, _+_, _-_, _*_, _≤_}
 use native.Mathlib.Numerals.{add-one}
+use native.Mathlib.Nat.{suc-mul, mul-suc}
+use mathlib.Core.List.{List}
+use mathlib.Core.Bool.{Bool, true, false, cond}
+use lib.Ieee.{Float}
 use native.Mathlib.Omega.{arith}
-use Rattle.jacobi.specs.declared.Decision.{Decision}
-use Rattle.jacobi.specs.declared.Decision.the-variants.{Leave, Turn}
+use Rattle.pairs.specs.declared.Decision.{Decision}
+use Rattle.pairs.specs.declared.Decision.the-variants.{Leave, Turn}
 use Rattle.jacobi.specs.declared.Sweeps.{Sweeps}
-use Rattle.jacobi.specs.Gram.{gramTo}
-use Rattle.jacobi.specs.Decisions.{decisionOf}
-use Rattle.jacobi.specs.Sweeping.{State, state, counted, begin, pairBy, pairStep, pairsTo, columnsTo, sweepOf}
+use Rattle.pairs.specs.Gram.{gramTo}
+use Rattle.pairs.specs.Decisions.{decisionOf}
+use Rattle.jacobi.specs.Sweeping.{State, state, counted, begin, noSweeps, pairBy, pairStep, pairsTo, columnsTo, sweepOf, sweepsTo, settled}
 
 -- s is in the sweep of s₀ and has turned at most k pairs more
 pub record Within (s₀ s : Sweeps) (k : ℕ) : Type 0 where
@@ -68,3 +72,53 @@ pub pairs-few : (n p : ℕ) → n ≤ 64 → pairsBelow n p ≤ p * 64
 unfolding pairsBelow
 pairs-few n zero h = omega arith
 pairs-few n (suc p) h = omega (arith, pairs-few n p h)
+
+-- ---- what a reader may want to know of the counts
+
+-- all pairs of n columns are n * (n - 1) / 2
+pairs-doubled : (n p : ℕ) → p ≤ n → 2 * pairsBelow n p + p * p + p ≡ 2 * (p * n)
+unfolding pairsBelow
+pairs-doubled n zero h = omega arith
+pairs-doubled n (suc p) h = omega (arith, pairs-doubled n p (omega arith), suc-mul p n, suc-mul p (suc p), mul-suc p p)
+
+pub pairs-all : (n : ℕ) → 2 * pairsBelow n n + n ≡ n * n
+pairs-all n = omega (arith, pairs-doubled n n (omega arith))
+
+-- at most one turned pair for each pair of columns in each sweep begun
+pub record Few (n : ℕ) (s : Sweeps) : Type 0 where
+  pub few : s .turned ≤ s .begun * pairsBelow n n
+
+sweep-few : (m n : ℕ) (s : State) → Few n (s .sweeps) → Few n (sweepOf m n s .sweeps)
+sweep-few m n s h =
+    let w = sweep-after m n s {t = sweepOf m n s} refl in
+    record { few = rw (w .begun, add-one, suc-mul) (omega arith) }
+
+-- what holds of both holds of what a test picks
+either : (P : State → Type 0) (b : Bool) (s t : State) → P s → P t → P (cond b s t)
+either P true s t h i = h
+either P false s t h i = i
+
+sweeps-few : (m n k : ℕ) (s : State) → Few n (s .sweeps) → Few n (sweepsTo m n k s .sweeps)
+unfolding sweepsTo
+sweeps-few m n zero s h = h
+sweeps-few m n (suc k) s h =
+    let t = sweepOf m n s in
+    let i = sweep-few m n s h in
+    either (λ (u : State). Few n (u .sweeps)) (t .sweeps .quiet) t (sweepsTo m n k t) i (sweeps-few m n k t i)
+
+pub settled-few : (m n : ℕ) (work v : List Float) → Few n (settled m n work v .sweeps)
+unfolding settled
+settled-few m n work v = sweeps-few m n 100 (state work v noSweeps) (record { few = omega arith })
+
+-- at most k sweeps more
+sweeps-begun : (m n k : ℕ) (s : State) → sweepsTo m n k s .sweeps .begun ≤ s .sweeps .begun + k
+unfolding sweepsTo
+sweeps-begun m n zero s = omega arith
+sweeps-begun m n (suc k) s =
+    let t = sweepOf m n s in
+    let w = sweep-after m n s {t = t} refl in
+    either (λ (u : State). u .sweeps .begun ≤ s .sweeps .begun + suc k) (t .sweeps .quiet) t (sweepsTo m n k t) (omega arith) (omega (arith, sweeps-begun m n k t))
+
+pub settled-begun : (m n : ℕ) (work v : List Float) → settled m n work v .sweeps .begun ≤ 100
+unfolding settled
+settled-begun m n work v = sweeps-begun m n 100 (state work v noSweeps)

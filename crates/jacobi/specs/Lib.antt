@@ -1,6 +1,4 @@
--- What the contracts of `jacobi` cite.
-pub mod Gram
-pub mod Decisions
-pub mod Turns
+-- What the contracts of `jacobi` cite, and what they imply.
 pub mod Sweeping
 pub mod Counts
+pub mod Values

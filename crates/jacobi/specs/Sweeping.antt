@@ -8,12 +8,12 @@ use native.Mathlib.Nat.{suc-mul, mul-le-mul-right}
 use native.Mathlib.Omega.{arith}
 use lib.Ieee.{Float}
 use Rattle.complex.specs.Loops.{cond-yes, cond-no}
-use Rattle.jacobi.specs.declared.Decision.{Decision}
-use Rattle.jacobi.specs.declared.Decision.the-variants.{Leave, Turn}
+use Rattle.pairs.specs.declared.Decision.{Decision}
+use Rattle.pairs.specs.declared.Decision.the-variants.{Leave, Turn}
 use Rattle.jacobi.specs.declared.Sweeps.{Sweeps}
-use Rattle.jacobi.specs.Gram.{gramTo}
-use Rattle.jacobi.specs.Decisions.{decisionOf}
-use Rattle.jacobi.specs.Turns.{applied}
+use Rattle.pairs.specs.Gram.{gramTo}
+use Rattle.pairs.specs.Decisions.{decisionOf}
+use Rattle.pairs.specs.Turns.{applied}
 
 -- ---- the room
 

@@ -1,5 +1,5 @@
 -- `jacobi::pair` meets its contract: the decision is that of the definition, since its number and values are, and both matrices and the counts follow it. Assumes nothing.
-use Rattle.jacobi.specs.Decisions.{verdict-one}
+use Rattle.pairs.specs.Decisions.{verdict-one}
 use Rattle.jacobi.specs.Sweeping.{column-fits, pair-made}
 use native.Mathlib.Omega.{arith}
 use Prim.Native.Nat.{_+_, _*_, _≤_}

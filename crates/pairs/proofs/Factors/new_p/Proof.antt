@@ -1,0 +1,21 @@
+-- `pairs::Factors::new_p` meets its contract: what its callees ensure, put together. Assumes nothing.
+use Rattle.pairs.specs.Turns.{newP}
+use borrow.Author.Needs.{needs}
+use Rattle.pairs.proofs.Factors.new_p.Statement.{statement}
+use Rattle.pairs.proofs.Factors.new_p.Tie as tie
+
+mul-requires : tie.Need-mul-requires
+mul-requires c κs = search needs
+
+mul-requires-2 : tie.Need-mul-requires-2
+mul-requires-2 c κs = search needs
+
+add-requires : tie.Need-add-requires
+add-requires c κs = search needs
+
+returns : tie.Need-returns
+unfolding newP
+returns c = rw (c .add .ensures, c .before .mul2 .ensures, c .before .before .mul .ensures)
+
+pub new-p-spec : {M : Type 1} → statement M
+new-p-spec = tie.close (tie.spec mul-requires mul-requires-2 add-requires returns)

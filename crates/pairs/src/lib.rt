@@ -1,0 +1,184 @@
+// Inner: what the Jacobi sweeps do with one pair of columns of a matrix that is lent as planes: its
+// Gram sums, the decision, and the turn.
+use complex::Complex;
+ghost use mathlib.Core.Path.{_≡_};
+ghost use Prim.Native.Nat.{_+_, _*_, _<_, _≤_};
+ghost use lib.ListN.{length};
+ghost use Rattle.pairs.specs.Gram.{noSums, oneRow, gramTo};
+ghost use Rattle.pairs.specs.Decisions.{verdict, decisionOf, tangentOf, turnAt};
+ghost use Rattle.pairs.specs.Turns.{factorsOf, newP, newQ, turnRow, turnRows, applied};
+
+const JACOBI_REL_TOL: f64 = 1e-15;
+
+// ---- the Gram sums of a pair of columns
+
+pub struct GramSums {
+    pub pp: f64,
+    pub qq: f64,
+    pub pq: Complex,
+}
+
+// No row yet: +0.0 everywhere.
+fn no_sums() -> GramSums
+    ensures { λ r. ⌜ r ≡ noSums ⌝ }
+{
+    GramSums {
+        pp: 0.0,
+        qq: 0.0,
+        pq: Complex { re: 0.0, im: 0.0 },
+    }
+}
+
+// One row more, with the cells ap and aq.
+fn one_row(g: GramSums, ap: Complex, aq: Complex) -> GramSums
+    ensures { λ r. ⌜ r ≡ oneRow g ap aq ⌝ }
+{
+    GramSums {
+        pp: g.pp + ap.norm_sqr(),
+        qq: g.qq + aq.norm_sqr(),
+        pq: g.pq.add(ap.conj().mul(aq)),
+    }
+}
+
+// The Gram sums of the columns that start at the cells a and b, of m rows, in a matrix of c cells.
+pub fn gram_of(xs: &[f64], c: usize, a: usize, b: usize, m: usize) -> GramSums
+    requires { ⌜ (length (now xs) ≡ 2 * c) × (a + m ≤ c) × (b + m ≤ c) ⌝ }
+    ensures { λ r. ⌜ r ≡ gramTo (now (xs .entry)) c a b m ⌝ }
+{
+    let mut g = no_sums();
+    for r in 0..m {
+        g = one_row(
+            g,
+            complex::read_plane(xs, c, a + r),
+            complex::read_plane(xs, c, b + r),
+        );
+    }
+    g
+}
+
+// ---- the decision
+
+// What is to be done with a pair of columns.
+pub enum Decision {
+    Leave,
+    Turn {
+        cosine: f64,
+        sine: f64,
+        phase: Complex,
+    },
+}
+
+// The tangent of the angle: the root of smaller magnitude.
+fn tangent(tau: f64) -> f64
+    ensures { λ r. ⌜ r ≡ tangentOf tau ⌝ }
+{
+    let root = numbers::sqrt(1.0 + tau * tau);
+    if tau >= 0.0 {
+        -1.0 / (tau + root)
+    } else {
+        1.0 / (-tau + root)
+    }
+}
+
+// The turn by the tangent t, for the mixed sum pq of modulus beta.
+fn turn_at(pq: Complex, beta: f64, t: f64) -> Decision
+    ensures { λ r. ⌜ r ≡ turnAt pq beta t ⌝ }
+{
+    let cosine = 1.0 / numbers::sqrt(1.0 + t * t);
+    Decision::Turn {
+        cosine,
+        sine: t * cosine,
+        phase: pq.div_real(beta),
+    }
+}
+
+// The decision on a pair with these Gram sums.
+pub fn decide(g: GramSums) -> Decision
+    ensures { λ r. ⌜ verdict r ≡ verdict (decisionOf g) ⌝ }
+{
+    let off = g.pq.norm_sqr();
+    if off <= JACOBI_REL_TOL * JACOBI_REL_TOL * g.pp * g.qq {
+        return Decision::Leave;
+    }
+    let beta = g.pq.modulus();
+    let tau = (g.qq - g.pp) / (2.0 * beta);
+    turn_at(g.pq, beta, tangent(tau))
+}
+
+// ---- the turn of two columns
+
+// The factors of a turn: the new p is pp times the old p and pq times the old q, the new q alike.
+pub struct Factors {
+    pub pp: Complex,
+    pub pq: Complex,
+    pub qp: Complex,
+    pub qq: Complex,
+}
+
+impl Factors {
+    // The cosine and the sine are complex numbers with imaginary part +0.0: signs of zeros hang on it.
+    pub fn new(cosine: f64, sine: f64, phase: Complex) -> Factors
+        ensures { λ r. ⌜ r ≡ factorsOf cosine sine phase ⌝ }
+    {
+        let c = Complex {
+            re: cosine,
+            im: 0.0,
+        };
+        let s = Complex { re: sine, im: 0.0 };
+        let back = phase.conj();
+        Factors {
+            pp: c,
+            pq: s.mul(back),
+            qp: s.neg(),
+            qq: c.mul(back),
+        }
+    }
+
+    pub fn new_p(self, ap: Complex, aq: Complex) -> Complex
+        ensures { λ r. ⌜ r ≡ newP self ap aq ⌝ }
+    {
+        self.pp.mul(ap).add(self.pq.mul(aq))
+    }
+
+    pub fn new_q(self, ap: Complex, aq: Complex) -> Complex
+        ensures { λ r. ⌜ r ≡ newQ self ap aq ⌝ }
+    {
+        self.qp.mul(ap).add(self.qq.mul(aq))
+    }
+}
+
+// The cells i and j of a matrix of c cells are turned, both from their old values.
+fn turn_row(xs: &mut [f64], c: usize, i: usize, j: usize, f: Factors)
+    requires { ⌜ (length (now xs) ≡ 2 * c) × (i < c) × (j < c) ⌝ }
+    ensures { λ _. ⌜ now (xs .exit) ≡ turnRow f c i j (now (xs .entry)) ⌝ }
+{
+    let ap = complex::read_plane(xs, c, i);
+    let aq = complex::read_plane(xs, c, j);
+    complex::write_plane(xs, c, i, f.new_p(ap, aq));
+    complex::write_plane(xs, c, j, f.new_q(ap, aq));
+}
+
+// The columns that start at the cells a and b, of m rows, are turned.
+pub fn turn_columns(xs: &mut [f64], c: usize, a: usize, b: usize, m: usize, f: Factors)
+    requires { ⌜ (length (now xs) ≡ 2 * c) × (a + m ≤ c) × (b + m ≤ c) ⌝ }
+    ensures { λ _. ⌜ now (xs .exit) ≡ turnRows f c a b m (now (xs .entry)) ⌝ }
+{
+    for r in 0..m {
+        turn_row(xs, c, a + r, b + r, f);
+    }
+}
+
+// What is decided is done to two columns of m rows.
+pub fn apply(xs: &mut [f64], c: usize, a: usize, b: usize, m: usize, d: Decision)
+    requires { ⌜ (length (now xs) ≡ 2 * c) × (a + m ≤ c) × (b + m ≤ c) ⌝ }
+    ensures { λ _. ⌜ now (xs .exit) ≡ applied d c a b m (now (xs .entry)) ⌝ }
+{
+    match d {
+        Decision::Leave => {}
+        Decision::Turn {
+            cosine,
+            sine,
+            phase,
+        } => turn_columns(xs, c, a, b, m, Factors::new(cosine, sine, phase)),
+    }
+}
