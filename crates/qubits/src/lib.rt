@@ -7,8 +7,8 @@ ghost use Rattle.answers.specs.Paper.{paper};
 ghost use Rattle.qubits.specs.Lists.{stands, qubitSet, subsystem, Listed};
 ghost use Rattle.qubits.specs.Spread.{rowOffset, tracedBase, insertZeroBit, named};
 
-// Whether q stands in the list.
-fn stands_in(list: &[usize], q: usize) -> bool
+// Inner: whether q stands in the list.
+pub fn stands_in(list: &[usize], q: usize) -> bool
     ensures { λ r. ⌜ r ≡ stands q (now (list .entry)) ⌝ }
 {
     let mut i = 0;
