@@ -1,0 +1,76 @@
+/* Zegrafult: the certificate's arithmetic, proved. Link libexports.a (built by: rt staticlib exports).
+ *
+ * A slice is passed as a pointer and a length, in numbers (f64 or size_t), not cells. A complex cell is two
+ * adjacent doubles, real part first. Lent slices must not overlap. An empty slice may have any pointer.
+ *
+ * Every call ends on every input. The calls that refuse return the answer's number and store its place:
+ *
+ *    0 done                                     5 a cut's list names every qubit
+ *    1 a size is broken                         6 a length is wrong: place = which slice, as numbered below
+ *    2 a listed qubit is n or more: place       7 a component is not finite or above 2^200: place = cell
+ *    3 a listed qubit stood earlier: place      8 nothing is left above a floor, or a trace is zero
+ *    4 the list is empty                        9 a result is not finite
+ *
+ * in that order. 1 to 7 change nothing lent. On 8 and 9 the needed output is +0.0 (trace scaling leaves its
+ * matrix as it was). Needed scratch is +0.0 after 0, 8 and 9. What is longer than needed is never touched past
+ * the need. On any refusal a returned count, rank or base is 0 and a returned yes or no is no.
+ *
+ * n is 1 to 12. The cap used is the smaller of cap and 13: a cut needs n + 1 at most the cap, a density over k
+ * qubits 2k at most the cap. side is the smaller of k and n - k. */
+#ifndef ZEGRAFULT_H
+#define ZEGRAFULT_H
+
+#include <stdbool.h>
+#include <stddef.h>
+#include <stdint.h>
+
+#ifdef __cplusplus
+extern "C" {
+#endif
+
+/* ---- numbers: nothing is refused */
+
+/* The float nearest to the exact root; +-0 and +infinity give themselves; negative or NaN gives NaN. */
+double zg_sqrt(double x);
+/* The same on bit patterns; a NaN is 7FF8000000000000. */
+uint64_t zg_sqrt_bits(uint64_t bits);
+/* The sign cleared, that of -0 too. */
+double zg_magnitude(double x);
+/* 1 for +0.0 and above, -1 for -0.0 and below, NaN for NaN. */
+double zg_sign(double x);
+bool zg_is_finite(double x);
+/* Finite and of magnitude at most 2^200. */
+bool zg_component_allowed(double x);
+/* 0 x below y, 1 equal, 2 above; -0 is below +0, a NaN above all else. */
+uint32_t zg_total_order(double x, double y);
+
+/* ---- lists of qubits */
+
+/* 1 to 4. */
+uint32_t zg_validate_qubit_set(const size_t *list, size_t list_len, size_t n, size_t *place);
+/* 1 to 5. */
+uint32_t zg_validate_subsystem(const size_t *list, size_t list_len, size_t n, size_t *place);
+/* Slices: list 0, out 1 (2^k numbers). out[t]: bit i of t on listed qubit i. Refused by 1 to 4 and 6. */
+uint32_t zg_row_offsets(const size_t *list, size_t list_len, size_t n, size_t cap, size_t *out, size_t out_len,
+                        size_t *place);
+/* e spread over the qubits that are not listed, lowest first. Refused by 1 (e of 2^(n-k) or more too) to 4. */
+uint32_t zg_traced_base(size_t e, const size_t *list, size_t list_len, size_t n, size_t cap, size_t *place,
+                        size_t *base);
+
+/* ---- densities */
+
+/* rho is dim by dim, row-major, exactly 2*dim*dim numbers (slice 0); dim 1 to 64. The upper half becomes the
+ * conjugate of the lower, the diagonal stays. Refused by 1, 6, 7. */
+uint32_t zg_mirror_lower_triangle(double *rho, size_t rho_len, size_t dim, size_t *place);
+
+/* ---- spectra */
+
+/* Slices: values 0 (0 to 64, read only), out 1 (at least as long). Sorted downward, cut at the first value at or
+ * below 1e-14 times the first, each times 1/sqrt(sum of squares); out past the count is +0.0. Refused by 1, 6 to 9. */
+uint32_t zg_finish_schmidt_values(const double *values, size_t values_len, double *out, size_t out_len,
+                                  size_t *place, size_t *count);
+
+#ifdef __cplusplus
+}
+#endif
+#endif
