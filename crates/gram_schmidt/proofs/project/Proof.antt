@@ -1,0 +1,42 @@
+-- `gram_schmidt::project` meets its contract: the dot product, the subtraction and the sum in r are the callees'. Assumes nothing.
+use Rattle.gram_schmidt.specs.GramSchmidtLaws.{project-made}
+use borrow.Author.Needs.{needs}
+use Rattle.gram_schmidt.proofs.project.Statement.{statement}
+use Rattle.gram_schmidt.proofs.project.Tie as tie
+
+dot-requires : tie.Need-dot-requires
+dot-requires c κs = search needs
+
+subtract-requires : tie.Need-subtract-requires
+subtract-requires c κs = search needs
+
+read-cell-requires : tie.Need-read-cell-requires
+read-cell-requires c κs = search needs
+
+add-requires : tie.Need-add-requires
+add-requires c κs = search needs
+
+write-cell-requires : tie.Need-write-cell-requires
+write-cell-requires c κs = search needs
+
+same-length : tie.Need-same-length
+same-length c = search needs
+
+same-length-2 : tie.Need-same-length-2
+same-length-2 c = search needs
+
+returns : tie.Need-returns
+returns c = project-made _ _ _ _ _ _ (c .before .before .before .before .before .before .before .before .before .before .before .dot .ensures) (c .before .before .before .before .before .before .before .before .before .subtract .ensures) (c .before .before .before .before .before .read-cell .ensures) (c .before .before .before .before .add .ensures) (c .before .before .write-cell .ensures)
+
+pub project-spec : {M : Type 1} → statement M
+project-spec =
+    tie.close
+    (tie.spec
+    dot-requires
+    subtract-requires
+    read-cell-requires
+    add-requires
+    write-cell-requires
+    same-length
+    same-length-2
+    returns)

@@ -1,0 +1,38 @@
+-- `gram_schmidt::work_column` meets its contract: the column, its norm and its passes are the callees'. Assumes nothing.
+use Rattle.gram_schmidt.specs.GramSchmidtLaws.{column-worked}
+use borrow.Author.Needs.{needs}
+use Rattle.gram_schmidt.proofs.work_column.Statement.{statement}
+use Rattle.gram_schmidt.proofs.work_column.Tie as tie
+
+mul-load : tie.Need-mul-load
+mul-load c = search needs
+
+load-requires : tie.Need-load-requires
+load-requires c κs = search needs
+
+norm-requires : tie.Need-norm-requires
+norm-requires c κs = search needs
+
+orthogonalize-requires : tie.Need-orthogonalize-requires
+orthogonalize-requires c κs = search needs
+
+same-length : tie.Need-same-length
+same-length c = search needs
+
+same-length-2 : tie.Need-same-length-2
+same-length-2 c = search needs
+
+returns : tie.Need-returns
+returns c = column-worked _ _ _ _ _ _ _ (c .before .before .before .before .before .before .before .before .before .before .before .load .ensures) (c .before .before .before .before .before .before .before .norm .ensures) (c .before .before .before .before .orthogonalize .ensures)
+
+pub work-column-spec : {M : Type 1} → statement M
+work-column-spec =
+    tie.close
+    (tie.spec
+    mul-load
+    load-requires
+    norm-requires
+    orthogonalize-requires
+    same-length
+    same-length-2
+    returns)

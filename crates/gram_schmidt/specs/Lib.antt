@@ -1,0 +1,4 @@
+-- What the contracts of `gram_schmidt` cite.
+pub mod Room
+pub mod GramSchmidt
+pub mod GramSchmidtLaws
