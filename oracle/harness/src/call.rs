@@ -34,7 +34,8 @@ pub enum Entry {
     magnitude,
     sign,
     is_finite,
-    total_less,
+    component_allowed,
+    total_order,
 }
 
 /// What an argument is. Lent slices that a call may write are `mut`.
@@ -51,7 +52,7 @@ pub enum Kind {
 use Entry::*;
 use Kind::*;
 
-pub const ENTRIES: [Entry; 31] = [
+pub const ENTRIES: [Entry; 32] = [
     validate_qubit_set,
     validate_subsystem,
     row_offsets,
@@ -82,7 +83,8 @@ pub const ENTRIES: [Entry; 31] = [
     magnitude,
     sign,
     is_finite,
-    total_less,
+    component_allowed,
+    total_order,
 ];
 
 impl Entry {
@@ -113,9 +115,9 @@ impl Entry {
             fill_scaled_u_site_data => &[Floats, Floats, Word, Word, Word, MutFloats],
             fill_vt_site_data => &[Floats, Word, Word, Word, Word, MutFloats],
             fill_scaled_vt_data => &[Floats, Floats, Word, Word, Word, Word, MutFloats],
-            sqrt | magnitude | sign | is_finite => &[Float],
+            sqrt | magnitude | sign | is_finite | component_allowed => &[Float],
             sqrt_bits => &[Word],
-            total_less => &[Float, Float],
+            total_order => &[Float, Float],
         }
     }
 

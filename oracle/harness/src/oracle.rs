@@ -159,11 +159,13 @@ macro_rules! build {
                     sqrt_bits => done(one_nan(call.float(0).sqrt()), vec![]),
                     magnitude => done(one_nan(call.float(0).abs()), vec![]),
                     sign => done(one_nan(call.float(0).signum()), vec![]),
+                    // The paper's own rule: the Rust has none.
+                    component_allowed => done(table::allowed(call.one(0) as u64) as u64, vec![]),
                     is_finite => done(call.float(0).is_finite() as u64, vec![]),
                     // With one NaN only: the Rust's order tells NaNs apart by sign and payload.
-                    total_less => {
+                    total_order => {
                         let [a, b] = [0, 1].map(|at| f64::from_bits(one_nan(call.float(at))));
-                        done(a.total_cmp(&b).is_lt() as u64, vec![])
+                        done((a.total_cmp(&b) as i64 + 1) as u64, vec![])
                     }
                 }
             }

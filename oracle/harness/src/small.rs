@@ -3,7 +3,7 @@
 use crate::call::{Arg, Call, Entry, Entry::*};
 use crate::cases::{self, Style, lent, numbers, one};
 use crate::random::Random;
-use crate::table::{self, Role};
+use crate::table::{self, LARGEST, Role};
 
 /// Gives a call its lent slices, of just the needed lengths, or of any where the table refuses before it looks at them.
 fn lend(rng: &mut Random, entry: Entry, mut args: Vec<Arg>) -> Call {
@@ -284,9 +284,11 @@ fn on_numbers(entry: Entry, see: &mut impl FnMut(Call)) {
             words.push(exponent << 52 | fraction);
         }
     }
+    let edge = LARGEST.to_bits();
+    words.extend([edge - 1, edge, edge + 1]);
     let signed: Vec<u64> = words.iter().flat_map(|&word| [word, word | 1 << 63]).collect();
     for (at, &word) in signed.iter().enumerate() {
-        if entry == total_less {
+        if entry == total_order {
             for other in [signed[(at + 1) % signed.len()], word, word ^ 1 << 63, signed[(at * 31 + 7) % signed.len()]] {
                 see(Call::new(entry, vec![Arg::One(word), Arg::One(other)]));
             }
@@ -331,7 +333,7 @@ pub fn each(entry: Entry, see: &mut impl FnMut(Call)) {
         | fill_scaled_u_site_data
         | fill_vt_site_data
         | fill_scaled_vt_data => on_bonds(rng, entry, see),
-        sqrt | sqrt_bits | magnitude | sign | is_finite | total_less => on_numbers(entry, see),
+        sqrt | sqrt_bits | magnitude | sign | is_finite | component_allowed | total_order => on_numbers(entry, see),
     }
 }
 

@@ -99,7 +99,8 @@ fn sizes_allowed(call: &Call) -> bool {
         | magnitude
         | sign
         | is_finite
-        | total_less => true,
+        | component_allowed
+        | total_order => true,
     }
 }
 
@@ -191,7 +192,8 @@ pub fn roles(call: &Call) -> Vec<Role> {
             vec![AtLeast(chi), AtLeast(2 * chi * row_len), Output(2 * site)]
         }
         truncated_svd_rank | discards_resolvable_weight => vec![Free],
-        cut_rank | widest_block_cut | sqrt | sqrt_bits | magnitude | sign | is_finite | total_less => vec![],
+        cut_rank | widest_block_cut | sqrt | sqrt_bits | magnitude | sign | is_finite | component_allowed
+        | total_order => vec![],
     }
 }
 
@@ -238,7 +240,8 @@ fn checked(call: &Call) -> Vec<(usize, usize, Vec<usize>)> {
     }
 }
 
-fn allowed(bits: u64) -> bool {
+/// Finite, and of magnitude at most 2^200.
+pub fn allowed(bits: u64) -> bool {
     f64::from_bits(bits).abs() <= LARGEST
 }
 

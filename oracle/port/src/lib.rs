@@ -40,7 +40,8 @@ unsafe extern "C" {
     pub fn zg_magnitude(x: f64) -> f64;
     pub fn zg_sign(x: f64) -> f64;
     pub fn zg_is_finite(x: f64) -> bool;
-    pub fn zg_total_less(x: f64, y: f64) -> bool;
+    pub fn zg_total_order(x: f64, y: f64) -> u32;
+    pub fn zg_component_allowed(x: f64) -> bool;
 }
 
 /// Copies of a call's slices, each between guard words.
@@ -178,7 +179,8 @@ pub fn run(call: &Call) -> Option<Option<Outcome>> {
         magnitude => ask!(has_zg_magnitude, { value = one_nan(zg_magnitude(call.float(0))); never(p) }),
         sign => ask!(has_zg_sign, { value = one_nan(zg_sign(call.float(0))); never(p) }),
         is_finite => ask!(has_zg_is_finite, { value = u64::from(zg_is_finite(call.float(0))); never(p) }),
-        total_less => ask!(has_zg_total_less, { value = u64::from(zg_total_less(call.float(0), call.float(1))); never(p) }),
+        component_allowed => ask!(has_zg_component_allowed, { value = u64::from(zg_component_allowed(call.float(0))); never(p) }),
+        total_order => ask!(has_zg_total_order, { value = u64::from(zg_total_order(call.float(0), call.float(1))); never(p) }),
     };
     let number = number?;
     let value = if call.entry.returns() { value } else { 0 };
