@@ -44,16 +44,20 @@ unsafe extern "C" {
     pub fn zg_component_allowed(x: f64) -> bool;
 }
 
-/// Copies of a call's slices, each between guard words.
-struct Copies {
+/// A call made ready: copies of its slices, each between guard words. It may be made again and again on the same copies.
+pub struct Ready<'a> {
+    call: &'a Call,
     words: Vec<Vec<u64>>,
+    place: usize,
+    value: u64,
 }
 
 #[allow(dead_code)]
-impl Copies {
-    fn of(call: &Call) -> Copies {
+impl<'a> Ready<'a> {
+    pub fn new(call: &'a Call) -> Ready<'a> {
         let fenced = |slice: &[u64]| [&[GUARD; GUARDS], slice, &[GUARD; GUARDS]].concat();
-        Copies { words: call.slices().iter().map(|&at| fenced(call.many(at))).collect() }
+        let words = call.slices().iter().map(|&at| fenced(call.many(at))).collect();
+        Ready { call, words, place: usize::MAX, value: u64::MAX }
     }
 
     fn pointer(&mut self, slice: usize) -> *mut u64 {
@@ -64,8 +68,8 @@ impl Copies {
         self.words[slice].len() - 2 * GUARDS
     }
 
-    /// The slices afterwards, or none where a guard word was written.
-    fn after(self) -> Option<Vec<Vec<u64>>> {
+    /// What the call left, or none where a guard word was written.
+    pub fn outcome(self, number: u32) -> Option<Outcome> {
         let mut slices = vec![];
         for words in self.words {
             let (front, rest) = words.split_at(GUARDS);
@@ -75,7 +79,8 @@ impl Copies {
             }
             slices.push(slice.to_vec());
         }
-        Some(slices)
+        let value = if self.call.entry.returns() { self.value } else { 0 };
+        Some(Outcome { number, place: self.place as u64, value, slices })
     }
 }
 
@@ -108,81 +113,83 @@ fn one_nan(x: f64) -> u64 {
 
 /// Whether the library has the entry point.
 pub fn has(entry: Entry) -> bool {
-    let empty = harness::cases::accepted(
-        &mut harness::random::Random::new(0),
-        entry,
-        harness::cases::Bounds { qubits: 2, side: 2 },
-    );
-    run(&empty).is_some()
+    let bounds = harness::cases::Bounds { qubits: 2, side: 2 };
+    let call = harness::cases::accepted(&mut harness::random::Random::new(0), entry, bounds);
+    run(&call).is_some()
 }
 
 /// What the port leaves of a call; an inner none where it wrote outside of a slice.
-#[rustfmt::skip]
-#[allow(unused_mut, unused_variables, unused_macros, dead_code)]
 pub fn run(call: &Call) -> Option<Option<Outcome>> {
-    let mut copies = Copies::of(call);
-    let (mut place, mut value) = (usize::MAX, u64::MAX);
-    let one = |at: usize| call.one(at);
-    // A slice's pointer to floats, its pointer to whole numbers, its length.
-    macro_rules! f { ($slice:literal) => { copies.pointer($slice).cast::<f64>() } }
-    macro_rules! w { ($slice:literal) => { copies.pointer($slice).cast::<usize>() } }
-    macro_rules! l { ($slice:literal) => { copies.length($slice) } }
-    let p = &raw mut place;
-    let v = &raw mut value;
-    let number: Option<u32> = match call.entry {
-        validate_qubit_set => ask!(has_zg_validate_qubit_set, zg_validate_qubit_set(w!(0), l!(0), one(1), p)),
-        validate_subsystem => ask!(has_zg_validate_subsystem, zg_validate_subsystem(w!(0), l!(0), one(1), p)),
-        row_offsets => ask!(has_zg_row_offsets, zg_row_offsets(w!(0), l!(0), one(1), one(2), w!(1), l!(1), p)),
-        traced_base => ask!(has_zg_traced_base, zg_traced_base(one(0), w!(0), l!(0), one(2), one(3), p, v.cast())),
-        smaller_side => ask!(has_zg_smaller_side, zg_smaller_side(w!(0), l!(0), one(1), one(2), w!(1), l!(1), p)),
-        cut_matrix => ask!(has_zg_cut_matrix, zg_cut_matrix(f!(0), l!(0), one(1), w!(1), l!(1), one(3), f!(2), l!(2), p)),
-        dense_schmidt_values => ask!(has_zg_dense_schmidt_values,
-            zg_dense_schmidt_values(f!(0), l!(0), one(1), w!(1), l!(1), one(3), f!(2), l!(2), f!(3), l!(3), p, v.cast())),
-        dense_reduced_density => ask!(has_zg_dense_reduced_density,
-            zg_dense_reduced_density(f!(0), l!(0), one(1), w!(1), l!(1), one(3), f!(2), l!(2), f!(3), l!(3), p)),
-        mirror_lower_triangle => ask!(has_zg_mirror_lower_triangle, zg_mirror_lower_triangle(f!(0), l!(0), one(1), p)),
-        normalize_trace => ask!(has_zg_normalize_trace, zg_normalize_trace(f!(0), l!(0), one(1), p)),
-        multiply_block_factor => ask!(has_zg_multiply_block_factor,
-            zg_multiply_block_factor(f!(0), l!(0), one(1), w!(1), l!(1), f!(2), l!(2), one(4), p)),
-        svd_jacobi => ask!(has_zg_svd_jacobi,
-            zg_svd_jacobi(f!(0), l!(0), one(1), one(2), f!(1), l!(1), f!(2), l!(2), f!(3), l!(3), f!(4), l!(4), p)),
-        factorize_gram_schmidt => ask!(has_zg_factorize_gram_schmidt,
-            zg_factorize_gram_schmidt(f!(0), l!(0), one(1), one(2), f!(1), l!(1), f!(2), l!(2), f!(3), l!(3), p, v.cast())),
-        hermitian_eigenvalues => ask!(has_zg_hermitian_eigenvalues,
-            zg_hermitian_eigenvalues(f!(0), l!(0), one(1), f!(1), l!(1), f!(2), l!(2), p)),
-        finish_schmidt_values => ask!(has_zg_finish_schmidt_values,
-            zg_finish_schmidt_values(f!(0), l!(0), f!(1), l!(1), p, v.cast())),
-        schmidt_values_from_density => ask!(has_zg_schmidt_values_from_density,
-            zg_schmidt_values_from_density(f!(0), l!(0), one(1), f!(1), l!(1), f!(2), l!(2), p, v.cast())),
-        hermitian_eigen => ask!(has_zg_hermitian_eigen,
-            zg_hermitian_eigen(f!(0), l!(0), one(1), f!(1), l!(1), f!(2), l!(2), f!(3), l!(3), p)),
-        truncated_svd_rank => ask!(has_zg_truncated_svd_rank,
-            zg_truncated_svd_rank(f!(0), l!(0), call.float(1), one(2), p, v.cast())),
-        discards_resolvable_weight => ask!(has_zg_discards_resolvable_weight, {
-            let mut yes = false;
-            let number = zg_discards_resolvable_weight(f!(0), l!(0), one(1), p, &raw mut yes);
-            value = u64::from(yes);
-            number
-        }),
-        cut_rank => ask!(has_zg_cut_rank, zg_cut_rank(one(0), one(1), one(2), p, v)),
-        widest_block_cut => ask!(has_zg_widest_block_cut, zg_widest_block_cut(one(0), one(1), one(2), p, v)),
-        fill_isometry_site_data => ask!(has_zg_fill_isometry_site_data,
-            zg_fill_isometry_site_data(f!(0), l!(0), one(1), one(2), one(3), f!(1), l!(1), p)),
-        fill_scaled_u_site_data => ask!(has_zg_fill_scaled_u_site_data,
-            zg_fill_scaled_u_site_data(f!(0), l!(0), f!(1), l!(1), one(2), one(3), one(4), f!(2), l!(2), p)),
-        fill_vt_site_data => ask!(has_zg_fill_vt_site_data,
-            zg_fill_vt_site_data(f!(0), l!(0), one(1), one(2), one(3), one(4), f!(1), l!(1), p)),
-        fill_scaled_vt_data => ask!(has_zg_fill_scaled_vt_data,
-            zg_fill_scaled_vt_data(f!(0), l!(0), f!(1), l!(1), one(2), one(3), one(4), one(5), f!(2), l!(2), p)),
-        sqrt => ask!(has_zg_sqrt, { value = zg_sqrt(call.float(0)).to_bits(); never(p) }),
-        sqrt_bits => ask!(has_zg_sqrt_bits, { value = zg_sqrt_bits(one(0) as u64); never(p) }),
-        magnitude => ask!(has_zg_magnitude, { value = one_nan(zg_magnitude(call.float(0))); never(p) }),
-        sign => ask!(has_zg_sign, { value = one_nan(zg_sign(call.float(0))); never(p) }),
-        is_finite => ask!(has_zg_is_finite, { value = u64::from(zg_is_finite(call.float(0))); never(p) }),
-        component_allowed => ask!(has_zg_component_allowed, { value = u64::from(zg_component_allowed(call.float(0))); never(p) }),
-        total_order => ask!(has_zg_total_order, { value = u64::from(zg_total_order(call.float(0), call.float(1))); never(p) }),
-    };
-    let number = number?;
-    let value = if call.entry.returns() { value } else { 0 };
-    Some(copies.after().map(|slices| Outcome { number, place: place as u64, value, slices }))
+    let mut ready = Ready::new(call);
+    let number = ready.make()?;
+    Some(ready.outcome(number))
+}
+
+impl Ready<'_> {
+    /// Makes the call: its answer's number, or none where the library does not have it.
+    #[rustfmt::skip]
+    #[allow(unused_variables, unused_macros)]
+    pub fn make(&mut self) -> Option<u32> {
+        let call = self.call;
+        let one = |at: usize| call.one(at);
+        let p = &raw mut self.place;
+        let v = &raw mut self.value;
+        // A slice's pointer to floats, its pointer to whole numbers, its length.
+        macro_rules! f { ($slice:literal) => { self.pointer($slice).cast::<f64>() } }
+        macro_rules! w { ($slice:literal) => { self.pointer($slice).cast::<usize>() } }
+        macro_rules! l { ($slice:literal) => { self.length($slice) } }
+        match call.entry {
+            validate_qubit_set => ask!(has_zg_validate_qubit_set, zg_validate_qubit_set(w!(0), l!(0), one(1), p)),
+            validate_subsystem => ask!(has_zg_validate_subsystem, zg_validate_subsystem(w!(0), l!(0), one(1), p)),
+            row_offsets => ask!(has_zg_row_offsets, zg_row_offsets(w!(0), l!(0), one(1), one(2), w!(1), l!(1), p)),
+            traced_base => ask!(has_zg_traced_base, zg_traced_base(one(0), w!(0), l!(0), one(2), one(3), p, v.cast())),
+            smaller_side => ask!(has_zg_smaller_side, zg_smaller_side(w!(0), l!(0), one(1), one(2), w!(1), l!(1), p)),
+            cut_matrix => ask!(has_zg_cut_matrix, zg_cut_matrix(f!(0), l!(0), one(1), w!(1), l!(1), one(3), f!(2), l!(2), p)),
+            dense_schmidt_values => ask!(has_zg_dense_schmidt_values,
+                zg_dense_schmidt_values(f!(0), l!(0), one(1), w!(1), l!(1), one(3), f!(2), l!(2), f!(3), l!(3), p, v.cast())),
+            dense_reduced_density => ask!(has_zg_dense_reduced_density,
+                zg_dense_reduced_density(f!(0), l!(0), one(1), w!(1), l!(1), one(3), f!(2), l!(2), f!(3), l!(3), p)),
+            mirror_lower_triangle => ask!(has_zg_mirror_lower_triangle, zg_mirror_lower_triangle(f!(0), l!(0), one(1), p)),
+            normalize_trace => ask!(has_zg_normalize_trace, zg_normalize_trace(f!(0), l!(0), one(1), p)),
+            multiply_block_factor => ask!(has_zg_multiply_block_factor,
+                zg_multiply_block_factor(f!(0), l!(0), one(1), w!(1), l!(1), f!(2), l!(2), one(4), p)),
+            svd_jacobi => ask!(has_zg_svd_jacobi,
+                zg_svd_jacobi(f!(0), l!(0), one(1), one(2), f!(1), l!(1), f!(2), l!(2), f!(3), l!(3), f!(4), l!(4), p)),
+            factorize_gram_schmidt => ask!(has_zg_factorize_gram_schmidt,
+                zg_factorize_gram_schmidt(f!(0), l!(0), one(1), one(2), f!(1), l!(1), f!(2), l!(2), f!(3), l!(3), p, v.cast())),
+            hermitian_eigenvalues => ask!(has_zg_hermitian_eigenvalues,
+                zg_hermitian_eigenvalues(f!(0), l!(0), one(1), f!(1), l!(1), f!(2), l!(2), p)),
+            finish_schmidt_values => ask!(has_zg_finish_schmidt_values,
+                zg_finish_schmidt_values(f!(0), l!(0), f!(1), l!(1), p, v.cast())),
+            schmidt_values_from_density => ask!(has_zg_schmidt_values_from_density,
+                zg_schmidt_values_from_density(f!(0), l!(0), one(1), f!(1), l!(1), f!(2), l!(2), p, v.cast())),
+            hermitian_eigen => ask!(has_zg_hermitian_eigen,
+                zg_hermitian_eigen(f!(0), l!(0), one(1), f!(1), l!(1), f!(2), l!(2), f!(3), l!(3), p)),
+            truncated_svd_rank => ask!(has_zg_truncated_svd_rank,
+                zg_truncated_svd_rank(f!(0), l!(0), call.float(1), one(2), p, v.cast())),
+            discards_resolvable_weight => ask!(has_zg_discards_resolvable_weight, {
+                let mut yes = false;
+                let number = zg_discards_resolvable_weight(f!(0), l!(0), one(1), p, &raw mut yes);
+                self.value = u64::from(yes);
+                number
+            }),
+            cut_rank => ask!(has_zg_cut_rank, zg_cut_rank(one(0), one(1), one(2), p, v)),
+            widest_block_cut => ask!(has_zg_widest_block_cut, zg_widest_block_cut(one(0), one(1), one(2), p, v)),
+            fill_isometry_site_data => ask!(has_zg_fill_isometry_site_data,
+                zg_fill_isometry_site_data(f!(0), l!(0), one(1), one(2), one(3), f!(1), l!(1), p)),
+            fill_scaled_u_site_data => ask!(has_zg_fill_scaled_u_site_data,
+                zg_fill_scaled_u_site_data(f!(0), l!(0), f!(1), l!(1), one(2), one(3), one(4), f!(2), l!(2), p)),
+            fill_vt_site_data => ask!(has_zg_fill_vt_site_data,
+                zg_fill_vt_site_data(f!(0), l!(0), one(1), one(2), one(3), one(4), f!(1), l!(1), p)),
+            fill_scaled_vt_data => ask!(has_zg_fill_scaled_vt_data,
+                zg_fill_scaled_vt_data(f!(0), l!(0), f!(1), l!(1), one(2), one(3), one(4), one(5), f!(2), l!(2), p)),
+            sqrt => ask!(has_zg_sqrt, { self.value = zg_sqrt(call.float(0)).to_bits(); never(p) }),
+            sqrt_bits => ask!(has_zg_sqrt_bits, { self.value = zg_sqrt_bits(one(0) as u64); never(p) }),
+            magnitude => ask!(has_zg_magnitude, { self.value = one_nan(zg_magnitude(call.float(0))); never(p) }),
+            sign => ask!(has_zg_sign, { self.value = one_nan(zg_sign(call.float(0))); never(p) }),
+            is_finite => ask!(has_zg_is_finite, { self.value = u64::from(zg_is_finite(call.float(0))); never(p) }),
+            component_allowed => ask!(has_zg_component_allowed, { self.value = u64::from(zg_component_allowed(call.float(0))); never(p) }),
+            total_order => ask!(has_zg_total_order, { self.value = u64::from(zg_total_order(call.float(0), call.float(1))); never(p) }),
+        }
+    }
 }
