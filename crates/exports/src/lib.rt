@@ -9,12 +9,13 @@ ghost use Prim.Native.Nat.{_≤_};
 ghost use Rattle.exports.specs.Told.{Told, Exported, ExportedWith};
 ghost use lib.Ieee.{binary64, toBits, ofBits};
 ghost use Rattle.numbers.specs.Root.{sqrtOf};
-ghost use Rattle.numbers.specs.Numbers.{magnitudeOf, signOf, finite, totalOrder, orderNumber, allowed};
+ghost use Rattle.numbers.specs.Numbers.{magnitudeOf, signOf, finite, totalOrder, orderNumber, allowed, totalLess};
 ghost use Rattle.qubits.specs.Lists.{qubitSet, subsystem};
 ghost use Rattle.offsets.specs.Calls.{RowOffsets, TracedBase};
 ghost use Rattle.densities.specs.Square.{squareAnswer, InPlace};
 ghost use Rattle.entries.specs.Squares.{mirrored};
 ghost use Rattle.finish.specs.Outcome as finish;
+ghost use Rattle.sides.specs.Sides.{SmallerSide};
 
 // Inner: a number of the paper's table, as C has it.
 fn small(n: usize) -> u32
@@ -85,6 +86,13 @@ pub extern "C" fn zg_component_allowed(x: f64) -> bool
     numbers::component_allowed(x)
 }
 
+#[no_mangle]
+pub extern "C" fn zg_total_less(x: f64, y: f64) -> bool
+    ensures { λ r. ⌜ r ≡ totalLess x y ⌝ }
+{
+    numbers::total_less(x, y)
+}
+
 // ---- lists of qubits
 
 #[no_mangle]
@@ -129,6 +137,19 @@ pub extern "C" fn zg_traced_base(
     *base = k.base;
     let answer = k.answer;
     told(answer, place)
+}
+
+#[no_mangle]
+pub extern "C" fn zg_smaller_side(
+    list: &[usize],
+    n: usize,
+    cap: usize,
+    others: &mut [usize],
+    place: &mut usize,
+) -> u32
+    ensures { λ r. ⌜ Exported (λ a. SmallerSide (now (list .entry)) n cap (now (others .entry)) a (now (others .exit))) r (now (place .exit)) ⌝ }
+{
+    told(sides::smaller_side(list, n, cap, others), place)
 }
 
 // ---- densities

@@ -1,0 +1,162 @@
+//! The declarations of `include/zegrafult.h`.
+
+extern "C" {
+    pub fn zg_sqrt(x: f64) -> f64;
+    pub fn zg_sqrt_bits(bits: u64) -> u64;
+    pub fn zg_magnitude(x: f64) -> f64;
+    pub fn zg_sign(x: f64) -> f64;
+    pub fn zg_is_finite(x: f64) -> bool;
+    pub fn zg_component_allowed(x: f64) -> bool;
+    pub fn zg_total_order(x: f64, y: f64) -> u32;
+
+    pub fn zg_validate_qubit_set(list: *const usize, list_len: usize, n: usize, place: &mut usize) -> u32;
+    pub fn zg_validate_subsystem(list: *const usize, list_len: usize, n: usize, place: &mut usize) -> u32;
+    pub fn zg_row_offsets(
+        list: *const usize,
+        list_len: usize,
+        n: usize,
+        cap: usize,
+        out: *mut usize,
+        out_len: usize,
+        place: &mut usize,
+    ) -> u32;
+    pub fn zg_traced_base(
+        e: usize,
+        list: *const usize,
+        list_len: usize,
+        n: usize,
+        cap: usize,
+        place: &mut usize,
+        base: &mut usize,
+    ) -> u32;
+    pub fn zg_smaller_side(
+        list: *const usize,
+        list_len: usize,
+        n: usize,
+        cap: usize,
+        others: *mut usize,
+        others_len: usize,
+        place: &mut usize,
+    ) -> u32;
+    pub fn zg_cut_matrix(
+        state: *const f64,
+        state_len: usize,
+        n: usize,
+        list: *const usize,
+        list_len: usize,
+        cap: usize,
+        out: *mut f64,
+        out_len: usize,
+        place: &mut usize,
+    ) -> u32;
+    pub fn zg_dense_schmidt_values(
+        state: *const f64,
+        state_len: usize,
+        n: usize,
+        list: *const usize,
+        list_len: usize,
+        cap: usize,
+        out: *mut f64,
+        out_len: usize,
+        scratch: *mut f64,
+        scratch_len: usize,
+        place: &mut usize,
+        count: &mut usize,
+    ) -> u32;
+    pub fn zg_dense_reduced_density(
+        state: *const f64,
+        state_len: usize,
+        n: usize,
+        list: *const usize,
+        list_len: usize,
+        cap: usize,
+        out: *mut f64,
+        out_len: usize,
+        scratch: *mut f64,
+        scratch_len: usize,
+        place: &mut usize,
+    ) -> u32;
+    pub fn zg_mirror_lower_triangle(rho: *mut f64, rho_len: usize, dim: usize, place: &mut usize) -> u32;
+    pub fn zg_normalize_trace(rho: *mut f64, rho_len: usize, dim: usize, place: &mut usize) -> u32;
+    pub fn zg_multiply_block_factor(
+        rho: *mut f64,
+        rho_len: usize,
+        dim: usize,
+        positions: *const usize,
+        positions_len: usize,
+        factor: *const f64,
+        factor_len: usize,
+        side: usize,
+        place: &mut usize,
+    ) -> u32;
+    pub fn zg_svd_jacobi(
+        a: *const f64,
+        a_len: usize,
+        m: usize,
+        n: usize,
+        u: *mut f64,
+        u_len: usize,
+        s: *mut f64,
+        s_len: usize,
+        vt: *mut f64,
+        vt_len: usize,
+        scratch: *mut f64,
+        scratch_len: usize,
+        place: &mut usize,
+    ) -> u32;
+    pub fn zg_factorize_gram_schmidt(
+        a: *const f64,
+        a_len: usize,
+        rows: usize,
+        cols: usize,
+        q: *mut f64,
+        q_len: usize,
+        r: *mut f64,
+        r_len: usize,
+        scratch: *mut f64,
+        scratch_len: usize,
+        place: &mut usize,
+        rank: &mut usize,
+    ) -> u32;
+    pub fn zg_hermitian_eigenvalues(
+        a: *const f64,
+        a_len: usize,
+        dim: usize,
+        out: *mut f64,
+        out_len: usize,
+        scratch: *mut f64,
+        scratch_len: usize,
+        place: &mut usize,
+    ) -> u32;
+    pub fn zg_finish_schmidt_values(
+        values: *const f64,
+        values_len: usize,
+        out: *mut f64,
+        out_len: usize,
+        place: &mut usize,
+        count: &mut usize,
+    ) -> u32;
+    pub fn zg_schmidt_values_from_density(
+        rho: *const f64,
+        rho_len: usize,
+        dim: usize,
+        out: *mut f64,
+        out_len: usize,
+        scratch: *mut f64,
+        scratch_len: usize,
+        place: &mut usize,
+        count: &mut usize,
+    ) -> u32;
+    pub fn zg_hermitian_eigen(
+        matrix: *const f64,
+        matrix_len: usize,
+        dim: usize,
+        values: *mut f64,
+        values_len: usize,
+        vectors: *mut f64,
+        vectors_len: usize,
+        scratch: *mut f64,
+        scratch_len: usize,
+        place: &mut usize,
+    ) -> u32;
+}

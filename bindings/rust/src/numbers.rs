@@ -1,0 +1,46 @@
+//! Number helpers: nothing is refused.
+use crate::ffi;
+use std::cmp::Ordering;
+
+/// The float nearest to the exact square root.
+///
+/// ```
+/// assert_eq!(zegrafult::sqrt(2.0).to_bits(), 0x3FF6_A09E_667F_3BCD);
+/// assert_eq!(zegrafult::sqrt(-1.0).to_bits(), 0x7FF8_0000_0000_0000);
+/// ```
+pub fn sqrt(x: f64) -> f64 {
+    unsafe { ffi::zg_sqrt(x) }
+}
+
+/// [`sqrt`] on bit patterns.
+pub fn sqrt_bits(bits: u64) -> u64 {
+    unsafe { ffi::zg_sqrt_bits(bits) }
+}
+
+/// The sign cleared, that of -0 too.
+pub fn magnitude(x: f64) -> f64 {
+    unsafe { ffi::zg_magnitude(x) }
+}
+
+/// 1 for +0.0 and above, -1 for -0.0 and below, NaN for NaN.
+pub fn sign(x: f64) -> f64 {
+    unsafe { ffi::zg_sign(x) }
+}
+
+pub fn is_finite(x: f64) -> bool {
+    unsafe { ffi::zg_is_finite(x) }
+}
+
+/// Finite and of magnitude at most 2^200.
+pub fn component_allowed(x: f64) -> bool {
+    unsafe { ffi::zg_component_allowed(x) }
+}
+
+/// The total order: -0 is below +0, a NaN above all else.
+pub fn total_order(x: f64, y: f64) -> Ordering {
+    match unsafe { ffi::zg_total_order(x, y) } {
+        0 => Ordering::Less,
+        1 => Ordering::Equal,
+        _ => Ordering::Greater,
+    }
+}

@@ -1,0 +1,138 @@
+//! Schmidt values and spectra.
+use crate::{area, ffi, numbers_of, numbers_of_mut, power, refusal::answered, Complex, Refusal};
+
+/// The Schmidt values of the cut between the listed qubits and the rest, falling, their squares summing to 1.
+pub fn dense_schmidt_values(state: &[Complex], n: usize, list: &[usize], cap: usize) -> Result<Vec<f64>, Refusal> {
+    let side = list.len().min(n.saturating_sub(list.len()));
+    let mut out = vec![0.0; power(side)];
+    let mut scratch = vec![0.0; 8 * power(n) + 2 * power(side)];
+    let (mut place, mut count) = (0, 0);
+    let (s, s_len) = numbers_of(state);
+    let number = unsafe {
+        ffi::zg_dense_schmidt_values(
+            s,
+            s_len,
+            n,
+            list.as_ptr(),
+            list.len(),
+            cap,
+            out.as_mut_ptr(),
+            out.len(),
+            scratch.as_mut_ptr(),
+            scratch.len(),
+            &mut place,
+            &mut count,
+        )
+    };
+    out.truncate(count);
+    answered(number, place, out)
+}
+
+/// Sorted downward, cut at the floor, scaled to unit length.
+///
+/// ```
+/// assert_eq!(zegrafult::finish_schmidt_values(&[3.0, 4.0, 0.0])?, [0.8, 0.6000000000000001]);
+/// # Ok::<(), zegrafult::Refusal>(())
+/// ```
+pub fn finish_schmidt_values(values: &[f64]) -> Result<Vec<f64>, Refusal> {
+    let mut out = vec![0.0; values.len()];
+    let (mut place, mut count) = (0, 0);
+    let number = unsafe {
+        ffi::zg_finish_schmidt_values(
+            values.as_ptr(),
+            values.len(),
+            out.as_mut_ptr(),
+            out.len(),
+            &mut place,
+            &mut count,
+        )
+    };
+    out.truncate(count);
+    answered(number, place, out)
+}
+
+/// The eigenvalues of a Hermitian matrix of side 1 to 64, as the sweeps leave them on the diagonal.
+///
+/// ```
+/// use zegrafult::{hermitian_eigenvalues, Complex};
+///
+/// assert_eq!(hermitian_eigenvalues(&[2.0, 0.0, 0.0, 5.0].map(Complex::real), 2)?.len(), 2);
+/// # Ok::<(), zegrafult::Refusal>(())
+/// ```
+pub fn hermitian_eigenvalues(a: &[Complex], dim: usize) -> Result<Vec<f64>, Refusal> {
+    let cells = area(dim, dim);
+    let mut out = vec![0.0; if cells == 0 { 0 } else { dim }];
+    let mut scratch = vec![0.0; 2 * cells];
+    let mut place = 0;
+    let (a, a_len) = numbers_of(a);
+    let number = unsafe {
+        ffi::zg_hermitian_eigenvalues(
+            a,
+            a_len,
+            dim,
+            out.as_mut_ptr(),
+            out.len(),
+            scratch.as_mut_ptr(),
+            scratch.len(),
+            &mut place,
+        )
+    };
+    answered(number, place, out)
+}
+
+/// The Schmidt values that a density matrix gives.
+pub fn schmidt_values_from_density(rho: &[Complex], dim: usize) -> Result<Vec<f64>, Refusal> {
+    let cells = area(dim, dim);
+    let mut out = vec![0.0; if cells == 0 { 0 } else { dim }];
+    let mut scratch = vec![0.0; 2 * cells];
+    let (mut place, mut count) = (0, 0);
+    let (r, r_len) = numbers_of(rho);
+    let number = unsafe {
+        ffi::zg_schmidt_values_from_density(
+            r,
+            r_len,
+            dim,
+            out.as_mut_ptr(),
+            out.len(),
+            scratch.as_mut_ptr(),
+            scratch.len(),
+            &mut place,
+            &mut count,
+        )
+    };
+    out.truncate(count);
+    answered(number, place, out)
+}
+
+/// Eigenvalues rising, each with its vector: vector j is the cells from j * dim on.
+#[derive(Clone, Debug, PartialEq)]
+pub struct Eigen {
+    pub values: Vec<f64>,
+    pub vectors: Vec<Complex>,
+}
+
+/// The eigenvalues and vectors of a Hermitian matrix.
+pub fn hermitian_eigen(matrix: &[Complex], dim: usize) -> Result<Eigen, Refusal> {
+    let cells = area(dim, dim);
+    let mut values = vec![0.0; if cells == 0 { 0 } else { dim }];
+    let mut vectors = vec![Complex::default(); cells];
+    let mut scratch = vec![0.0; 6 * cells + 2 * values.len()];
+    let mut place = 0;
+    let (m, m_len) = numbers_of(matrix);
+    let (v, v_len) = numbers_of_mut(&mut vectors);
+    let number = unsafe {
+        ffi::zg_hermitian_eigen(
+            m,
+            m_len,
+            dim,
+            values.as_mut_ptr(),
+            values.len(),
+            v,
+            v_len,
+            scratch.as_mut_ptr(),
+            scratch.len(),
+            &mut place,
+        )
+    };
+    answered(number, place, Eigen { values, vectors })
+}
