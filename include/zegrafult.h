@@ -41,6 +41,8 @@ double zg_sign(double x);
 bool zg_is_finite(double x);
 /* Finite and of magnitude at most 2^200. */
 bool zg_component_allowed(double x);
+/* Whether x is below y in the total order: -0 is below +0, a NaN above all else. */
+bool zg_total_less(double x, double y);
 /* 0 x below y, 1 equal, 2 above; -0 is below +0, a NaN above all else. */
 uint32_t zg_total_order(double x, double y);
 
@@ -56,6 +58,18 @@ uint32_t zg_row_offsets(const size_t *list, size_t list_len, size_t n, size_t ca
 /* e spread over the qubits that are not listed, lowest first. Refused by 1 (e of 2^(n-k) or more too) to 4. */
 uint32_t zg_traced_base(size_t e, const size_t *list, size_t list_len, size_t n, size_t cap, size_t *place,
                         size_t *base);
+
+/* Slices: list 0, others 1 (n - k numbers, needed only where the others are the smaller side). Where n - k is below
+ * k, the others are written in rising order; the smaller side is then others, else list. Refused as a cut by 1 to 6. */
+uint32_t zg_smaller_side(const size_t *list, size_t list_len, size_t n, size_t cap, size_t *others, size_t others_len,
+                         size_t *place);
+
+/* ---- the cut */
+
+/* Slices: state 0 (exactly 2*2^n numbers), list 1, out 2 (2*2^n). The cut matrix: rows 2^side, columns 2^(n-side),
+ * column-major. Refused by 1 to 7. */
+uint32_t zg_cut_matrix(const double *state, size_t state_len, size_t n, const size_t *list, size_t list_len, size_t cap,
+                       double *out, size_t out_len, size_t *place);
 
 /* ---- densities */
 

@@ -16,6 +16,7 @@ ghost use Rattle.densities.specs.Square.{squareAnswer, InPlace};
 ghost use Rattle.entries.specs.Squares.{mirrored};
 ghost use Rattle.finish.specs.Outcome as finish;
 ghost use Rattle.sides.specs.Sides.{SmallerSide};
+ghost use Rattle.cuts.specs.Cut.{CutMatrix};
 
 // Inner: a number of the paper's table, as C has it.
 fn small(n: usize) -> u32
@@ -150,6 +151,20 @@ pub extern "C" fn zg_smaller_side(
     ensures { λ r. ⌜ Exported (λ a. SmallerSide (now (list .entry)) n cap (now (others .entry)) a (now (others .exit))) r (now (place .exit)) ⌝ }
 {
     told(sides::smaller_side(list, n, cap, others), place)
+}
+
+#[no_mangle]
+pub extern "C" fn zg_cut_matrix(
+    state: &[f64],
+    n: usize,
+    list: &[usize],
+    cap: usize,
+    out: &mut [f64],
+    place: &mut usize,
+) -> u32
+    ensures { λ r. ⌜ Exported (λ a. CutMatrix (now (state .entry)) n (now (list .entry)) cap (now (out .entry)) a (now (out .exit))) r (now (place .exit)) ⌝ }
+{
+    told(cuts::cut_matrix(state, n, list, cap, out), place)
 }
 
 // ---- densities
