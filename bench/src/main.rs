@@ -1,0 +1,183 @@
+//! Times the port's entry points and the published Rust on the same inputs, in one process: rounds interleaved, buffers
+//! warm, both built for release. A row is a call at a size: the medians in microseconds and the port's time as a part of
+//! the Rust's. An entry point that the library lacks is left out.
+
+use std::hint::black_box;
+use std::time::Instant;
+
+use harness::call::{Arg, Call, Entry, Entry::*};
+use harness::oracle::cells;
+use harness::random::Random;
+use num_complex::Complex64;
+use published::backend::mps::svd::door as svd;
+use published::backend::reduced_density::door as density;
+use published::backend::schmidt::door as schmidt;
+use published::gates::spectral::door as spectral;
+
+/// A call of the port, and the same work by the Rust.
+struct Row {
+    name: &'static str,
+    size: String,
+    call: Call,
+    rust: Box<dyn Fn()>,
+}
+
+fn drawn(rng: &mut Random, count: usize) -> Vec<f64> {
+    (0..count).map(|_| rng.unit()).collect()
+}
+
+fn many(numbers: &[f64]) -> Arg {
+    Arg::Many(numbers.iter().map(|x| x.to_bits()).collect())
+}
+
+fn lent(count: usize) -> Arg {
+    Arg::Many(vec![0; count])
+}
+
+fn one(x: usize) -> Arg {
+    Arg::One(x as u64)
+}
+
+fn row(name: &'static str, size: String, entry: Entry, args: Vec<Arg>, rust: impl Fn() + 'static) -> Row {
+    Row { name, size, call: Call::new(entry, args), rust: Box::new(rust) }
+}
+
+fn svd_row(rng: &mut Random, m: usize, n: usize) -> Row {
+    let (a, k) = (drawn(rng, 2 * m * n), m.min(n));
+    let args = vec![many(&a), one(m), one(n), lent(2 * m * k), lent(k), lent(2 * k * n), lent(6 * m * n + 2 * k)];
+    let a = cells(&a);
+    row("svd_jacobi", format!("{m}×{n}"), svd_jacobi, args, move || {
+        black_box(svd::svd_jacobi(black_box(&a), m, n));
+    })
+}
+
+fn qr_row(rng: &mut Random, m: usize, n: usize) -> Row {
+    let (a, k) = (drawn(rng, 2 * m * n), m.min(n));
+    let args = vec![many(&a), one(m), one(n), lent(2 * m * k), lent(2 * k * n), lent(2 * m)];
+    let a = cells(&a);
+    row("factorize_gram_schmidt", format!("{m}×{n}"), factorize_gram_schmidt, args, move || {
+        black_box(svd::factorize_gram_schmidt(black_box(&a), m, n));
+    })
+}
+
+fn list(k: usize) -> Arg {
+    Arg::Many((0..k as u64).collect())
+}
+
+fn values_row(rng: &mut Random, n: usize, k: usize) -> Row {
+    let (state, side) = (drawn(rng, 2 << n), 1 << k.min(n - k));
+    let args = vec![many(&state), one(n), list(k), one(13), lent(side), lent((8 << n) + 2 * side)];
+    let (state, named): (Vec<Complex64>, Vec<usize>) = (cells(&state), (0..k).collect());
+    row("dense_schmidt_values", format!("n={n} k={k}"), dense_schmidt_values, args, move || {
+        black_box(schmidt::dense_schmidt_values(black_box(&state), n, &named, 13).is_ok());
+    })
+}
+
+fn density_row(rng: &mut Random, n: usize, k: usize) -> Row {
+    let state = drawn(rng, 2 << n);
+    let args = vec![many(&state), one(n), list(k), one(13), lent(2 << (2 * k)), lent(2 << k)];
+    let (state, named): (Vec<Complex64>, Vec<usize>) = (cells(&state), (0..k).collect());
+    row("dense_reduced_density", format!("n={n} k={k}"), dense_reduced_density, args, move || {
+        black_box(density::dense_reduced_density(black_box(&state), n, &named));
+    })
+}
+
+/// A Hermitian matrix.
+fn hermitian(rng: &mut Random, dim: usize) -> Vec<f64> {
+    let mut a = drawn(rng, 2 * dim * dim);
+    for t in 0..dim {
+        a[2 * (t * dim + t) + 1] = 0.0;
+        for u in 0..t {
+            a[2 * (u * dim + t)] = a[2 * (t * dim + u)];
+            a[2 * (u * dim + t) + 1] = -a[2 * (t * dim + u) + 1];
+        }
+    }
+    a
+}
+
+fn eigenvalues_row(rng: &mut Random, dim: usize) -> Row {
+    let a = hermitian(rng, dim);
+    let args = vec![many(&a), one(dim), lent(dim), lent(2 * dim * dim)];
+    let a = cells(&a);
+    row("hermitian_eigenvalues", format!("{dim}×{dim}"), hermitian_eigenvalues, args, move || {
+        black_box(schmidt::hermitian_eigenvalues(black_box(&a), dim));
+    })
+}
+
+fn eigen_row(rng: &mut Random, dim: usize) -> Row {
+    let a = hermitian(rng, dim);
+    let args = vec![many(&a), one(dim), lent(dim), lent(2 * dim * dim), lent(6 * dim * dim + 2 * dim)];
+    let a = cells(&a);
+    row("hermitian_eigen", format!("{dim}×{dim}"), hermitian_eigen, args, move || {
+        black_box(spectral::hermitian_eigen(black_box(&a), dim));
+    })
+}
+
+fn sqrt_row(rng: &mut Random) -> Row {
+    let x = rng.unit().abs();
+    row("sqrt", "one".into(), sqrt, vec![Arg::One(x.to_bits())], move || {
+        black_box(black_box(x).sqrt());
+    })
+}
+
+fn rows() -> Vec<Row> {
+    let rng = &mut Random::new(1);
+    let mut rows = vec![];
+    for (m, n) in [(2, 2), (4, 4), (8, 8), (16, 16), (32, 32), (64, 64), (8, 512)] {
+        rows.push(svd_row(rng, m, n));
+    }
+    for (n, k) in [(4, 2), (6, 3), (8, 4), (10, 5), (12, 6), (12, 3)] {
+        rows.push(values_row(rng, n, k));
+    }
+    rows.extend((1..=6).map(|k| density_row(rng, 12, k)));
+    for (m, n) in [(8, 8), (16, 16), (64, 64), (512, 8)] {
+        rows.push(qr_row(rng, m, n));
+    }
+    rows.extend([16, 64].map(|dim| eigenvalues_row(rng, dim)));
+    rows.extend([4, 8, 16, 32, 64].map(|dim| eigen_row(rng, dim)));
+    rows.push(sqrt_row(rng));
+    rows
+}
+
+/// The seconds that `turns` calls take.
+fn timed(turns: usize, mut work: impl FnMut()) -> f64 {
+    let start = Instant::now();
+    (0..turns).for_each(|_| work());
+    start.elapsed().as_secs_f64()
+}
+
+fn median(mut times: Vec<f64>) -> f64 {
+    times.sort_by(f64::total_cmp);
+    times[times.len() / 2]
+}
+
+/// The medians of a call of each, in microseconds.
+fn medians(row: &Row, rounds: usize) -> Option<(f64, f64)> {
+    let mut ready = port::Ready::new(&row.call);
+    if ready.make()? != 0 {
+        eprintln!("bench: {} {} was refused", row.name, row.size);
+        return None;
+    }
+    let once = timed(3, || (row.rust)()) / 3.0;
+    let turns = ((2e-3 / once.max(1e-8)) as usize).clamp(1, 100_000);
+    let (mut ours, mut theirs) = (vec![], vec![]);
+    for _ in 0..rounds {
+        ours.push(timed(turns, || {
+            black_box(ready.make());
+        }));
+        theirs.push(timed(turns, || (row.rust)()));
+    }
+    let each = |times| 1e6 * median(times) / turns as f64;
+    Some((each(ours), each(theirs)))
+}
+
+fn main() {
+    let rounds = std::env::args().nth(1).and_then(|word| word.parse().ok()).unwrap_or(41);
+    println!("| call | size | port, µs | Rust, µs | ratio |");
+    println!("|---|---|---|---|---|");
+    for row in rows() {
+        if let Some((ours, theirs)) = medians(&row, rounds) {
+            println!("| {} | {} | {ours:.3} | {theirs:.3} | {:.2} |", row.name, row.size, ours / theirs);
+        }
+    }
+}
