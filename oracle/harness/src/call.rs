@@ -35,6 +35,7 @@ pub enum Entry {
     sign,
     is_finite,
     component_allowed,
+    total_less,
     total_order,
 }
 
@@ -52,7 +53,7 @@ pub enum Kind {
 use Entry::*;
 use Kind::*;
 
-pub const ENTRIES: [Entry; 32] = [
+pub const ENTRIES: [Entry; 33] = [
     validate_qubit_set,
     validate_subsystem,
     row_offsets,
@@ -84,6 +85,7 @@ pub const ENTRIES: [Entry; 32] = [
     sign,
     is_finite,
     component_allowed,
+    total_less,
     total_order,
 ];
 
@@ -117,7 +119,7 @@ impl Entry {
             fill_scaled_vt_data => &[Floats, Floats, Word, Word, Word, Word, MutFloats],
             sqrt | magnitude | sign | is_finite | component_allowed => &[Float],
             sqrt_bits => &[Word],
-            total_order => &[Float, Float],
+            total_less | total_order => &[Float, Float],
         }
     }
 

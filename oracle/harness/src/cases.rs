@@ -492,7 +492,7 @@ pub fn accepted(rng: &mut Random, entry: Entry, bounds: Bounds) -> Call {
         sqrt | magnitude | sign | is_finite | component_allowed | sqrt_bits => {
             Call::new(entry, vec![Arg::One(any_bits(rng))])
         }
-        total_order => {
+        total_less | total_order => {
             let a = any_bits(rng);
             let b = if rng.chance(3) { a.wrapping_add(rng.below(3) as u64).wrapping_sub(1) } else { any_bits(rng) };
             Call::new(entry, vec![Arg::One(a), Arg::One(b)])

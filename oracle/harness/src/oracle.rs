@@ -163,10 +163,8 @@ macro_rules! build {
                     component_allowed => done(table::allowed(call.one(0) as u64) as u64, vec![]),
                     is_finite => done(call.float(0).is_finite() as u64, vec![]),
                     // With one NaN only: the Rust's order tells NaNs apart by sign and payload.
-                    total_order => {
-                        let [a, b] = [0, 1].map(|at| f64::from_bits(one_nan(call.float(at))));
-                        done((a.total_cmp(&b) as i64 + 1) as u64, vec![])
-                    }
+                    total_less => done(total_order_of(call).is_lt() as u64, vec![]),
+                    total_order => done((total_order_of(call) as i64 + 1) as u64, vec![]),
                 }
             }
         }
@@ -178,6 +176,11 @@ build!(as_replaced, replaced);
 
 /// The one NaN that the paper names.
 pub const NAN: u64 = 0x7FF8000000000000;
+
+fn total_order_of(call: &Call) -> std::cmp::Ordering {
+    let [a, b] = [0, 1].map(|at| f64::from_bits(one_nan(call.float(at))));
+    a.total_cmp(&b)
+}
 
 fn one_nan(x: f64) -> u64 {
     if x.is_nan() { NAN } else { x.to_bits() }

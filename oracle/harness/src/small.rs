@@ -288,7 +288,7 @@ fn on_numbers(entry: Entry, see: &mut impl FnMut(Call)) {
     words.extend([edge - 1, edge, edge + 1]);
     let signed: Vec<u64> = words.iter().flat_map(|&word| [word, word | 1 << 63]).collect();
     for (at, &word) in signed.iter().enumerate() {
-        if entry == total_order {
+        if matches!(entry, total_less | total_order) {
             for other in [signed[(at + 1) % signed.len()], word, word ^ 1 << 63, signed[(at * 31 + 7) % signed.len()]] {
                 see(Call::new(entry, vec![Arg::One(word), Arg::One(other)]));
             }
@@ -333,7 +333,9 @@ pub fn each(entry: Entry, see: &mut impl FnMut(Call)) {
         | fill_scaled_u_site_data
         | fill_vt_site_data
         | fill_scaled_vt_data => on_bonds(rng, entry, see),
-        sqrt | sqrt_bits | magnitude | sign | is_finite | component_allowed | total_order => on_numbers(entry, see),
+        sqrt | sqrt_bits | magnitude | sign | is_finite | component_allowed | total_less | total_order => {
+            on_numbers(entry, see)
+        }
     }
 }
 

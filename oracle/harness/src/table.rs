@@ -100,6 +100,7 @@ fn sizes_allowed(call: &Call) -> bool {
         | sign
         | is_finite
         | component_allowed
+        | total_less
         | total_order => true,
     }
 }
@@ -193,7 +194,7 @@ pub fn roles(call: &Call) -> Vec<Role> {
         }
         truncated_svd_rank | discards_resolvable_weight => vec![Free],
         cut_rank | widest_block_cut | sqrt | sqrt_bits | magnitude | sign | is_finite | component_allowed
-        | total_order => vec![],
+        | total_less | total_order => vec![],
     }
 }
 

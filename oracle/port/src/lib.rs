@@ -40,6 +40,7 @@ unsafe extern "C" {
     pub fn zg_magnitude(x: f64) -> f64;
     pub fn zg_sign(x: f64) -> f64;
     pub fn zg_is_finite(x: f64) -> bool;
+    pub fn zg_total_less(x: f64, y: f64) -> bool;
     pub fn zg_total_order(x: f64, y: f64) -> u32;
     pub fn zg_component_allowed(x: f64) -> bool;
 }
@@ -189,6 +190,7 @@ impl Ready<'_> {
             sign => ask!(has_zg_sign, { self.value = one_nan(zg_sign(call.float(0))); never(p) }),
             is_finite => ask!(has_zg_is_finite, { self.value = u64::from(zg_is_finite(call.float(0))); never(p) }),
             component_allowed => ask!(has_zg_component_allowed, { self.value = u64::from(zg_component_allowed(call.float(0))); never(p) }),
+            total_less => ask!(has_zg_total_less, { self.value = u64::from(zg_total_less(call.float(0), call.float(1))); never(p) }),
             total_order => ask!(has_zg_total_order, { self.value = u64::from(zg_total_order(call.float(0), call.float(1))); never(p) }),
         }
     }
