@@ -166,7 +166,7 @@ basis-kept (suc k) q h = (refl, omega arith)
 
 -- ---- the whole
 
-zeroed-all : (old : List Float) {n : ℕ} → length old ≡ n → zeroed (length old) old ≡ zeros n
+pub zeroed-all : (old : List Float) {n : ℕ} → length old ≡ n → zeroed (length old) old ≡ zeros n
 unfolding zeroed
 zeroed-all old h = rw (drop-of-length-le old {i = length old} (omega arith)) (append-nil (zeros (length old)) ∙ ap zeros h)
 

@@ -1,0 +1,3 @@
+-- What the contracts of `qr` cite.
+pub mod Call
+pub mod CallLaws
