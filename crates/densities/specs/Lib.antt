@@ -1,3 +1,7 @@
 -- What the contracts of `densities` cite.
 pub mod Square
 pub mod SquareLaws
+pub mod Density
+pub mod DensityLaws
+pub mod Trace
+pub mod TraceLaws

@@ -1,9 +1,14 @@
-// Densities: the mirror of a lower triangle.
+// The unscaled density of the listed qubits, and the mirror of a lower triangle.
 use answers::Answer;
 ghost use mathlib.Core.Path.{_≡_};
+ghost use Prim.Native.Nat.{_*_, _≤_};
+ghost use lib.ListN.{length};
 ghost use Rattle.answers.specs.Paper.{paper};
-ghost use Rattle.entries.specs.Squares.{mirrored};
+ghost use Rattle.complex.specs.Cells.{written};
+ghost use Rattle.entries.specs.Squares.{mirrored, Square};
 ghost use Rattle.densities.specs.Square.{squareAnswer, InPlace};
+ghost use Rattle.densities.specs.Trace.{traceOf, finiteCells, scaledCell, normalizeAnswer, normalized};
+ghost use Rattle.densities.specs.Density.{densityLengths, densityAnswer, densityList, Density, Accepted};
 
 // A square matrix among a call's own arguments: 1 by its side, 6 by its length, 7 by its components.
 fn square_refusal(rho: &[f64], dim: usize) -> Answer
@@ -31,5 +36,154 @@ pub fn mirror_lower_triangle(rho: &mut [f64], dim: usize) -> Answer
         return first;
     };
     entries::mirror(rho, dim);
+    Answer::Done
+}
+
+// The sum of the diagonal's real parts.
+fn trace_of(rho: &[f64], dim: usize) -> f64
+    requires { ⌜ Square dim (now rho) ⌝ }
+    ensures { λ r. ⌜ r ≡ traceOf (now (rho .entry)) dim ⌝ }
+{
+    let mut trace = -0.0;
+    let mut t: usize = 0;
+    while t < dim {
+        let z = complex::read_cell(rho, t * dim + t);
+        trace = trace + z.re;
+        t += 1;
+    }
+    trace
+}
+
+// Whether every number of the first cells, multiplied by scale, is finite.
+fn scaled_finite(rho: &[f64], cells: usize, scale: f64) -> bool
+    requires { ⌜ 2 * cells ≤ length (now rho) ⌝ }
+    ensures { λ r. ⌜ r ≡ finiteCells cells (scaledCell (now (rho .entry)) scale) ⌝ }
+{
+    let mut k: usize = 0;
+    while k < cells {
+        let z = complex::read_cell(rho, k).scale(scale);
+        if numbers::is_finite(z.re) {
+            if numbers::is_finite(z.im) {
+                k += 1;
+            } else {
+                return false;
+            }
+        } else {
+            return false;
+        }
+    }
+    true
+}
+
+// The first cells, multiplied by scale.
+fn scale_cells(rho: &mut [f64], cells: usize, scale: f64)
+    requires { ⌜ 2 * cells ≤ length (now rho) ⌝ }
+    ensures { λ _. ⌜ now (rho .exit) ≡ written cells (scaledCell (now (rho .entry)) scale) (now (rho .entry)) ⌝ }
+{
+    let mut k: usize = 0;
+    while k < cells {
+        let z = complex::read_cell(rho, k);
+        complex::write_cell(rho, k, z.scale(scale));
+        k += 1;
+    }
+}
+
+// A square matrix multiplied by 1 / trace; a zero trace is 8, a result that is not finite 9, and then the matrix stays as it is.
+pub fn normalize_trace(rho: &mut [f64], dim: usize) -> Answer
+    ensures { λ r. ⌜ InPlace (normalizeAnswer (now (rho .entry)) dim) (normalized (now (rho .entry)) dim) (now (rho .entry)) r (now (rho .exit)) ⌝ }
+{
+    let first = square_refusal(rho, dim);
+    let Answer::Done = first else {
+        return first;
+    };
+    let trace = trace_of(rho, dim);
+    if trace == 0.0 {
+        return Answer::NoWeight;
+    }
+    let scale = 1.0 / trace;
+    let cells = dim * dim;
+    if scaled_finite(rho, cells, scale) {
+        scale_cells(rho, cells, scale);
+        return Answer::Done;
+    }
+    Answer::NotFinite
+}
+
+// Answer 6: the state, slice 0, is exact; out, slice 2, and scratch, slice 3, may be longer.
+fn density_lengths(size: usize, dim: usize, state: usize, out: usize, scratch: usize) -> Answer
+    requires { ⌜ (size ≤ 4096) × (dim ≤ 64) ⌝ }
+    ensures { λ r. ⌜ paper r ≡ densityLengths size dim state out scratch ⌝ }
+{
+    let cells = dim * dim;
+    if state != 2 * size {
+        return Answer::Length(0);
+    }
+    if out < 2 * cells {
+        return Answer::Length(2);
+    }
+    if scratch < 2 * dim {
+        return Answer::Length(3);
+    }
+    Answer::Done
+}
+
+// Answers 1 to 7 of a density whose out and scratch have so many numbers.
+fn density_answer(
+    state: &[f64],
+    n: usize,
+    list: &[usize],
+    cap: usize,
+    out: usize,
+    scratch: usize,
+) -> Answer
+    ensures { λ r. ⌜ paper r ≡ densityAnswer (now (state .entry)) n (now (list .entry)) cap out scratch ⌝ }
+{
+    let first = offsets::density_refusal(list, n, cap);
+    let Answer::Done = first else {
+        return first;
+    };
+    let size = masks::bit(n);
+    let dim = masks::bit(list.len());
+    let second = density_lengths(size, dim, state.len(), out, scratch);
+    let Answer::Done = second else {
+        return second;
+    };
+    complex::check_components(state)
+}
+
+// The density at the front of out.
+fn fill_density(state: &[f64], n: usize, list: &[usize], out: &mut [f64])
+    requires { ⌜ Accepted (now state) n (now list) (length (now out)) ⌝ }
+    ensures { λ _. ⌜ now (out .exit) ≡ densityList n (now (list .entry)) (now (state .entry)) (now (out .entry)) ⌝ }
+{
+    let k = list.len();
+    let dim = masks::bit(k);
+    let size = masks::bit(n);
+    let groups = masks::bit(n - k);
+    let mask = qubits::mask_of(list, n);
+    let mut offsets = [0usize; 64];
+    entries::fill_offsets(list, n, dim, &mut offsets);
+    entries::fill_lower(state, n, size - 1 - mask, groups, &offsets, dim, out);
+    entries::mirror(out, dim);
+}
+
+// The unscaled density of the listed qubits, row after row: refused by 1 to 4, 6 and 7.
+pub fn dense_reduced_density(
+    state: &[f64],
+    n: usize,
+    list: &[usize],
+    cap: usize,
+    out: &mut [f64],
+    scratch: &mut [f64],
+) -> Answer
+    ensures { λ r. ⌜ Density (now (state .entry)) n (now (list .entry)) cap (now (out .entry)) (now (scratch .entry)) r (now (out .exit)) (now (scratch .exit)) ⌝ }
+{
+    let answer = density_answer(state, n, list, cap, out.len(), scratch.len());
+    let Answer::Done = answer else {
+        return answer;
+    };
+    fill_density(state, n, list, out);
+    let need = 2 * masks::bit(list.len());
+    complex::zero_first(scratch, need);
     Answer::Done
 }
