@@ -92,13 +92,13 @@ decisionOf g = cond (Ieee.le (normSqr (g .pq)) (bound g)) Leave (turnOf g (modul
 
 -- ---- a law for each way through the code
 
-pub tangent-up : (x h : Float) → Ieee.le zeroFloat x ≡ true → h ≡ hypotenuse x → Ieee.div binary64 (Ieee.neg one) (Ieee.add binary64 x h) ≡ tangentOf x
+pub tangent-up : (x h size o : Float) → Ieee.le zeroFloat x ≡ true → h ≡ hypotenuse x → size ≡ x → o ≡ Ieee.neg one → Ieee.div binary64 o (Ieee.add binary64 size h) ≡ tangentOf x
 unfolding tangentOf
-tangent-up x h t e = rw (t, e)
+tangent-up x h size o t e f g = rw (t, e, f, g)
 
-pub tangent-down : (x h : Float) → Ieee.le zeroFloat x ≡ false → h ≡ hypotenuse x → Ieee.div binary64 one (Ieee.add binary64 (Ieee.neg x) h) ≡ tangentOf x
+pub tangent-down : (x h size o : Float) → Ieee.le zeroFloat x ≡ false → h ≡ hypotenuse x → size ≡ Ieee.neg x → o ≡ one → Ieee.div binary64 o (Ieee.add binary64 size h) ≡ tangentOf x
 unfolding tangentOf
-tangent-down x h t e = rw (t, e)
+tangent-down x h size o t e f g = rw (t, e, f, g)
 
 pub decision-leave : (g : GramSums) (off : Float) → off ≡ normSqr (g .pq) → Ieee.le off (bound g) ≡ true → Leave ≡ decisionOf g
 unfolding decisionOf

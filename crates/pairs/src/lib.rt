@@ -4,6 +4,7 @@ use complex::Complex;
 ghost use mathlib.Core.Path.{_≡_};
 ghost use Prim.Native.Nat.{_+_, _*_, _<_, _≤_};
 ghost use lib.ListN.{length};
+ghost use Rattle.complex.specs.Arithmetic.{modulusOf};
 ghost use Rattle.pairs.specs.Gram.{noSums, oneRow, gramTo};
 ghost use Rattle.pairs.specs.Decisions.{verdict, decisionOf, tangentOf, turnAt};
 ghost use Rattle.pairs.specs.Turns.{factorsOf, newP, newQ, turnRow, turnRows, applied};
@@ -68,23 +69,70 @@ pub enum Decision {
     },
 }
 
-// The tangent of the angle: the root of smaller magnitude.
-fn tangent(tau: f64) -> f64
-    ensures { λ r. ⌜ r ≡ tangentOf tau ⌝ }
-{
-    let root = numbers::sqrt(1.0 + tau * tau);
-    if tau >= 0.0 {
-        -1.0 / (tau + root)
-    } else {
-        1.0 / (-tau + root)
+// Guesses at what the three roots of a decision give: nothing is promised of them, and they decide
+// nothing but the time. All three are made from the Gram sums alone, so that none waits for the root
+// before it.
+struct Guesses {
+    // |g_pq|
+    modulus: f64,
+    // √(1 + tau²) and its reciprocal
+    root: f64,
+    root_over: f64,
+    // 1 / cosine, and the cosine
+    secant: f64,
+    cosine: f64,
+}
+
+// For a pair with g_qq - g_pp = d and |g_pq|² = off.
+fn guess_roots(d: f64, off: f64) -> Guesses {
+    let y = roots::reciprocal_near(off);
+    let modulus = off * y;
+    let square = d * d + 4.0 * off;
+    let over = roots::reciprocal_near(square);
+    let mut size = d;
+    if d < 0.0 {
+        size = -d;
+    }
+    let cosine_square = 0.5 + (0.5 * size) * over;
+    let secant = roots::reciprocal_near(cosine_square);
+    Guesses {
+        modulus: roots::sharpened(off, modulus, y),
+        root: (square * over) * (0.5 * y),
+        root_over: 2.0 * (modulus * over),
+        secant,
+        cosine: cosine_square * secant,
     }
 }
 
+// The modulus of z, for which t is a guess.
+fn modulus_near(z: Complex, t: f64) -> f64
+    ensures { λ r. ⌜ r ≡ modulusOf z ⌝ }
+{
+    roots::root_near(z.norm_sqr(), t)
+}
+
+// The tangent of the angle: the one of smaller magnitude.
+fn tangent(tau: f64, near: Guesses) -> f64
+    ensures { λ r. ⌜ r ≡ tangentOf tau ⌝ }
+{
+    let x = 1.0 + tau * tau;
+    let root = roots::root_near(x, roots::sharpened(x, near.root, near.root_over));
+    // both branches divide once, so the sign, which no processor foretells, picks numbers and no way
+    let mut size = -tau;
+    let mut one = 1.0;
+    if tau >= 0.0 {
+        size = tau;
+        one = -1.0;
+    }
+    one / (size + root)
+}
+
 // The turn by the tangent t, for the mixed sum pq of modulus beta.
-fn turn_at(pq: Complex, beta: f64, t: f64) -> Decision
+fn turn_at(pq: Complex, beta: f64, t: f64, near: Guesses) -> Decision
     ensures { λ r. ⌜ r ≡ turnAt pq beta t ⌝ }
 {
-    let cosine = 1.0 / numbers::sqrt(1.0 + t * t);
+    let x = 1.0 + t * t;
+    let cosine = 1.0 / roots::root_near(x, roots::sharpened(x, near.secant, near.cosine));
     Decision::Turn {
         cosine,
         sine: t * cosine,
@@ -100,9 +148,10 @@ pub fn decide(g: GramSums) -> Decision
     if off <= JACOBI_REL_TOL * JACOBI_REL_TOL * g.pp * g.qq {
         return Decision::Leave;
     }
-    let beta = g.pq.modulus();
+    let near = guess_roots(g.qq - g.pp, off);
+    let beta = modulus_near(g.pq, near.modulus);
     let tau = (g.qq - g.pp) / (2.0 * beta);
-    turn_at(g.pq, beta, tangent(tau))
+    turn_at(g.pq, beta, tangent(tau, near), near)
 }
 
 // ---- the turn of two columns

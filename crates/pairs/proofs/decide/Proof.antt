@@ -11,8 +11,11 @@ norm-sqr-requires c κs = search needs
 returns : tie.Need-returns
 returns c = ap verdict (decision-leave _ _ (c .before .before .before .norm-sqr .ensures) (c .if1 .taken))
 
-modulus-requires : tie.Need-modulus-requires
-modulus-requires c κs = search needs
+guess-roots-requires : tie.Need-guess-roots-requires
+guess-roots-requires c κs = search needs
+
+modulus-near-requires : tie.Need-modulus-near-requires
+modulus-near-requires c κs = search needs
 
 tangent-requires : tie.Need-tangent-requires
 tangent-requires c κs = search needs
@@ -21,7 +24,7 @@ turn-at-requires : tie.Need-turn-at-requires
 turn-at-requires c κs = search needs
 
 returns-2 : tie.Need-returns-2
-returns-2 c = ap verdict (decision-turn _ _ _ _ _ (c .before .before .before .before .before .before .before .norm-sqr .ensures) (c .before .before .before .before .if1 .left) (c .before .before .before .modulus .ensures) (c .before .tangent .ensures) (c .turn-at .ensures))
+returns-2 c = ap verdict (decision-turn _ _ _ _ _ (c .before .before .before .before .before .before .before .before .before .norm-sqr .ensures) (c .before .before .before .before .before .before .if1 .left) (c .before .before .before .modulus-near .ensures) (c .before .tangent .ensures) (c .turn-at .ensures))
 
 pub decide-spec : {M : Type 1} → statement M
 decide-spec =
@@ -29,7 +32,8 @@ decide-spec =
     (tie.spec
     norm-sqr-requires
     returns
-    modulus-requires
+    guess-roots-requires
+    modulus-near-requires
     tangent-requires
     turn-at-requires
     returns-2)

@@ -1,0 +1,1 @@
+-- The contracts of `roots` cite what `numbers` says of a root.

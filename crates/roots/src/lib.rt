@@ -1,0 +1,120 @@
+// Inner: the square root of a number whose root the caller can guess. Whole numbers tell whether the
+// guess is the root; where it is not, the root is worked out. So a guess decides the time and never
+// the result, and several guesses can be made side by side before the first root is known.
+ghost use mathlib.Core.Path.{_≡_};
+ghost use mathlib.Core.Bool.{true};
+ghost use Prim.Native.Nat.{_-_, _*_, _^_, _≤_, _<_};
+ghost use Rattle.numbers.specs.Root.{sqrtOf};
+ghost use Rattle.numbers.specs.Steps.{NearestWhole};
+
+// Whether q is the whole number nearest to the root of n * 2^52. With q = h * 2^26 + l, w is
+// n * 2^52 - q * q + 2^54.
+fn is_nearest(n: u64, q: u64) -> bool
+    requires { ⌜ (2 ^ 52 ≤ n) × (n < 2 ^ 54 - 1) × (2 ^ 52 ≤ q) × (q < 2 ^ 53) ⌝ }
+    ensures { λ r. ⌜ (r ≡ true → NearestWhole (n * 2 ^ 52) q) ⌝ }
+{
+    let h = q / 0x400_0000;
+    let l = q % 0x400_0000;
+    let hh = h * h;
+    if n + 4 < hh {
+        return false;
+    }
+    let d = n + 4 - hh;
+    if d > 0x3f_ffff_ffff {
+        return false;
+    }
+    let hl = h * l;
+    let dd = d * 0x200_0000;
+    if dd < hl {
+        return false;
+    }
+    let e = dd - hl;
+    if e > 0xf_ffff_ffff {
+        return false;
+    }
+    let ll = l * l;
+    let c = e * 0x800_0000;
+    if c < ll {
+        return false;
+    }
+    let w = c - ll;
+    if w > 0x40_0000_0000_0000 + q {
+        return false;
+    }
+    0x40_0000_0000_0000 < w + q
+}
+
+// Whether t is the root of x. Only of an x with a full exponent is that ever said.
+fn is_root(x: f64, t: f64) -> bool
+    ensures { λ r. ⌜ (r ≡ true → t ≡ sqrtOf x) ⌝ }
+{
+    if x != x {
+        return false;
+    }
+    if t != t {
+        return false;
+    }
+    let b = f64::to_bits(x);
+    if b < 0x10_0000_0000_0000 {
+        return false;
+    }
+    if b >= 0x7ff0_0000_0000_0000 {
+        return false;
+    }
+    let a = f64::to_bits(t);
+    let e = b / 0x10_0000_0000_0000 + 51;
+    if a / 0x10_0000_0000_0000 != e / 2 + 486 {
+        return false;
+    }
+    let m = 0x10_0000_0000_0000 + b % 0x10_0000_0000_0000;
+    let q = 0x10_0000_0000_0000 + a % 0x10_0000_0000_0000;
+    is_nearest(m << (e % 2), q)
+}
+
+// The square root of x, for which t is a guess.
+pub fn root_near(x: f64, t: f64) -> f64
+    ensures { λ r. ⌜ r ≡ sqrtOf x ⌝ }
+{
+    if is_root(x, t) {
+        return t;
+    }
+    numbers::sqrt(x)
+}
+
+// About 1 / √x, to some 20 digits of 53, for an x whose exponent is not at either end.
+pub fn reciprocal_near(x: f64) -> f64 {
+    if x != x {
+        return 1.0;
+    }
+    let b = f64::to_bits(x);
+    if b < 0x80_0000_0000_0000 {
+        return 1.0;
+    }
+    if b >= 0x7f00_0000_0000_0000 {
+        return 1.0;
+    }
+    let y = f64::from_bits(0x5fe6_eb50_c7b5_37a9 - b / 2);
+    let e = 1.0 - (x * y) * y;
+    y + (y * e) * ((0.5 + 0.375 * e) + (e * e) * (0.3125 + 0.2734375 * e))
+}
+
+// The first 26 digits of g: their square is exact.
+fn upper_half(g: f64) -> f64 {
+    if g != g {
+        return g;
+    }
+    let b = f64::to_bits(g);
+    if b >= 0x7ff0_0000_0000_0000 {
+        return g;
+    }
+    f64::from_bits(b - b % 0x800_0000)
+}
+
+// A better guess at √x from g, near √x, and y, near 1 / √x: what the square of g's upper half is off
+// by is exact, and is divided by the root twice over.
+pub fn sharpened(x: f64, g: f64, y: f64) -> f64 {
+    let s = upper_half(g);
+    let off = x - s * s;
+    let half = off * (0.5 * y);
+    s + (half + half * ((1.0 - s * y) - off * (0.25 * (y * y))))
+}
