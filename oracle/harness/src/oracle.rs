@@ -50,16 +50,32 @@ macro_rules! build {
 
             /// The Rust's result of a call that the table does not refuse.
             pub fn run(call: &Call) -> Result {
-                let one = |at| call.one(at);
-                let cells_of = |at| cells(&call.floats(at));
-                let done = |value: u64, written: Vec<Vec<u64>>| Result { value, written, empty: false };
+                match call.entry {
+                    validate_qubit_set | validate_subsystem | row_offsets | traced_base | smaller_side => lists(call),
+                    cut_matrix | dense_schmidt_values | dense_reduced_density => states(call),
+                    mirror_lower_triangle | normalize_trace | multiply_block_factor => densities(call),
+                    svd_jacobi | factorize_gram_schmidt => factors(call),
+                    hermitian_eigenvalues | finish_schmidt_values | schmidt_values_from_density | hermitian_eigen => {
+                        spectra(call)
+                    }
+                    truncated_svd_rank | discards_resolvable_weight | cut_rank | widest_block_cut => ranks(call),
+                    fill_isometry_site_data | fill_scaled_u_site_data | fill_vt_site_data | fill_scaled_vt_data => {
+                        fills(call)
+                    }
+                    sqrt | sqrt_bits | magnitude | sign | is_finite | component_allowed | total_less | total_order => {
+                        done(number_helper(call), vec![])
+                    }
+                }
+            }
+
+            fn lists(call: &Call) -> Result {
                 match call.entry {
                     validate_qubit_set => {
-                        schmidt::validate_qubit_set(&call.words(0), one(1)).unwrap();
+                        schmidt::validate_qubit_set(&call.words(0), call.one(1)).unwrap();
                         done(0, vec![])
                     }
                     validate_subsystem => {
-                        schmidt::validate_subsystem(&call.words(0), one(1)).unwrap();
+                        schmidt::validate_subsystem(&call.words(0), call.one(1)).unwrap();
                         done(0, vec![])
                     }
                     row_offsets => {
@@ -69,103 +85,91 @@ macro_rules! build {
                     traced_base => {
                         let mut ascending = call.words(1);
                         ascending.sort_unstable();
-                        done(density::traced_base(one(0), &ascending) as u64, vec![])
+                        done(density::traced_base(call.one(0), &ascending) as u64, vec![])
                     }
-                    smaller_side => {
-                        let (list, n) = (call.words(0), one(1));
-                        let others: Vec<u64> =
-                            (0..n).filter(|qubit| !list.contains(qubit)).map(|qubit| qubit as u64).collect();
-                        done(0, vec![if others.len() < list.len() { others } else { vec![] }])
-                    }
-                    cut_matrix => done(0, vec![bits_of_cells(&gather(&cells_of(0), one(1), &call.words(2)))]),
+                    _ => done(0, vec![others(&call.words(0), call.one(1))]),
+                }
+            }
+
+            fn states(call: &Call) -> Result {
+                let (state, n, list) = (cells(&call.floats(0)), call.one(1), call.words(2));
+                match call.entry {
+                    cut_matrix => done(0, vec![bits_of_cells(&gather(&state, n, &list))]),
                     dense_schmidt_values => {
-                        let (n, list) = (one(1), call.words(2));
-                        let values = schmidt::dense_schmidt_values(&cells_of(0), n, &list, one(3).min(13)).unwrap();
-                        let length = 1 << list.len().min(n - list.len());
-                        counted(values, length)
+                        let values = schmidt::dense_schmidt_values(&state, n, &list, call.one(3).min(13)).unwrap();
+                        counted(values, 1 << list.len().min(n - list.len()))
                     }
-                    dense_reduced_density => {
-                        let rho = density::dense_reduced_density(&cells_of(0), one(1), &call.words(2));
-                        done(0, vec![bits_of_cells(&rho)])
+                    _ => done(0, vec![bits_of_cells(&density::dense_reduced_density(&state, n, &list))]),
+                }
+            }
+
+            fn densities(call: &Call) -> Result {
+                let (mut rho, dim) = (cells(&call.floats(0)), call.one(1));
+                let trace: f64 = (0..dim).map(|t| rho[t * dim + t].re).sum();
+                match call.entry {
+                    mirror_lower_triangle => density::mirror_lower_triangle(&mut rho, dim),
+                    normalize_trace => density::normalize_trace(&mut rho, dim),
+                    _ => {
+                        let (positions, factor) = (call.words(2), cells(&call.floats(3)));
+                        density::multiply_block_factor(&mut rho, dim, &positions, &factor, call.one(4));
                     }
-                    mirror_lower_triangle => {
-                        let mut rho = cells_of(0);
-                        density::mirror_lower_triangle(&mut rho, one(1));
-                        done(0, vec![bits_of_cells(&rho)])
-                    }
-                    normalize_trace => {
-                        let mut rho = cells_of(0);
-                        let trace: f64 = (0..one(1)).map(|t| rho[t * one(1) + t].re).sum();
-                        density::normalize_trace(&mut rho, one(1));
-                        Result { value: 0, written: vec![bits_of_cells(&rho)], empty: trace == 0.0 }
-                    }
-                    multiply_block_factor => {
-                        let mut rho = cells_of(0);
-                        density::multiply_block_factor(&mut rho, one(1), &call.words(2), &cells_of(3), one(4));
-                        done(0, vec![bits_of_cells(&rho)])
-                    }
-                    svd_jacobi => {
-                        let factors = svd::svd_jacobi(&cells_of(0), one(1), one(2));
-                        done(0, vec![bits_of_cells(&factors.u), bits(&factors.s), bits_of_cells(&factors.vt)])
-                    }
-                    factorize_gram_schmidt => {
-                        let (rows, cols) = (one(1), one(2));
-                        let k = rows.min(cols);
-                        let (mut q, mut r, rank) = svd::factorize_gram_schmidt(&cells_of(0), rows, cols);
-                        // The Rust leaves old contents past the rank; the paper has +0.0 there.
-                        q.truncate(rows * rank);
-                        r.truncate(rank * cols);
-                        let written =
-                            vec![padded(bits_of_cells(&q), 2 * rows * k), padded(bits_of_cells(&r), 2 * k * cols)];
-                        done(rank as u64, written)
-                    }
-                    hermitian_eigenvalues => done(0, vec![bits(&schmidt::hermitian_eigenvalues(&cells_of(0), one(1)))]),
-                    finish_schmidt_values => {
-                        counted(schmidt::finish_schmidt_values(&call.floats(0)), call.many(0).len())
-                    }
-                    schmidt_values_from_density => {
-                        counted(schmidt::schmidt_values_from_density(&cells_of(0), one(1)), one(1))
-                    }
-                    hermitian_eigen => {
-                        let (values, vectors) = spectral::hermitian_eigen(&cells_of(0), one(1));
+                }
+                let empty = call.entry == normalize_trace && trace == 0.0;
+                Result { value: 0, written: vec![bits_of_cells(&rho)], empty }
+            }
+
+            fn factors(call: &Call) -> Result {
+                let (a, m, n) = (cells(&call.floats(0)), call.one(1), call.one(2));
+                if call.entry == svd_jacobi {
+                    let factors = svd::svd_jacobi(&a, m, n);
+                    return done(0, vec![bits_of_cells(&factors.u), bits(&factors.s), bits_of_cells(&factors.vt)]);
+                }
+                let (mut q, mut r, rank) = svd::factorize_gram_schmidt(&a, m, n);
+                // The Rust leaves old contents past the rank; the paper has +0.0 there.
+                q.truncate(m * rank);
+                r.truncate(rank * n);
+                let k = m.min(n);
+                done(rank as u64, vec![padded(bits_of_cells(&q), 2 * m * k), padded(bits_of_cells(&r), 2 * k * n)])
+            }
+
+            fn spectra(call: &Call) -> Result {
+                if call.entry == finish_schmidt_values {
+                    return counted(schmidt::finish_schmidt_values(&call.floats(0)), call.many(0).len());
+                }
+                let (a, dim) = (cells(&call.floats(0)), call.one(1));
+                match call.entry {
+                    hermitian_eigenvalues => done(0, vec![bits(&schmidt::hermitian_eigenvalues(&a, dim))]),
+                    schmidt_values_from_density => counted(schmidt::schmidt_values_from_density(&a, dim), dim),
+                    _ => {
+                        let (values, vectors) = spectral::hermitian_eigen(&a, dim);
                         done(0, vec![bits(&values), bits_of_cells(&vectors)])
                     }
-                    truncated_svd_rank => {
-                        done(svd::truncated_svd_rank(&call.floats(0), call.float(1), one(2)) as u64, vec![])
-                    }
-                    discards_resolvable_weight => {
-                        done(svd::discards_resolvable_weight(&call.floats(0), one(1)) as u64, vec![])
-                    }
-                    cut_rank => done(svd::cut_rank(one(0), one(1), one(2)) as u64, vec![]),
-                    widest_block_cut => done(svd::widest_block_cut(one(0), one(1), one(2)) as u64, vec![]),
-                    fill_isometry_site_data => done(
-                        0,
-                        vec![bits_of_cells(&svd::fill_isometry_site_data(&cells_of(0), one(1), one(2), one(3)))],
-                    ),
-                    fill_scaled_u_site_data => {
-                        let out = svd::fill_scaled_u_site_data(&cells_of(0), &call.floats(1), one(2), one(3), one(4));
-                        done(0, vec![bits_of_cells(&out)])
-                    }
-                    fill_vt_site_data => done(
-                        0,
-                        vec![bits_of_cells(&svd::fill_vt_site_data(&cells_of(0), one(1), one(2), one(3), one(4)))],
-                    ),
-                    fill_scaled_vt_data => {
-                        let out =
-                            svd::fill_scaled_vt_data(&call.floats(0), &cells_of(1), one(2), one(3), one(4), one(5));
-                        done(0, vec![bits_of_cells(&out)])
-                    }
-                    sqrt => done(one_nan(call.float(0).sqrt()), vec![]),
-                    sqrt_bits => done(one_nan(call.float(0).sqrt()), vec![]),
-                    magnitude => done(one_nan(call.float(0).abs()), vec![]),
-                    sign => done(one_nan(call.float(0).signum()), vec![]),
-                    // The paper's own rule: the Rust has none.
-                    component_allowed => done(table::allowed(call.one(0) as u64) as u64, vec![]),
-                    is_finite => done(call.float(0).is_finite() as u64, vec![]),
-                    // With one NaN only: the Rust's order tells NaNs apart by sign and payload.
-                    total_less => done(total_order_of(call).is_lt() as u64, vec![]),
-                    total_order => done((total_order_of(call) as i64 + 1) as u64, vec![]),
                 }
+            }
+
+            fn ranks(call: &Call) -> Result {
+                let one = |at| call.one(at);
+                let value = match call.entry {
+                    truncated_svd_rank => svd::truncated_svd_rank(&call.floats(0), call.float(1), one(2)) as u64,
+                    discards_resolvable_weight => svd::discards_resolvable_weight(&call.floats(0), one(1)) as u64,
+                    cut_rank => svd::cut_rank(one(0), one(1), one(2)) as u64,
+                    _ => svd::widest_block_cut(one(0), one(1), one(2)) as u64,
+                };
+                done(value, vec![])
+            }
+
+            fn fills(call: &Call) -> Result {
+                let one = |at| call.one(at);
+                let (numbers, cells_of) = (|at| call.floats(at), |at| cells(&call.floats(at)));
+                let out = match call.entry {
+                    fill_isometry_site_data => svd::fill_isometry_site_data(&cells_of(0), one(1), one(2), one(3)),
+                    fill_scaled_u_site_data => {
+                        svd::fill_scaled_u_site_data(&cells_of(0), &numbers(1), one(2), one(3), one(4))
+                    }
+                    fill_vt_site_data => svd::fill_vt_site_data(&cells_of(0), one(1), one(2), one(3), one(4)),
+                    _ => svd::fill_scaled_vt_data(&numbers(0), &cells_of(1), one(2), one(3), one(4), one(5)),
+                };
+                done(0, vec![bits_of_cells(&out)])
             }
         }
     };
@@ -173,6 +177,31 @@ macro_rules! build {
 
 build!(as_published, published);
 build!(as_replaced, replaced);
+
+fn done(value: u64, written: Vec<Vec<u64>>) -> Result {
+    Result { value, written, empty: false }
+}
+
+/// The number helpers, with one NaN only: the Rust's order tells NaNs apart by sign and payload. The rule of allowed
+/// components is the paper's own.
+fn number_helper(call: &Call) -> u64 {
+    let x = call.float(0);
+    match call.entry {
+        sqrt | sqrt_bits => one_nan(x.sqrt()),
+        magnitude => one_nan(x.abs()),
+        sign => one_nan(x.signum()),
+        is_finite => u64::from(x.is_finite()),
+        component_allowed => u64::from(table::allowed(call.one(0) as u64)),
+        total_less => u64::from(total_order_of(call).is_lt()),
+        _ => (total_order_of(call) as i64 + 1) as u64,
+    }
+}
+
+/// The smaller side's list where the others are that side. The Rust has no such call.
+fn others(list: &[usize], n: usize) -> Vec<u64> {
+    let others: Vec<usize> = (0..n).filter(|qubit| !list.contains(qubit)).collect();
+    if others.len() < list.len() { others.into_iter().map(|qubit| qubit as u64).collect() } else { vec![] }
+}
 
 /// The one NaN that the paper names.
 pub const NAN: u64 = 0x7FF8000000000000;

@@ -1,6 +1,7 @@
 //! The paper's table of refusals 1 to 7, and its needed lengths, stated apart from the port and from the Rust.
 
 use crate::call::{Call, Entry, Entry::*};
+use Role::*;
 
 pub const LARGEST: f64 = 1606938044258990275541962092341162602522202993782792835301376.0; // 2^200
 
@@ -137,45 +138,60 @@ fn list_refusal(call: &Call) -> Option<(u32, u64)> {
 
 /// What each slice must hold, slices in order. Asked only where answers 1 to 5 are not given.
 pub fn roles(call: &Call) -> Vec<Role> {
-    use Role::*;
-    let one = |at| call.one(at);
-    let k = named(call);
-    let small = |m: usize, n: usize| m.min(n);
     match call.entry {
-        validate_qubit_set | validate_subsystem | traced_base => vec![Free],
-        row_offsets => vec![Free, Output(1 << k)],
-        smaller_side => {
-            let others = one(1) - k;
-            vec![Free, Output(if others < k { others } else { 0 })]
-        }
-        cut_matrix => vec![Exact(2 << one(1)), Free, Output(2 << one(1))],
-        dense_schmidt_values => {
-            let (n, side) = (one(1), small(k, one(1) - k));
-            vec![Exact(2 << n), Free, Output(1 << side), Scratch((8 << n) + (2 << side))]
-        }
-        dense_reduced_density => vec![Exact(2 << one(1)), Free, Output(2 << (2 * k)), Scratch(2 << k)],
-        mirror_lower_triangle | normalize_trace => vec![Both(2 * one(1) * one(1))],
-        multiply_block_factor => vec![Both(2 * one(1) * one(1)), Free, Exact(2 * one(4) * one(4))],
-        svd_jacobi => {
-            let (m, n) = (one(1), one(2));
-            let k = small(m, n);
-            vec![Exact(2 * m * n), Output(2 * m * k), Output(k), Output(2 * k * n), Scratch(6 * m * n + 2 * k)]
-        }
-        factorize_gram_schmidt => {
-            let (rows, cols) = (one(1), one(2));
-            let k = small(rows, cols);
-            vec![Exact(2 * rows * cols), Output(2 * rows * k), Output(2 * k * cols), Scratch(2 * rows)]
-        }
-        hermitian_eigenvalues | schmidt_values_from_density => {
-            let side = one(1);
-            vec![Exact(2 * side * side), Output(side), Scratch(2 * side * side)]
+        fill_isometry_site_data | fill_scaled_u_site_data | fill_vt_site_data | fill_scaled_vt_data => site_roles(call),
+        svd_jacobi | factorize_gram_schmidt => factor_roles(call),
+        hermitian_eigenvalues | schmidt_values_from_density | hermitian_eigen => spectrum_roles(call),
+        mirror_lower_triangle | normalize_trace => vec![Both(2 * call.one(1) * call.one(1))],
+        multiply_block_factor => {
+            let (dim, side) = (call.one(1), call.one(4));
+            vec![Both(2 * dim * dim), Free, Exact(2 * side * side)]
         }
         finish_schmidt_values => vec![Free, Output(call.many(0).len())],
-        hermitian_eigen => {
-            let side = one(1);
-            let cells = side * side;
-            vec![Exact(2 * cells), Output(side), Output(2 * cells), Scratch(6 * cells + 2 * side)]
+        truncated_svd_rank | discards_resolvable_weight => vec![Free],
+        cut_rank | widest_block_cut => vec![],
+        sqrt | sqrt_bits | magnitude | sign | is_finite | component_allowed | total_less | total_order => vec![],
+        _ => list_roles(call),
+    }
+}
+
+fn list_roles(call: &Call) -> Vec<Role> {
+    let (n, k) = (call.one(1), named(call));
+    match call.entry {
+        row_offsets => vec![Free, Output(1 << k)],
+        // Needed only where the others are the smaller side.
+        smaller_side => vec![Free, Output(if n - k < k { n - k } else { 0 })],
+        cut_matrix => vec![Exact(2 << n), Free, Output(2 << n)],
+        dense_schmidt_values => {
+            let side = k.min(n - k);
+            vec![Exact(2 << n), Free, Output(1 << side), Scratch((8 << n) + (2 << side))]
         }
+        dense_reduced_density => vec![Exact(2 << n), Free, Output(2 << (2 * k)), Scratch(2 << k)],
+        _ => vec![Free],
+    }
+}
+
+fn factor_roles(call: &Call) -> Vec<Role> {
+    let (m, n) = (call.one(1), call.one(2));
+    let k = m.min(n);
+    if call.entry == svd_jacobi {
+        return vec![Exact(2 * m * n), Output(2 * m * k), Output(k), Output(2 * k * n), Scratch(6 * m * n + 2 * k)];
+    }
+    vec![Exact(2 * m * n), Output(2 * m * k), Output(2 * k * n), Scratch(2 * m)]
+}
+
+fn spectrum_roles(call: &Call) -> Vec<Role> {
+    let side = call.one(1);
+    let cells = side * side;
+    if call.entry == hermitian_eigen {
+        return vec![Exact(2 * cells), Output(side), Output(2 * cells), Scratch(6 * cells + 2 * side)];
+    }
+    vec![Exact(2 * cells), Output(side), Scratch(2 * cells)]
+}
+
+fn site_roles(call: &Call) -> Vec<Role> {
+    let one = |at| call.one(at);
+    match call.entry {
         fill_isometry_site_data => {
             let (stride, bond_left, chi) = (one(1), one(2), one(3));
             vec![AtLeast(2 * chi * stride), Output(2 * bond_left * 2 * chi)]
@@ -185,16 +201,13 @@ pub fn roles(call: &Call) -> Vec<Role> {
             vec![AtLeast(2 * chi * stride), AtLeast(chi), Output(2 * bond_left * 2 * chi)]
         }
         fill_vt_site_data => {
-            let (row_len, chi, site) = (one(1), one(2), one(2) * one(3) * one(4));
-            vec![AtLeast(2 * chi * row_len), Output(2 * site)]
+            let (row_len, chi, physical_dim, bond_right) = (one(1), one(2), one(3), one(4));
+            vec![AtLeast(2 * chi * row_len), Output(2 * chi * physical_dim * bond_right)]
         }
-        fill_scaled_vt_data => {
-            let (row_len, chi, site) = (one(2), one(3), one(3) * one(4) * one(5));
-            vec![AtLeast(chi), AtLeast(2 * chi * row_len), Output(2 * site)]
+        _ => {
+            let (row_len, chi, physical_dim, bond_right) = (one(2), one(3), one(4), one(5));
+            vec![AtLeast(chi), AtLeast(2 * chi * row_len), Output(2 * chi * physical_dim * bond_right)]
         }
-        truncated_svd_rank | discards_resolvable_weight => vec![Free],
-        cut_rank | widest_block_cut | sqrt | sqrt_bits | magnitude | sign | is_finite | component_allowed
-        | total_less | total_order => vec![],
     }
 }
 
