@@ -3,5 +3,3 @@ pub mod Square
 pub mod SquareLaws
 pub mod Density
 pub mod DensityLaws
-pub mod Trace
-pub mod TraceLaws

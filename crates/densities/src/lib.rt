@@ -1,17 +1,15 @@
 // The unscaled density of the listed qubits, and the mirror of a lower triangle.
 use answers::Answer;
 ghost use mathlib.Core.Path.{_≡_};
-ghost use Prim.Native.Nat.{_*_, _≤_};
+ghost use Prim.Native.Nat.{_≤_};
 ghost use lib.ListN.{length};
 ghost use Rattle.answers.specs.Paper.{paper};
-ghost use Rattle.complex.specs.Cells.{written};
-ghost use Rattle.entries.specs.Squares.{mirrored, Square};
+ghost use Rattle.entries.specs.Squares.{mirrored};
 ghost use Rattle.densities.specs.Square.{squareAnswer, InPlace};
-ghost use Rattle.densities.specs.Trace.{traceOf, finiteCells, scaledCell, normalizeAnswer, normalized};
 ghost use Rattle.densities.specs.Density.{densityLengths, densityAnswer, densityList, Density, Accepted};
 
-// A square matrix among a call's own arguments: 1 by its side, 6 by its length, 7 by its components.
-fn square_refusal(rho: &[f64], dim: usize) -> Answer
+// Inner: a square matrix among a call's own arguments: 1 by its side, 6 by its length, 7 by its components.
+pub fn square_refusal(rho: &[f64], dim: usize) -> Answer
     ensures { λ r. ⌜ paper r ≡ squareAnswer (now (rho .entry)) dim ⌝ }
 {
     if dim < 1 {
@@ -37,76 +35,6 @@ pub fn mirror_lower_triangle(rho: &mut [f64], dim: usize) -> Answer
     };
     entries::mirror(rho, dim);
     Answer::Done
-}
-
-// The sum of the diagonal's real parts.
-fn trace_of(rho: &[f64], dim: usize) -> f64
-    requires { ⌜ Square dim (now rho) ⌝ }
-    ensures { λ r. ⌜ r ≡ traceOf (now (rho .entry)) dim ⌝ }
-{
-    let mut trace = -0.0;
-    let mut t: usize = 0;
-    while t < dim {
-        let z = complex::read_cell(rho, t * dim + t);
-        trace = trace + z.re;
-        t += 1;
-    }
-    trace
-}
-
-// Whether every number of the first cells, multiplied by scale, is finite.
-fn scaled_finite(rho: &[f64], cells: usize, scale: f64) -> bool
-    requires { ⌜ 2 * cells ≤ length (now rho) ⌝ }
-    ensures { λ r. ⌜ r ≡ finiteCells cells (scaledCell (now (rho .entry)) scale) ⌝ }
-{
-    let mut k: usize = 0;
-    while k < cells {
-        let z = complex::read_cell(rho, k).scale(scale);
-        if numbers::is_finite(z.re) {
-            if numbers::is_finite(z.im) {
-                k += 1;
-            } else {
-                return false;
-            }
-        } else {
-            return false;
-        }
-    }
-    true
-}
-
-// The first cells, multiplied by scale.
-fn scale_cells(rho: &mut [f64], cells: usize, scale: f64)
-    requires { ⌜ 2 * cells ≤ length (now rho) ⌝ }
-    ensures { λ _. ⌜ now (rho .exit) ≡ written cells (scaledCell (now (rho .entry)) scale) (now (rho .entry)) ⌝ }
-{
-    let mut k: usize = 0;
-    while k < cells {
-        let z = complex::read_cell(rho, k);
-        complex::write_cell(rho, k, z.scale(scale));
-        k += 1;
-    }
-}
-
-// A square matrix multiplied by 1 / trace; a zero trace is 8, a result that is not finite 9, and then the matrix stays as it is.
-pub fn normalize_trace(rho: &mut [f64], dim: usize) -> Answer
-    ensures { λ r. ⌜ InPlace (normalizeAnswer (now (rho .entry)) dim) (normalized (now (rho .entry)) dim) (now (rho .entry)) r (now (rho .exit)) ⌝ }
-{
-    let first = square_refusal(rho, dim);
-    let Answer::Done = first else {
-        return first;
-    };
-    let trace = trace_of(rho, dim);
-    if trace == 0.0 {
-        return Answer::NoWeight;
-    }
-    let scale = 1.0 / trace;
-    let cells = dim * dim;
-    if scaled_finite(rho, cells, scale) {
-        scale_cells(rho, cells, scale);
-        return Answer::Done;
-    }
-    Answer::NotFinite
 }
 
 // Answer 6: the state, slice 0, is exact; out, slice 2, and scratch, slice 3, may be longer.

@@ -1,4 +1,4 @@
--- `densities::scaled_finite` meets its contract. The loop's invariant: the cells passed are finite. Assumes nothing.
+-- `traces::scaled_finite` meets its contract. The loop's invariant: the cells passed are finite. Assumes nothing.
 use mathlib.Core.Path.{_≡_, sym, ap, ap₂, _∙_}
 use mathlib.Core.Bool.{Bool, true, _&&_}
 use Prim.Native.Nat.{ℕ, _≤_, _-_}
@@ -8,11 +8,11 @@ use Rattle.numbers.specs.Numbers.{finite}
 use Rattle.complex.specs.declared.Complex.{Complex}
 use Rattle.complex.specs.Arithmetic.{scaled}
 use Rattle.complex.specs.Loops.{stop}
-use Rattle.densities.specs.Trace.{scaledCell, finiteCells}
-use Rattle.densities.specs.TraceLaws.{finite-none, finite-more, finite-stop}
+use Rattle.traces.specs.Trace.{scaledCell, finiteCells}
+use Rattle.traces.specs.TraceLaws.{finite-none, finite-more, finite-stop}
 use borrow.Author.Needs.{needs}
-use Rattle.densities.proofs.scaled_finite.Statement.{statement}
-use Rattle.densities.proofs.scaled_finite.Tie as tie
+use Rattle.traces.proofs.scaled_finite.Statement.{statement}
+use Rattle.traces.proofs.scaled_finite.Tie as tie
 
 abbrev Inv-loop : tie.InvT-loop
 Inv-loop rho cells scale k₀ k = (k ≤ cells) × (finiteCells k (scaledCell rho scale) ≡ true)

@@ -1,4 +1,4 @@
--- `densities::trace_of` meets its contract. The loop's invariant: the sum so far. Assumes nothing.
+-- `traces::trace_of` meets its contract. The loop's invariant: the sum so far. Assumes nothing.
 use mathlib.Core.Path.{_≡_, ap₂, _∙_}
 use Prim.Native.Nat.{ℕ, _≤_, _-_}
 use native.Mathlib.Omega.{arith}
@@ -8,11 +8,11 @@ use denote.Ref.{now}
 use Rattle.complex.specs.declared.Complex.{Complex}
 use Rattle.complex.specs.Loops.{stop}
 use Rattle.entries.specs.Mirrored.{index-small, cell-in}
-use Rattle.densities.specs.Trace.{traceTo}
-use Rattle.densities.specs.TraceLaws.{trace-none, trace-more}
+use Rattle.traces.specs.Trace.{traceTo}
+use Rattle.traces.specs.TraceLaws.{trace-none, trace-more}
 use borrow.Author.Needs.{needs}
-use Rattle.densities.proofs.trace_of.Statement.{statement}
-use Rattle.densities.proofs.trace_of.Tie as tie
+use Rattle.traces.proofs.trace_of.Statement.{statement}
+use Rattle.traces.proofs.trace_of.Tie as tie
 
 abbrev Inv-loop : tie.InvT-loop
 Inv-loop rho dim trace₀ t₀ trace t = (t ≤ dim) × (trace ≡ traceTo rho dim t)

@@ -1,4 +1,4 @@
--- `densities::normalize_trace` meets its contract: refused as a square matrix, by its trace or by its result, or scaled. Assumes nothing.
+-- `traces::normalize_trace` meets its contract: refused as a square matrix, by its trace or by its result, or scaled. Assumes nothing.
 use borrow.Author.Needs.{needs}
 use mathlib.Core.Path.{_≡_, refl, sym, ap, _∙_}
 use Prim.Native.Nat.{_*_}
@@ -11,12 +11,12 @@ use Rattle.answers.proofs.Stopped.{refused, passed, was-done, stopped-number}
 use Rattle.complex.specs.Cells.{written}
 use Rattle.complex.specs.Zeros.{zeroFloat}
 use Rattle.entries.specs.Mirrored.{square-small}
 use Rattle.densities.specs.Square.{squareAnswer}
 use Rattle.densities.specs.SquareLaws.{square-done, place-refused, place-done}
-use Rattle.densities.specs.Trace.{scaledCell, finiteCells, reciprocal}
-use Rattle.densities.specs.TraceLaws.{scaling-none, scaling-wild, scaling-done}
-use Rattle.densities.proofs.normalize_trace.Statement.{statement}
-use Rattle.densities.proofs.normalize_trace.Tie as tie
+use Rattle.traces.specs.Trace.{scaledCell, finiteCells, reciprocal}
+use Rattle.traces.specs.TraceLaws.{scaling-none, scaling-wild, scaling-done}
+use Rattle.traces.proofs.normalize_trace.Statement.{statement}
+use Rattle.traces.proofs.normalize_trace.Tie as tie
 
 -- past the first call: 1, 6 and 7 do not refuse
 first-done : (c : tie.After-enum-told) (b : Reply) → andThen (squareAnswer (now (c .before .before .before .before .before .args .rho)) (c .before .before .before .before .before .args .dim)) b ≡ b

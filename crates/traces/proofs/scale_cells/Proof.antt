@@ -1,4 +1,4 @@
--- `densities::scale_cells` meets its contract. The loop's invariant: the cells passed are scaled. Assumes nothing.
+-- `traces::scale_cells` meets its contract. The loop's invariant: the cells passed are scaled. Assumes nothing.
 use mathlib.Core.Path.{_≡_, refl, ap, _∙_}
 use Prim.Native.Nat.{ℕ, _≤_, _-_}
 use native.Mathlib.Omega.{arith}
@@ -9,11 +9,11 @@ use Rattle.complex.specs.Arithmetic.{scaled}
 use Rattle.complex.specs.Cells.{written}
 use Rattle.complex.specs.CellLaws.{written-none}
 use Rattle.complex.specs.Loops.{stop}
-use Rattle.densities.specs.Trace.{scaledCell}
-use Rattle.densities.specs.TraceLaws.{scale-turn}
+use Rattle.traces.specs.Trace.{scaledCell}
+use Rattle.traces.specs.TraceLaws.{scale-turn}
 use borrow.Author.Needs.{needs}
-use Rattle.densities.proofs.scale_cells.Statement.{statement}
-use Rattle.densities.proofs.scale_cells.Tie as tie
+use Rattle.traces.proofs.scale_cells.Statement.{statement}
+use Rattle.traces.proofs.scale_cells.Tie as tie
 
 abbrev Inv-loop : tie.InvT-loop
 Inv-loop rho₀ cells scale k₀ rho k = (k ≤ cells) × (length rho ≡ length rho₀) × (rho ≡ written k (scaledCell rho₀ scale) rho₀)

@@ -20,9 +20,9 @@ use Rattle.complex.specs.Cells.{cellAt, setCell, cellsOf, written}
 use Rattle.complex.specs.CellLaws.{length-cells, written-more}
 use Rattle.complex.specs.Zeros.{zeroFloat}
 use Rattle.entries.specs.Squares.{entryAt}
 use Rattle.densities.specs.Square.{InPlace}
 use Rattle.densities.specs.SquareLaws.{place-one}
-use Rattle.densities.specs.Trace.{traceTo, traceOf, reciprocal, scaledCell, finiteCells, scalingAnswer, normalizeAnswer, normalized}
+use Rattle.traces.specs.Trace.{traceTo, traceOf, reciprocal, scaledCell, finiteCells, scalingAnswer, normalizeAnswer, normalized}
 
 -- a turn of the trace's loop
 pub trace-more : (s : List Float) (dim t : ℕ) → Ieee.add binary64 (traceTo s dim t) (entryAt s dim t t .re) ≡ traceTo s dim (t + 1)

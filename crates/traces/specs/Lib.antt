@@ -1,0 +1,3 @@
+-- What the contracts of `traces` cite.
+pub mod Trace
+pub mod TraceLaws
