@@ -148,7 +148,9 @@ pub fn roles(call: &Call) -> Vec<Role> {
             vec![Both(2 * dim * dim), Free, Exact(2 * side * side)]
         }
         finish_schmidt_values => vec![Free, Output(call.many(0).len())],
-        truncated_svd_rank | discards_resolvable_weight => vec![Free],
+        truncated_svd_rank | discards_resolvable_weight | validate_qubit_set | validate_subsystem | traced_base => {
+            vec![Free]
+        }
         cut_rank | widest_block_cut => vec![],
         sqrt | sqrt_bits | magnitude | sign | is_finite | component_allowed | total_less | total_order => vec![],
         _ => list_roles(call),
@@ -166,8 +168,7 @@ fn list_roles(call: &Call) -> Vec<Role> {
             let side = k.min(n - k);
             vec![Exact(2 << n), Free, Output(1 << side), Scratch((8 << n) + (2 << side))]
         }
-        dense_reduced_density => vec![Exact(2 << n), Free, Output(2 << (2 * k)), Scratch(2 << k)],
-        _ => vec![Free],
+        _ => vec![Exact(2 << n), Free, Output(2 << (2 * k)), Scratch(2 << k)],
     }
 }
 
