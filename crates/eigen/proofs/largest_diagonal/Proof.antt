@@ -1,0 +1,64 @@
+-- `eigen::largest_diagonal` meets its contract. The loop's invariant: the largest of the first i entries. Assumes nothing.
+use denote.Ref.{now}
+use mathlib.Core.Path.{_≡_, _∙_}
+use mathlib.Core.Logic.{⊎-elim}
+use Prim.Native.Nat.{_*_, _+_, _-_, _≤_, _<_}
+use native.Mathlib.Omega.{arith}
+use Rattle.eigenpair.specs.Turn.{cell-fits}
+use Rattle.eigen.specs.Sweeping.{largestTo, largest-none, largest-more, largest-same}
+use borrow.Author.Needs.{needs}
+use Rattle.eigen.proofs.largest_diagonal.Statement.{statement}
+use Rattle.eigen.proofs.largest_diagonal.Tie as tie
+
+abbrev Inv-loop : tie.InvT-loop
+Inv-loop xs n largest₀ i₀ largest i = (i ≤ n) × (largest ≡ largestTo xs n i)
+
+abbrev μ-loop : tie.MeasureT-loop
+μ-loop xs n largest₀ i₀ largest i = n - i
+
+-- the diagonal entry stands in the matrix
+at : (c : tie.In-loop Inv-loop μ-loop) → let n = c .before .before .args .n in c .before .loop .i * n + c .before .loop .i < n * n
+at c = cell-fits _ _ _ (c .loop-test .taken) (c .loop-test .taken)
+
+loop-holds : tie.Need-loop-holds Inv-loop μ-loop
+loop-holds c = (omega arith, largest-none _ _)
+
+mul-at : tie.Need-mul-at Inv-loop μ-loop
+mul-at c = omega (arith, at (c))
+
+add-at : tie.Need-add-at Inv-loop μ-loop
+add-at c = omega (arith, at (c))
+
+mul-x : tie.Need-mul-x Inv-loop μ-loop
+mul-x c = omega (arith, at (c), c .before .before .pre .cells)
+
+shared-slice-read-x : tie.Need-shared-slice-read-x Inv-loop μ-loop
+shared-slice-read-x c = omega (arith, at (c .before), c .before .before .before .pre .cells)
+
+add-i : tie.Need-add-i Inv-loop μ-loop
+add-i c = search needs
+
+loop-less : tie.Need-loop-less Inv-loop μ-loop
+loop-less c = search needs
+
+loop-again : tie.Need-loop-again Inv-loop μ-loop
+loop-again c = (omega arith, ⊎-elim (λ w. w .1 ∙ largest-more (now (c .before .before .before .before .args .xs)) (c .before .before .before .before .args .n) (c .before .before .before .loop .i) (c .before .before .before .loop .inv .1) (w .0 .taken)) (λ w. w .1 ∙ largest-same (now (c .before .before .before .before .args .xs)) (c .before .before .before .before .args .n) (c .before .before .before .loop .i) (c .before .before .before .loop .inv .1) (w .0 .left)) (c .if1 .came))
+
+returns : tie.Need-returns Inv-loop μ-loop
+returns c = let e : c .before .loop .i ≡ c .before .before .args .n = omega arith in rw e at (c .before .loop .inv .1)
+
+pub largest-diagonal-spec : {M : Type 1} → statement M
+largest-diagonal-spec =
+    tie.close
+    (tie.spec
+    Inv-loop
+    μ-loop
+    loop-holds
+    mul-at
+    add-at
+    mul-x
+    shared-slice-read-x
+    add-i
+    loop-less
+    loop-again
+    returns)

@@ -1,0 +1,2 @@
+-- What the contracts of `eigen` cite.
+pub mod Sweeping

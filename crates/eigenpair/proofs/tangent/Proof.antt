@@ -1,0 +1,20 @@
+-- `eigenpair::tangent` meets its contract: the calls are the definition's steps. Assumes nothing.
+use Rattle.eigenpair.specs.Decide.{tangent-made}
+use borrow.Author.Needs.{needs}
+use Rattle.eigenpair.proofs.tangent.Statement.{statement}
+use Rattle.eigenpair.proofs.tangent.Tie as tie
+
+sqrt-requires : tie.Need-sqrt-requires
+sqrt-requires c κs = search needs
+
+sign-requires : tie.Need-sign-requires
+sign-requires c κs = search needs
+
+magnitude-requires : tie.Need-magnitude-requires
+magnitude-requires c κs = search needs
+
+returns : tie.Need-returns
+returns c = tangent-made _ _ _ _ (c .before .before .sqrt .ensures .0) (c .before .sign .ensures) (c .magnitude .ensures)
+
+pub tangent-spec : {M : Type 1} → statement M
+tangent-spec = tie.close (tie.spec sqrt-requires sign-requires magnitude-requires returns)

@@ -1,0 +1,3 @@
+-- What the contracts of `eigenpair` cite.
+pub mod Decide
+pub mod Turn

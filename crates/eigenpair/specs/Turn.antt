@@ -1,0 +1,79 @@
+-- The turn of a pair of a square matrix of n rows, row-major and as planes: its columns p and q, and then its rows. Assumes nothing.
+use mathlib.Core.Path.{_≡_, refl}
+use mathlib.Core.List.{List}
+use Prim.Native.Nat.{ℕ, zero, suc, _+_, _*_, _<_}
+use native.Mathlib.Numerals.{add-one}
+use native.Mathlib.Omega.{arith}
+use lib.Ieee as Ieee
+use lib.Ieee.{Float, binary64}
+use Rattle.complex.specs.declared.Complex.{Complex}
+use Rattle.complex.specs.Arithmetic.{complexOf, product, sum, difference, conjugate}
+use Rattle.complex.specs.Planes.{planeAt, setPlane}
+use Rattle.jacobi.specs.declared.Decision.{Decision}
+use Rattle.jacobi.specs.declared.Decision.the-variants.{Leave, Turn}
+use Rattle.jacobi.specs.Sweeping.{column-fits}
+use Rattle.eigenpair.specs.declared.Angle.{Angle}
+
+-- a real number times a complex one, the real number first
+unfoldable pub timesReal : Float → Complex → Complex
+timesReal k z = complexOf (Ieee.mul binary64 k (z .re)) (Ieee.mul binary64 k (z .im))
+
+-- cosine x - (sine phase) y
+unfoldable pub newP : Angle → Complex → Complex → Complex
+newP w x y = difference (timesReal (w .cosine) x) (product (timesReal (w .sine) (w .phase)) y)
+
+-- sine x + (cosine phase) y
+unfoldable pub newQ : Angle → Complex → Complex → Complex
+newQ w x y = sum (timesReal (w .sine) x) (product (timesReal (w .cosine) (w .phase)) y)
+
+-- the cells i and j of c are turned, both from their old values
+unfoldable pub turnTwo : Angle → ℕ → ℕ → ℕ → List Float → List Float
+turnTwo w c i j xs = setPlane (setPlane xs c i (newP w (planeAt xs c i) (planeAt xs c j))) c j (newQ w (planeAt xs c i) (planeAt xs c j))
+
+-- the cells i, i + d, i + 2 d, .. with j, j + d, ..: the first k of them. A column has the step d = n, and a row the step 1
+unfoldable pub turnLine : Angle → ℕ → ℕ → ℕ → ℕ → ℕ → List Float → List Float
+turnLine w c d i j zero xs = xs
+turnLine w c d i j (suc k) xs = turnTwo w c (k * d + i) (k * d + j) (turnLine w c d i j k xs)
+
+abbrev pub angle : Float → Float → Complex → Angle
+angle cosine sine phase = record { cosine = cosine; sine = sine; phase = phase }
+
+-- the columns p and q with the conjugate of the phase, and then the rows with the phase
+unfoldable pub turned : Angle → ℕ → ℕ → ℕ → List Float → List Float
+turned w n p q xs =
+    turnLine w (n * n) 1 (p * n) (q * n) n (turnLine (angle (w .cosine) (w .sine) (conjugate (w .phase))) (n * n) n p q n xs)
+
+-- what a decision does to the pair p, q
+unfoldable pub applied : Decision → ℕ → ℕ → ℕ → List Float → List Float
+applied Leave n p q xs = xs
+applied (Turn cosine sine phase) n p q xs = turned (angle cosine sine phase) n p q xs
+
+-- ---- laws
+
+pub line-none : (w : Angle) (c d i j : ℕ) (xs : List Float) → xs ≡ turnLine w c d i j 0 xs
+unfolding turnLine
+line-none w c d i j xs = refl
+
+pub line-more : (w : Angle) (c d i j k : ℕ) (xs : List Float) {ys zs : List Float} → ys ≡ turnLine w c d i j k xs
+    → zs ≡ turnTwo w c (k * d + i) (k * d + j) ys → zs ≡ turnLine w c d i j (k + 1) xs
+unfolding turnLine
+line-more w c d i j k xs e f = rw (add-one, ← e) f
+
+pub turned-made : (w : Angle) (n p q : ℕ) (xs : List Float) {back : Complex} {ys zs : List Float} → back ≡ conjugate (w .phase)
+    → ys ≡ turnLine (angle (w .cosine) (w .sine) back) (n * n) n p q n xs → zs ≡ turnLine w (n * n) 1 (p * n) (q * n) n ys
+    → zs ≡ turned w n p q xs
+unfolding turned
+turned-made w n p q xs e f g = rw (← e, ← f) g
+
+pub applied-turn : {d : Decision} {cosine sine : Float} {phase : Complex} {ys : List Float} (n p q : ℕ) (xs : List Float)
+    → d ≡ Turn cosine sine phase → ys ≡ turned (angle cosine sine phase) n p q xs → ys ≡ applied d n p q xs
+unfolding applied
+applied-turn n p q xs e f = rw e f
+
+pub applied-leave : {d : Decision} (n p q : ℕ) (xs : List Float) → d ≡ Leave → xs ≡ applied d n p q xs
+unfolding applied
+applied-leave n p q xs e = rw e
+
+-- the cell of row k and column p stands in the matrix
+pub cell-fits : (k p n : ℕ) → k < n → p < n → k * n + p < n * n
+cell-fits k p n h g = omega (arith, column-fits k n n h)
