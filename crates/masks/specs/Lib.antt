@@ -1,3 +1,4 @@
 pub mod Submasks
 pub mod SubmaskLaws
 pub mod BitLaws
+pub mod Visits

@@ -1,4 +1,4 @@
--- Where the bits of an index land: on the listed qubits, on the other qubits, and the mask of a list. Assumes nothing.
+-- Where the bits of an index land: on the listed qubits, on the other qubits; and the mask of a list. Assumes nothing.
 use mathlib.Core.Bool.{Bool, true, false}
 use mathlib.Core.List.{List, [], _∷_, _++_}
 use Prim.Native.Nat.{ℕ, zero, suc, _+_, _*_, _/_, _%_, _^_}
@@ -16,14 +16,6 @@ unfoldable pub table : ℕ → (ℕ → ℕ) → List ℕ
 table zero f = []
 table (suc m) f = table m f ++ f m ∷ []
 
--- the row offset of t: bit i of t on the i-th listed qubit. The list's order is kept
-abbrev pub rowOffset : List ℕ → ℕ → ℕ
-rowOffset l t = spread l t
-
--- the row offsets of t from 0 on, as many as the listed qubits have settings
-abbrev pub rowOffsets : List ℕ → List ℕ
-rowOffsets l = table (2 ^ length l) (rowOffset l)
-
 -- q, where the list has it not
 abbrev pub unless : Bool → ℕ → List ℕ
 unless true q = []
@@ -33,6 +25,14 @@ unless false q = q ∷ []
 unfoldable pub otherQubits : ℕ → List ℕ → List ℕ
 otherQubits zero l = []
 otherQubits (suc q) l = otherQubits q l ++ unless (stands q l) q
+
+-- the row offset of t: bit i of t on the i-th listed qubit. The list's order is kept
+abbrev pub rowOffset : List ℕ → ℕ → ℕ
+rowOffset l t = spread l t
+
+-- the row offsets of t from 0 on, as many as the listed qubits have settings
+abbrev pub rowOffsets : List ℕ → List ℕ
+rowOffsets l = table (2 ^ length l) (rowOffset l)
 
 -- the traced base of e: its bits spread over the other qubits, lowest first
 abbrev pub tracedBase : ℕ → List ℕ → ℕ → ℕ
