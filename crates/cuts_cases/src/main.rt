@@ -1,0 +1,244 @@
+// Replays cases of the qubit lists, the offsets and bases, the smaller side and the cut matrix. Standard input is a text of
+// hexadecimal words: a case's kind and then its words. Each case writes one line of words; an answer is its number and its place.
+// A head is the register n, the export cap, the list's length and the list.
+//   1 head                the answers of validate_qubit_set and validate_subsystem
+//   2 head room           row_offsets into a slice of that many numbers: the answer, and the slice
+//   3 head e              traced_base: the answer and the base
+//   4 head room           smaller_side with a slice of that many numbers: the answer, the slice, and side_part's list
+//   5 head state room m   cut_matrix of a state of that many numbers into a slice of that many, after m changes of the state, each
+//                         a position and bits: the answer, and the slice, or its digest where it is long
+// A slice of whole numbers is lent as 100, 101 and so on; number i of a state has the bits 3FF0000000000000 + i, of a matrix
+// C000000000000000 + i.
+struct Head {
+    n: usize,
+    cap: usize,
+    k: usize,
+    next: usize,
+}
+
+fn read_head(text: &[u8], at: usize, list: &mut [usize]) -> Head {
+    let n = replay::next_word(text, at);
+    let cap = replay::next_word(text, n.next);
+    let k = replay::next_word(text, cap.next);
+    let next = replay::read_counts(text, k.next, list, replay::size_of(k.value));
+    Head {
+        n: replay::size_of(n.value),
+        cap: replay::size_of(cap.value),
+        k: replay::size_of(k.value),
+        next,
+    }
+}
+
+// The first k numbers, or all where there are fewer.
+fn front(s: &[usize], k: usize) -> &[usize] {
+    if s.len() < k {
+        return s;
+    }
+    &s[..k]
+}
+
+fn front_floats(s: &[f64], k: usize) -> &[f64] {
+    if s.len() < k {
+        return s;
+    }
+    &s[..k]
+}
+
+fn size_at(text: &[u8], at: usize) -> usize {
+    replay::size_of(replay::next_word(text, at).value)
+}
+
+fn past(text: &[u8], at: usize) -> usize {
+    replay::next_word(text, at).next
+}
+
+fn lists(text: &[u8], at: usize) -> usize {
+    let mut names = [0usize; 16];
+    let h = read_head(text, at, &mut names);
+    let list = front(&names, h.k);
+    replay::print_answer(qubits::validate_qubit_set(list, h.n));
+    replay::print_answer(qubits::validate_subsystem(list, h.n));
+    h.next
+}
+
+// What a slice of whole numbers holds as it is lent.
+fn mark(s: &mut [usize]) {
+    let mut i = 0;
+    while i < s.len() {
+        s[i] = std::num::wrapping_add_usize(0x100, i);
+        i += 1;
+    }
+}
+
+fn show_offsets(list: &[usize], n: usize, cap: usize, room: usize, out: &mut [usize]) {
+    if out.len() < room {
+        return;
+    }
+    replay::print_answer(offsets::row_offsets(list, n, cap, &mut out[..room]));
+    replay::print_counts(front(out, room));
+}
+
+fn offsets_case(text: &[u8], at: usize) -> usize {
+    let mut names = [0usize; 16];
+    let h = read_head(text, at, &mut names);
+    let mut out = [0usize; 128];
+    mark(&mut out);
+    show_offsets(
+        front(&names, h.k),
+        h.n,
+        h.cap,
+        size_at(text, h.next),
+        &mut out,
+    );
+    past(text, h.next)
+}
+
+fn base_case(text: &[u8], at: usize) -> usize {
+    let mut names = [0usize; 16];
+    let h = read_head(text, at, &mut names);
+    let e = size_at(text, h.next);
+    let r = offsets::traced_base(e, front(&names, h.k), h.n, h.cap);
+    let answer = r.answer;
+    replay::print_answer(answer);
+    replay::print_word(replay::word_of(r.base));
+    past(text, h.next)
+}
+
+fn show_side(list: &[usize], n: usize, cap: usize, room: usize, others: &mut [usize]) {
+    if others.len() < room {
+        return;
+    }
+    replay::print_answer(sides::smaller_side(list, n, cap, &mut others[..room]));
+    let left = front(others, room);
+    replay::print_counts(left);
+    replay::print_counts(sides::side_part(list, n, cap, left));
+}
+
+fn side_case(text: &[u8], at: usize) -> usize {
+    let mut names = [0usize; 16];
+    let h = read_head(text, at, &mut names);
+    let mut others = [0usize; 32];
+    mark(&mut others);
+    show_side(
+        front(&names, h.k),
+        h.n,
+        h.cap,
+        size_at(text, h.next),
+        &mut others,
+    );
+    past(text, h.next)
+}
+
+// What a slice of numbers holds as it is lent: bits that count up from the first number's.
+fn count_up(s: &mut [f64], first: u64) {
+    let mut i = 0;
+    let mut bits = first;
+    while i < s.len() {
+        s[i] = replay::float_of(bits);
+        bits = std::num::wrapping_add_u64(bits, 1);
+        i += 1;
+    }
+}
+
+// The changes of the state that the text names; where it goes on.
+fn change(text: &[u8], at: usize, state: &mut [f64], count: usize) -> usize {
+    let mut next = at;
+    let mut i = 0;
+    while i < count {
+        let place = replay::next_word(text, next);
+        let bits = replay::next_word(text, place.next);
+        let p = replay::size_of(place.value);
+        if p < state.len() {
+            state[p] = replay::float_of(bits.value);
+        }
+        next = bits.next;
+        i += 1;
+    }
+    next
+}
+
+// A digest of the numbers' bits, in order, modulo 2^31 - 1.
+fn digest(s: &[f64]) -> u64 {
+    let mut sum = 0u64;
+    let mut i = 0;
+    while i < s.len() {
+        sum = (sum * 31 + replay::bits_of(s[i]) % 0x7fff_ffff) % 0x7fff_ffff;
+        i += 1;
+    }
+    sum
+}
+
+fn print_matrix(s: &[f64]) {
+    if s.len() < 200 {
+        replay::print_floats(s);
+        return;
+    }
+    replay::print_word(digest(s));
+}
+
+fn show_cut(state: &[f64], n: usize, list: &[usize], cap: usize, room: usize, out: &mut [f64]) {
+    if out.len() < room {
+        return;
+    }
+    replay::print_answer(cuts::cut_matrix(state, n, list, cap, &mut out[..room]));
+    print_matrix(front_floats(out, room));
+}
+
+fn cut_into(state: &[f64], n: usize, list: &[usize], cap: usize, room: usize) {
+    let mut out = [0.0; 8200];
+    count_up(&mut out, 0xc000_0000_0000_0000);
+    show_cut(state, n, list, cap, room, &mut out);
+}
+
+fn cut_case(text: &[u8], at: usize) -> usize {
+    let mut names = [0usize; 16];
+    let h = read_head(text, at, &mut names);
+    let long = size_at(text, h.next);
+    let second = past(text, h.next);
+    let third = past(text, second);
+    let mut state = [0.0; 8200];
+    count_up(&mut state, 0x3ff0_0000_0000_0000);
+    let next = change(text, past(text, third), &mut state, size_at(text, third));
+    cut_into(
+        front_floats(&state, long),
+        h.n,
+        front(&names, h.k),
+        h.cap,
+        size_at(text, second),
+    );
+    next
+}
+
+fn case(text: &[u8], at: usize, kind: u64) -> usize {
+    if kind == 1 {
+        return lists(text, at);
+    }
+    if kind == 2 {
+        return offsets_case(text, at);
+    }
+    if kind == 3 {
+        return base_case(text, at);
+    }
+    if kind == 4 {
+        return side_case(text, at);
+    }
+    cut_case(text, at)
+}
+
+fn run(text: &[u8]) {
+    let mut at = 0;
+    for _ in 0..10000usize {
+        let kind = replay::next_word(text, at);
+        if !kind.found {
+            return;
+        }
+        at = case(text, kind.next, kind.value);
+        replay::end_line();
+    }
+}
+
+fn main() {
+    let mut text = [0u8; 262144];
+    let n = io::read_full(0, &mut text);
+    run(&text[..n]);
+}
