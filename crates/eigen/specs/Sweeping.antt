@@ -11,7 +11,7 @@ use Rattle.complex.specs.declared.Complex.{Complex}
 use Rattle.complex.specs.Planes.{planeAt}
 use Rattle.complex.specs.Zeros.{zeroFloat}
 use Rattle.complex.specs.Loops.{cond-yes, cond-no}
-use Rattle.jacobi.specs.declared.Decision.{Decision}
+use Rattle.pairs.specs.declared.Decision.{Decision}
 use Rattle.jacobi.specs.declared.Sweeps.{Sweeps}
 use Rattle.jacobi.specs.Sweeping.{counted, begin, noSweeps}
 use Rattle.eigenpair.specs.Decide.{decisionOf}

@@ -1,5 +1,5 @@
 // Inner: the cyclic Jacobi sweeps of the eigenvalues, over a square matrix of n rows that is lent as planes, row-major.
-use jacobi::Decision;
+use pairs::Decision;
 use jacobi::Sweeps;
 ghost use mathlib.Core.Path.{_≡_};
 ghost use Prim.Native.Nat.{_+_, _-_, _*_, _<_, _≤_};

@@ -7,8 +7,8 @@ use Rattle.numbers.specs.Numbers.{magnitudeOf, signOf, oneFloat}
 use Rattle.numbers.specs.Root.{sqrtOf}
 use Rattle.complex.specs.declared.Complex.{Complex}
 use Rattle.complex.specs.Arithmetic.{quotient, modulusOf}
-use Rattle.jacobi.specs.declared.Decision.{Decision}
-use Rattle.jacobi.specs.declared.Decision.the-variants.{Leave, Turn}
+use Rattle.pairs.specs.declared.Decision.{Decision}
+use Rattle.pairs.specs.declared.Decision.the-variants.{Leave, Turn}
 
 -- 2.0
 abbrev pub two : Float

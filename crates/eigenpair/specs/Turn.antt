@@ -9,8 +9,8 @@ use lib.Ieee.{Float, binary64}
 use Rattle.complex.specs.declared.Complex.{Complex}
 use Rattle.complex.specs.Arithmetic.{complexOf, product, sum, difference, conjugate}
 use Rattle.complex.specs.Planes.{planeAt, setPlane}
-use Rattle.jacobi.specs.declared.Decision.{Decision}
-use Rattle.jacobi.specs.declared.Decision.the-variants.{Leave, Turn}
+use Rattle.pairs.specs.declared.Decision.{Decision}
+use Rattle.pairs.specs.declared.Decision.the-variants.{Leave, Turn}
 use Rattle.jacobi.specs.Sweeping.{column-fits}
 use Rattle.eigenpair.specs.declared.Angle.{Angle}
 

@@ -1,11 +1,11 @@
 // Inner: a pair of the eigenvalue sweep, in a square matrix of n rows that is lent as planes, row-major: the cell of row p and
 // column q is p * n + q. Cosine and sine are real here.
 use complex::Complex;
-use jacobi::Decision;
+use pairs::Decision;
 ghost use mathlib.Core.Path.{_≡_};
 ghost use Prim.Native.Nat.{_+_, _*_, _<_, _≤_};
 ghost use lib.ListN.{length};
-ghost use Rattle.jacobi.specs.Decisions.{verdict};
+ghost use Rattle.pairs.specs.Decisions.{verdict};
 ghost use Rattle.eigenpair.specs.Decide.{tangentOf, turnAt, leftAlone, decisionOf};
 ghost use Rattle.eigenpair.specs.Turn.{timesReal, newP, newQ, turnTwo, turnLine, turned, applied};
 

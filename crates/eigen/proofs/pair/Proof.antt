@@ -1,7 +1,7 @@
 -- `eigen::pair` meets its contract: the calls are the definition's steps. Assumes nothing.
 use Prim.Native.Nat.{_*_, _+_, _<_}
 use native.Mathlib.Omega.{arith}
-use Rattle.jacobi.specs.Decisions.{verdict-one}
+use Rattle.pairs.specs.Decisions.{verdict-one}
 use Rattle.eigenpair.specs.Turn.{cell-fits}
 use Rattle.eigen.specs.Sweeping.{pair-made}
 use borrow.Author.Needs.{needs}
