@@ -73,9 +73,23 @@ uint32_t zg_cut_matrix(const double *state, size_t state_len, size_t n, const si
 
 /* ---- densities */
 
+/* Slices: state 0 (exactly 2*2^n numbers), list 1, out 2 (2*4^k), scratch 3 (2*2^k). The unscaled reduced density
+ * matrix of the listed qubits, row-major; a zero state and the whole register are accepted. Refused by 1 to 4, 6, 7. */
+uint32_t zg_dense_reduced_density(const double *state, size_t state_len, size_t n, const size_t *list, size_t list_len,
+                                  size_t cap, double *out, size_t out_len, double *scratch, size_t scratch_len,
+                                  size_t *place);
 /* rho is dim by dim, row-major, exactly 2*dim*dim numbers (slice 0); dim 1 to 64. The upper half becomes the
  * conjugate of the lower, the diagonal stays. Refused by 1, 6, 7. */
 uint32_t zg_mirror_lower_triangle(double *rho, size_t rho_len, size_t dim, size_t *place);
+
+/* ---- factors */
+
+/* Slices: a 0 (rows by cols, column-major, exactly 2*rows*cols numbers; rows*cols at most 4096), q 1 (2*rows*k,
+ * k = min(rows, cols), column-major), r 2 (2*k*cols, row-major), scratch 3 (2*rows). Modified Gram-Schmidt; columns of
+ * q and rows of r past the rank are +0.0. Refused by 1, 6, 7, 9. */
+uint32_t zg_factorize_gram_schmidt(const double *a, size_t a_len, size_t rows, size_t cols, double *q, size_t q_len,
+                                   double *r, size_t r_len, double *scratch, size_t scratch_len, size_t *place,
+                                   size_t *rank);
 
 /* ---- spectra */
 

@@ -17,6 +17,9 @@ ghost use Rattle.entries.specs.Squares.{mirrored};
 ghost use Rattle.finish.specs.Outcome as finish;
 ghost use Rattle.sides.specs.Sides.{SmallerSide};
 ghost use Rattle.cuts.specs.Cut.{CutMatrix};
+ghost use Rattle.densities.specs.Density.{Density};
+ghost use Rattle.qr.specs.Call.{Factorized};
+ghost use Rattle.qr.specs.declared.Factored.{Factored};
 
 // Inner: a number of the paper's table, as C has it.
 fn small(n: usize) -> u32
@@ -174,6 +177,45 @@ pub extern "C" fn zg_mirror_lower_triangle(rho: &mut [f64], dim: usize, place: &
     ensures { λ r. ⌜ Exported (λ a. InPlace (squareAnswer (now (rho .entry)) dim) (mirrored (now (rho .entry)) dim) (now (rho .entry)) a (now (rho .exit))) r (now (place .exit)) ⌝ }
 {
     told(densities::mirror_lower_triangle(rho, dim), place)
+}
+
+#[no_mangle]
+pub extern "C" fn zg_dense_reduced_density(
+    state: &[f64],
+    n: usize,
+    list: &[usize],
+    cap: usize,
+    out: &mut [f64],
+    scratch: &mut [f64],
+    place: &mut usize,
+) -> u32
+    ensures { λ r. ⌜ Exported (λ a. Density (now (state .entry)) n (now (list .entry)) cap (now (out .entry)) (now (scratch .entry)) a (now (out .exit)) (now (scratch .exit))) r (now (place .exit)) ⌝ }
+{
+    told(
+        densities::dense_reduced_density(state, n, list, cap, out, scratch),
+        place,
+    )
+}
+
+// ---- factors
+
+#[no_mangle]
+pub extern "C" fn zg_factorize_gram_schmidt(
+    a: &[f64],
+    rows: usize,
+    cols: usize,
+    q: &mut [f64],
+    r: &mut [f64],
+    scratch: &mut [f64],
+    place: &mut usize,
+    rank: &mut usize,
+) -> u32
+    ensures { λ x. ⌜ ExportedWith {R = Factored} (λ k. k .answer) (λ k. k .rank) (λ k. Factorized (now (a .entry)) rows cols (now (q .entry)) (now (r .entry)) (now (scratch .entry)) (k .answer) (k .rank) (now (q .exit)) (now (r .exit)) (now (scratch .exit))) x (now (place .exit)) (now (rank .exit)) ⌝ }
+{
+    let k = qr::factorize_gram_schmidt(a, rows, cols, q, r, scratch);
+    *rank = k.rank;
+    let answer = k.answer;
+    told(answer, place)
 }
 
 // ---- spectra
