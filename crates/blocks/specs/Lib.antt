@@ -1,0 +1,4 @@
+-- What the contracts of `blocks` cite.
+pub mod Factor
+pub mod FactorLaws
+pub mod AnswerLaws
