@@ -2,6 +2,19 @@
 use mathlib.Core.Path.{_≡_, refl}
 use mathlib.Core.List.{List, [], _∷_, map}
 use Prim.Native.Nat.{ℕ}
+use native.Mathlib.Nat.{min-zero}
+use lib.Ieee as Ieee
+use lib.Ieee.{Float, binary64, ofBits, toBits, ofFields, odd, round, units}
+use lib.Count.{trailingZeros}
+use lib.ListN.{take}
+use Rattle.numbers.specs.Root.{sqrtOf, rootOf, squared, size, floorRoot, nextRoot}
+use Rattle.complex.specs.Arithmetic.{product, sum, difference, conjugate, scaled, normSqr}
+use Rattle.complex.specs.Cells.{cellsOf}
+use Rattle.complex.specs.Zeros.{zeros}
+use Rattle.columns.specs.Dot.{noSums, addQuad, addFirst, joined, term, quadsTo, tailTo, dotOf}
+use Rattle.columns.specs.Columns.{cellFrom, columnOf, squaresTo, normOf, lessCell, lessened, scaledInto}
+use Rattle.gram_schmidt.specs.GramSchmidt.{projectedBy, projected, passTo, passes, newBasis, kept, judged, factors, addColumn, columnsTo, basisFor, withBasis, factorsOf}
+use Rattle.ranks.specs.Ranks.{firstOrZero, aboveCount, rankOf}
 use Rattle.answers.specs.Paper.{Reply}
 use Rattle.masks.specs.Submasks.{submaskAt}
 use Rattle.qubits.specs.Lists.{stands, placesFrom, subsystem}
@@ -14,6 +27,26 @@ to8 = 0 ∷ 1 ∷ 2 ∷ 3 ∷ 4 ∷ 5 ∷ 6 ∷ 7 ∷ []
 -- the amplitudes' numbers of a cut of three qubits, column after column
 abbrev gathered : List ℕ → List ℕ
 gathered l = map (sourceOf 3 l) to8
+
+abbrev float0 : Float
+float0 = ofBits binary64 0
+
+abbrev float1 : Float
+float1 = ofBits binary64 0x3ff0_0000_0000_0000
+
+abbrev float2 : Float
+float2 = ofBits binary64 0x4000_0000_0000_0000
+
+abbrev float4 : Float
+float4 = ofBits binary64 0x4010_0000_0000_0000
+
+-- the columns (2,0),(4,0)
+abbrev twoColumns : List Float
+twoColumns = float2 ∷ float0 ∷ float0 ∷ float0 ∷ float4 ∷ float0 ∷ float0 ∷ float0 ∷ []
+
+-- 0.3
+abbrev threshold : Float
+threshold = ofBits binary64 0x3fd3_3333_3333_3333
 
 pub record Starred : Type 0 where
   -- n=3, list {2} and list {0,1}: columns (0,4),(1,5),(2,6),(3,7)
@@ -31,9 +64,18 @@ pub record Starred : Type 0 where
   pub empty : _≡_ {A = Reply} (subsystem 2 []) (4, 0)
   -- the printed case, n=4, list 0,1: the columns start at 0,4,8,12
   pub starts : map (sourceOf 4 (0 ∷ 1 ∷ [])) (0 ∷ 4 ∷ 8 ∷ 12 ∷ []) ≡ 0 ∷ 4 ∷ 8 ∷ 12 ∷ []
+  -- QR of zero 2×2: rank 1, q (1,0), r zero
+  pub qr-zero : factorsOf (zeros 8) 2 2 ≡ factors (float1 ∷ zeros 7) (zeros 8) 1
+  -- columns (2,0),(4,0): rank 1, r 2,4
+  pub qr-rank : factorsOf twoColumns 2 2 .rank ≡ 1
+  pub qr-r : take 4 (factorsOf twoColumns 2 2 .r) ≡ float2 ∷ float0 ∷ float4 ∷ float0 ∷ []
+  -- rank of 1, 0.5, 0.25 with threshold 0.3 and cap 8: 2. Of 0, 0: 1. Any list with cap 0: 0
+  pub rank-halves : rankOf (float1 ∷ ofBits binary64 0x3fe0_0000_0000_0000 ∷ ofBits binary64 0x3fd0_0000_0000_0000 ∷ []) threshold 8 ≡ 2
+  pub rank-zeros : rankOf (float0 ∷ float0 ∷ []) threshold 8 ≡ 1
+  pub rank-capped : (values : List Float) (epsilon : Float) → rankOf values epsilon 0 ≡ 0
 
 pub starred : Starred
-unfolding submaskAt maskFrom spread table otherQubits stands placesFrom
+unfolding submaskAt maskFrom spread table otherQubits stands placesFrom zeros cellsOf product sum difference conjugate scaled normSqr noSums addQuad addFirst joined term quadsTo tailTo dotOf cellFrom columnOf squaresTo normOf lessCell lessened scaledInto projectedBy projected passTo passes newBasis kept judged addColumn columnsTo basisFor withBasis factorsOf firstOrZero aboveCount rankOf sqrtOf rootOf squared size floorRoot nextRoot ofBits toBits ofFields odd round units trailingZeros Ieee.add Ieee.sub Ieee.mul Ieee.div Ieee.neg Ieee.lt Ieee.sum Ieee.size Ieee.span Ieee.climb
 starred = record {
   list-2 = refl;
   list-01 = refl;
@@ -45,4 +87,10 @@ starred = record {
   whole = refl;
   empty = refl;
   starts = refl;
+  qr-zero = refl;
+  qr-rank = refl;
+  qr-r = refl;
+  rank-halves = refl;
+  rank-zeros = refl;
+  rank-capped = λ values epsilon. min-zero _;
 }

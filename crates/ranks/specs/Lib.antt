@@ -1,0 +1,3 @@
+-- What the contracts of `ranks` cite.
+pub mod Ranks
+pub mod RankLaws
