@@ -1,6 +1,6 @@
 // Inner: the cyclic Jacobi sweeps of the eigenvalues, over a square matrix of n rows that is lent as planes, row-major.
-use pairs::Decision;
 use jacobi::Sweeps;
+use pairs::Decision;
 ghost use mathlib.Core.Path.{_≡_};
 ghost use Prim.Native.Nat.{_+_, _-_, _*_, _<_, _≤_};
 ghost use lib.ListN.{length};

@@ -123,8 +123,8 @@ fn column_values(work: &mut [f64], m: usize, n: usize, p: usize, s: Sweeps) -> S
     ensures { λ r. ⌜ state (now (work .exit)) [] r ≡ pairsTo m n p (n - (p + 1)) (state (now (work .entry)) [] s) ⌝ }
 {
     let mut t = s;
-    for q in (p + 1)..n {
-        t = pair_values(work, m, n, p, q, t);
+    for other in (p + 1)..n {
+        t = pair_values(work, m, n, p, other, t);
     }
     t
 }

@@ -1,4 +1,5 @@
--- What the contracts of `pairs` cite.
+-- What the contracts of `pairs` cite, and a case that tells them from a slip.
 pub mod Gram
 pub mod Decisions
 pub mod Turns
+pub mod SignedZeros

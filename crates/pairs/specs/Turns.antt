@@ -5,7 +5,7 @@ use Prim.Native.Nat.{ℕ, zero, suc, _+_}
 use native.Mathlib.Numerals.{add-one}
 use lib.Ieee.{Float}
 use Rattle.complex.specs.declared.Complex.{Complex}
-use Rattle.complex.specs.Arithmetic.{complexOf, product, sum, negation, conjugate}
+use Rattle.complex.specs.Arithmetic.{complexOf, product, sum, negation, conjugate, scaled}
 use Rattle.complex.specs.Planes.{planeAt, setPlane}
 use Rattle.complex.specs.Zeros.{zeroFloat}
 use Rattle.pairs.specs.declared.Factors.{Factors}
@@ -31,6 +31,10 @@ newP f ap aq = sum (product (f .pp) ap) (product (f .pq) aq)
 
 unfoldable pub newQ : Factors → Complex → Complex → Complex
 newQ f ap aq = sum (product (f .qp) ap) (product (f .qq) aq)
+
+-- What a real cosine would make of the new p. It is not what the sweeps do: `SignedZeros.antt` has a case with another zero.
+unfoldable pub realP : Factors → Complex → Complex → Complex
+realP f ap aq = sum (scaled ap (f .pp .re)) (product (f .pq) aq)
 
 -- the cells i and j are turned, both from their old values
 unfoldable pub turnRow : Factors → ℕ → ℕ → ℕ → List Float → List Float

@@ -16,8 +16,8 @@ Inv-loop work₀ m n p t₀ q₀ work t q = (p < q) × (q ≤ n) × (length work
 abbrev μ-loop : tie.MeasureT-loop
 μ-loop work₀ m n p t₀ q₀ work t q = n - q
 
-add-q : tie.Need-add-q Inv-loop μ-loop
-add-q c = search needs
+add-other : tie.Need-add-other Inv-loop μ-loop
+add-other c = search needs
 
 loop-holds : tie.Need-loop-holds Inv-loop μ-loop
 loop-holds c = (search needs, search needs, refl, pairs-none _ _ _ _, search needs)
@@ -25,8 +25,8 @@ loop-holds c = (search needs, search needs, refl, pairs-none _ _ _ _, search nee
 pair-values-requires : tie.Need-pair-values-requires Inv-loop μ-loop
 pair-values-requires c κs = search needs
 
-add-q-2 : tie.Need-add-q-2 Inv-loop μ-loop
-add-q-2 c = search needs
+add-other-2 : tie.Need-add-other-2 Inv-loop μ-loop
+add-other-2 c = search needs
 
 loop-less : tie.Need-loop-less Inv-loop μ-loop
 loop-less c = search needs
@@ -39,8 +39,8 @@ same-length c = search needs
 
 returns : tie.Need-returns Inv-loop μ-loop
 returns c =
-    let e : c .before .loop .q ≡ c .before .before .before .args .n = omega arith in
+    let e : c .before .loop .other ≡ c .before .before .before .args .n = omega arith in
     rw e at (c .before .loop .inv .3)
 
 pub column-values-spec : {M : Type 1} → statement M
-column-values-spec = tie.close (tie.spec Inv-loop μ-loop add-q loop-holds pair-values-requires add-q-2 loop-less loop-again same-length returns)
+column-values-spec = tie.close (tie.spec Inv-loop μ-loop add-other loop-holds pair-values-requires add-other-2 loop-less loop-again same-length returns)
