@@ -1,0 +1,3 @@
+-- What the contracts of `svd` cite.
+pub mod Svd
+pub mod SvdLaws

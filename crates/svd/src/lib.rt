@@ -1,0 +1,189 @@
+// The thin SVD of an m by n matrix by one-sided Jacobi turns: A = U diag(s) V†, U column-major, V† row-major,
+// the values falling.
+use answers::Answer;
+ghost use mathlib.Core.Path.{_≡_};
+ghost use Prim.Native.Nat.{_*_, _≤_};
+ghost use lib.ListN.{length};
+ghost use Rattle.answers.specs.Paper.{paper};
+ghost use Rattle.svd.specs.Svd.{sideOf, sizeTest, lengthTests, tests, finiteFactors, Exact, Factored, Finished, Worked, Svd};
+
+// The smaller of the two sizes: how many values there are.
+pub fn smaller_size(m: usize, n: usize) -> usize
+    ensures { λ r. ⌜ r ≡ sideOf m n ⌝ }
+{
+    if m < n {
+        return m;
+    }
+    n
+}
+
+// Both sizes at least 1, and at most 4096 cells: else 1.
+fn check_sizes(m: usize, n: usize) -> Answer
+    ensures { λ r. ⌜ paper r ≡ sizeTest m n ⌝ }
+{
+    if m < 1 {
+        return Answer::Size;
+    }
+    if n < 1 {
+        return Answer::Size;
+    }
+    if m > 4096 {
+        return Answer::Size;
+    }
+    if n > 4096 {
+        return Answer::Size;
+    }
+    if m * n > 4096 {
+        return Answer::Size;
+    }
+    Answer::Done
+}
+
+// The first slice of a wrong length, or too short: 6.
+fn check_lengths(
+    m: usize,
+    n: usize,
+    a: usize,
+    u: usize,
+    s: usize,
+    vt: usize,
+    scratch: usize,
+) -> Answer
+    requires { ⌜ m * n ≤ 4096 ⌝ }
+    ensures { λ r. ⌜ paper r ≡ lengthTests m n a u s vt scratch ⌝ }
+{
+    let k = smaller_size(m, n);
+    if a != 2 * (m * n) {
+        return Answer::Length(0);
+    }
+    if u < 2 * (m * k) {
+        return Answer::Length(1);
+    }
+    if s < k {
+        return Answer::Length(2);
+    }
+    if vt < 2 * (k * n) {
+        return Answer::Length(3);
+    }
+    if scratch < 6 * (m * n) + 2 * k {
+        return Answer::Length(4);
+    }
+    Answer::Done
+}
+
+// Every refusal that comes before the work.
+fn check(a: &[f64], m: usize, n: usize, u: usize, s: usize, vt: usize, scratch: usize) -> Answer
+    ensures { λ r. ⌜ paper r ≡ tests (now (a .entry)) m n u s vt scratch ⌝ }
+{
+    let first = check_sizes(m, n);
+    let Answer::Done = first else {
+        return first;
+    };
+    let second = check_lengths(m, n, a.len(), u, s, vt, scratch);
+    let Answer::Done = second else {
+        return second;
+    };
+    complex::check_components(a)
+}
+
+// The factors, over slices of exactly the needed lengths. Where the matrix is wider than tall the work is
+// done on its conjugate transpose, and U and V† change places.
+fn factor(
+    a: &[f64],
+    m: usize,
+    n: usize,
+    u: &mut [f64],
+    s: &mut [f64],
+    vt: &mut [f64],
+    scratch: &mut [f64],
+)
+    requires { ⌜ Exact m n (length (now a)) (length (now u)) (length (now s)) (length (now vt)) (length (now scratch)) ⌝ }
+    ensures { λ _. ⌜ Factored (now (a .entry)) m n (now (u .exit)) (now (s .exit)) (now (vt .exit)) ⌝ }
+{
+    if m < n {
+        let w = 2 * (m * n);
+        loading::load_wide(a, m, n, &mut scratch[..w]);
+        thin::factor(n, m, true, vt, s, u, scratch);
+        return;
+    }
+    let c = n * m;
+    let w = 2 * c;
+    loading::load_tall(a, c, &mut scratch[..w]);
+    thin::factor(m, n, false, u, s, vt, scratch);
+}
+
+// Whether every number of the three is finite.
+fn finite_factors(u: &[f64], s: &[f64], vt: &[f64]) -> bool
+    ensures { λ r. ⌜ r ≡ finiteFactors (now (u .entry)) (now (s .entry)) (now (vt .entry)) ⌝ }
+{
+    if !factors::all_finite(u) {
+        return false;
+    }
+    if !factors::all_finite(s) {
+        return false;
+    }
+    factors::all_finite(vt)
+}
+
+// 9 where a number of a factor is not finite, and then all three are +0.0.
+fn finish(u: &mut [f64], s: &mut [f64], vt: &mut [f64]) -> Answer
+    ensures { λ r. ⌜ Finished (now (u .entry)) (now (s .entry)) (now (vt .entry)) r (now (u .exit)) (now (s .exit)) (now (vt .exit)) ⌝ }
+{
+    if finite_factors(u, s, vt) {
+        return Answer::Done;
+    }
+    complex::zero_first(u, u.len());
+    complex::zero_first(s, s.len());
+    complex::zero_first(vt, vt.len());
+    Answer::NotFinite
+}
+
+// The work of an accepted call, over slices of exactly the needed lengths.
+fn work(
+    a: &[f64],
+    m: usize,
+    n: usize,
+    u: &mut [f64],
+    s: &mut [f64],
+    vt: &mut [f64],
+    scratch: &mut [f64],
+) -> Answer
+    requires { ⌜ Exact m n (length (now a)) (length (now u)) (length (now s)) (length (now vt)) (length (now scratch)) ⌝ }
+    ensures { λ r. ⌜ Worked (now (a .entry)) m n r (now (u .exit)) (now (s .exit)) (now (vt .exit)) (now (scratch .exit)) ⌝ }
+{
+    factor(a, m, n, u, s, vt, scratch);
+    complex::zero_first(scratch, scratch.len());
+    finish(u, s, vt)
+}
+
+// U, the values and V† of the m by n matrix a.
+pub fn svd_jacobi(
+    a: &[f64],
+    m: usize,
+    n: usize,
+    u: &mut [f64],
+    s: &mut [f64],
+    vt: &mut [f64],
+    scratch: &mut [f64],
+) -> Answer
+    ensures { λ r. ⌜ Svd (now (a .entry)) m n (now (u .entry)) (now (s .entry)) (now (vt .entry)) (now (scratch .entry)) r
+        (now (u .exit)) (now (s .exit)) (now (vt .exit)) (now (scratch .exit)) ⌝ }
+{
+    let answer = check(a, m, n, u.len(), s.len(), vt.len(), scratch.len());
+    let Answer::Done = answer else {
+        return answer;
+    };
+    let k = smaller_size(m, n);
+    let for_u = 2 * (m * k);
+    let for_vt = 2 * (k * n);
+    let for_scratch = 6 * (m * n) + 2 * k;
+    work(
+        a,
+        m,
+        n,
+        &mut u[..for_u],
+        &mut s[..k],
+        &mut vt[..for_vt],
+        &mut scratch[..for_scratch],
+    )
+}

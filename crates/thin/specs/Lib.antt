@@ -1,0 +1,2 @@
+-- What the contracts of `thin` cite.
+pub mod Thin
