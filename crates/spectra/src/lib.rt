@@ -1,0 +1,82 @@
+// Spectra of square matrices of complex cells, row-major.
+use answers::Answer;
+ghost use mathlib.Core.Path.{_≡_};
+ghost use Prim.Native.Nat.{_*_, _≤_};
+ghost use lib.ListN.{length};
+ghost use Rattle.answers.specs.Paper.{paper};
+ghost use Rattle.eigen.specs.Sweeping.{Square, diagonal};
+ghost use Rattle.loading.specs.Numbers.{filled};
+ghost use Rattle.complex.specs.Zeros.{zeroed};
+ghost use Rattle.spectra.specs.Eigenvalues.{eigenvalue, squareRefusal};
+ghost use Rattle.spectra.specs.Outcomes.{Given, Worked, Eigenvalues};
+
+// Answers 1, 6 and 7 of a spectrum of a square matrix.
+fn square_refusal(a: &[f64], dim: usize, out: usize, scratch: usize) -> Answer
+    ensures { λ r. ⌜ paper r ≡ squareRefusal (now (a .entry)) dim out scratch ⌝ }
+{
+    if dim < 1 {
+        return Answer::Size;
+    }
+    if dim > 64 {
+        return Answer::Size;
+    }
+    let need = 2 * (dim * dim);
+    if a.len() != need {
+        return Answer::Length(0);
+    }
+    if out < dim {
+        return Answer::Length(1);
+    }
+    if scratch < need {
+        return Answer::Length(2);
+    }
+    complex::check_components(a)
+}
+
+// The real parts of the diagonal, to the front of out.
+fn write_diagonal(work: &[f64], n: usize, out: &mut [f64])
+    requires { ⌜ Square n (length (now work)) × (n ≤ length (now out)) ⌝ }
+    ensures { λ _. ⌜ now (out .exit) ≡ filled n (diagonal (now (work .entry)) n) (now (out .entry)) ⌝ }
+{
+    for i in 0..n {
+        let at = i * n + i;
+        out[i] = work[at];
+    }
+}
+
+// The eigenvalues of a to the front of out; work is +0.0 at the end.
+fn spectrum(a: &[f64], n: usize, out: &mut [f64], work: &mut [f64])
+    requires { ⌜ Given n (length (now a)) (length (now out)) (length (now work)) × (length (now work) ≡ 2 * (n * n)) ⌝ }
+    ensures { λ _. ⌜ (now (out .exit) ≡ filled n (eigenvalue (now (a .entry)) n) (now (out .entry)))
+        × (now (work .exit) ≡ zeroed (2 * (n * n)) (now (work .entry))) ⌝ }
+{
+    loading::load_tall(a, n * n, work);
+    let swept = eigen::settle(work, n);
+    write_diagonal(work, n, out);
+    complex::zero_first(work, 2 * (n * n));
+}
+
+// The eigenvalues of a matrix that is not refused: 0 or 9.
+fn work_out(a: &[f64], n: usize, out: &mut [f64], scratch: &mut [f64]) -> Answer
+    requires { ⌜ Given n (length (now a)) (length (now out)) (length (now scratch)) ⌝ }
+    ensures { λ r. ⌜ Worked (now (a .entry)) n (now (out .entry)) (now (scratch .entry)) r (now (out .exit)) (now (scratch .exit)) ⌝ }
+{
+    let need = 2 * (n * n);
+    spectrum(a, n, out, &mut scratch[..need]);
+    if values::all_finite(&out[..n]) {
+        return Answer::Done;
+    }
+    complex::zero_first(out, n);
+    Answer::NotFinite
+}
+
+// The eigenvalues of a Hermitian matrix of side dim, in the order of the diagonal.
+pub fn hermitian_eigenvalues(a: &[f64], dim: usize, out: &mut [f64], scratch: &mut [f64]) -> Answer
+    ensures { λ r. ⌜ Eigenvalues (now (a .entry)) dim (now (out .entry)) (now (scratch .entry)) r (now (out .exit)) (now (scratch .exit)) ⌝ }
+{
+    let answer = square_refusal(a, dim, out.len(), scratch.len());
+    let Answer::Done = answer else {
+        return answer;
+    };
+    work_out(a, dim, out, scratch)
+}
