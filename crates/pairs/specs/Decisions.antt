@@ -1,5 +1,6 @@
 -- The decision on a pair of columns from its Gram sums: leave it, or turn it with a cosine, a sine and a phase. Assumes nothing.
-use mathlib.Core.Path.{_≡_, refl, ap}
+use mathlib.Core.Path.{_≡_, refl, ap, _∙_}
+use mathlib.Core.Logic.{_⊎_, inl, inr}
 use mathlib.Core.Bool.{true, false, cond}
 use mathlib.Core.List.{List, [], _∷_}
 use Prim.Native.Nat.{ℕ}
@@ -10,6 +11,7 @@ use Rattle.numbers.specs.Root.{sqrtOf}
 use Rattle.complex.specs.declared.Complex.{Complex}
 use Rattle.complex.specs.Arithmetic.{complexOf, quotient, normSqr, modulusOf}
 use Rattle.complex.specs.Zeros.{zeroFloat}
+use Rattle.pairs.specs.Signs.{not-both, none}
 use Rattle.pairs.specs.declared.GramSums.{GramSums}
 use Rattle.pairs.specs.declared.Decision.{Decision}
 use Rattle.pairs.specs.declared.Decision.the-variants.{Leave, Turn}
@@ -92,13 +94,19 @@ decisionOf g = cond (Ieee.le (normSqr (g .pq)) (bound g)) Leave (turnOf g (modul
 
 -- ---- a law for each way through the code
 
-pub tangent-up : (x h size o : Float) → Ieee.le zeroFloat x ≡ true → h ≡ hypotenuse x → size ≡ x → o ≡ Ieee.neg one → Ieee.div binary64 o (Ieee.add binary64 size h) ≡ tangentOf x
-unfolding tangentOf
-tangent-up x h size o t e f g = rw (t, e, f, g)
+-- what the sign of x picks for |x| and for ∓1
+abbrev pub Size : Float → Float → Type 0
+Size x size = ((Ieee.lt x zeroFloat ≡ true) × (size ≡ Ieee.neg x)) ⊎ ((Ieee.lt x zeroFloat ≡ false) × (size ≡ x))
 
-pub tangent-down : (x h size o : Float) → Ieee.le zeroFloat x ≡ false → h ≡ hypotenuse x → size ≡ Ieee.neg x → o ≡ one → Ieee.div binary64 o (Ieee.add binary64 size h) ≡ tangentOf x
+pub tangent-up : (x h size o : Float) → Ieee.le zeroFloat x ≡ true → h ≡ hypotenuse x → Size x size → o ≡ Ieee.neg one → Ieee.div binary64 o (Ieee.add binary64 size h) ≡ tangentOf x
 unfolding tangentOf
-tangent-down x h size o t e f g = rw (t, e, f, g)
+tangent-up x h size o t e (inl f) g = absurd (not-both x t (f .0))
+tangent-up x h size o t e (inr f) g = rw (t, e, f .1, g)
+
+pub tangent-down : (x h size o : Float) → Ieee.le zeroFloat x ≡ false → h ≡ hypotenuse x → Size x size → o ≡ one → Ieee.div binary64 o (Ieee.add binary64 size h) ≡ tangentOf x
+unfolding tangentOf
+tangent-down x h size o t e (inl f) g = rw (t, e, f .1, g)
+tangent-down x h size o t e (inr f) g = rw (t, e, f .1 ∙ none x t (f .0), g)
 
 pub decision-leave : (g : GramSums) (off : Float) → off ≡ normSqr (g .pq) → Ieee.le off (bound g) ≡ true → Leave ≡ decisionOf g
 unfolding decisionOf

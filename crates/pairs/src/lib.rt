@@ -117,11 +117,14 @@ fn tangent(tau: f64, near: Guesses) -> f64
 {
     let x = 1.0 + tau * tau;
     let root = roots::root_near(x, roots::sharpened(x, near.root, near.root_over));
-    // both branches divide once, so the sign, which no processor foretells, picks numbers and no way
-    let mut size = -tau;
+    // no processor foretells the sign of tau, so it picks two numbers and no way: the first `if` is
+    // compiled to a maximum, the second to an index
+    let mut size = tau;
+    if tau < 0.0 {
+        size = -tau;
+    }
     let mut one = 1.0;
     if tau >= 0.0 {
-        size = tau;
         one = -1.0;
     }
     one / (size + root)
