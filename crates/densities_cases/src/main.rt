@@ -1,0 +1,188 @@
+// Replays cases of the density and of the calls on a square matrix. Standard input is a text of hexadecimal
+// words: a case's kind, then its arguments, a slice as its length and its words. Each case writes one line:
+// the answer's number and place, and then the lent slices as they are afterwards.
+//   1 n cap list state out scratch    dense_reduced_density; out and scratch are lengths, of numbers 1.0
+//   2 dim rho                         mirror_lower_triangle
+//   3 dim rho                         normalize_trace
+//   4 dim positions side rho factor   multiply_block_factor
+
+// The first k numbers of s, or all where it has fewer.
+fn front(s: &[usize], k: usize) -> &[usize] {
+    if s.len() < k {
+        return s;
+    }
+    &s[..k]
+}
+
+fn front_floats(s: &[f64], k: usize) -> &[f64] {
+    if s.len() < k {
+        return s;
+    }
+    &s[..k]
+}
+
+fn size_at(text: &[u8], at: usize) -> usize {
+    replay::size_of(replay::next_word(text, at).value)
+}
+
+fn past(text: &[u8], at: usize) -> usize {
+    replay::next_word(text, at).next
+}
+
+fn show_density(
+    state: &[f64],
+    n: usize,
+    list: &[usize],
+    cap: usize,
+    out: &mut [f64],
+    o: usize,
+    scratch: &mut [f64],
+    w: usize,
+) {
+    if out.len() < o {
+        return;
+    }
+    if scratch.len() < w {
+        return;
+    }
+    replay::print_answer(densities::dense_reduced_density(
+        state,
+        n,
+        list,
+        cap,
+        &mut out[..o],
+        &mut scratch[..w],
+    ));
+    replay::print_floats(front_floats(out, o));
+    replay::print_floats(front_floats(scratch, w));
+}
+
+fn density_into(state: &[f64], n: usize, list: &[usize], cap: usize, o: usize, w: usize) {
+    let mut out = [1.0; 8200];
+    let mut scratch = [1.0; 200];
+    show_density(state, n, list, cap, &mut out, o, &mut scratch, w);
+}
+
+fn density(text: &[u8], at: usize) -> usize {
+    let second = past(text, at);
+    let third = past(text, second);
+    let k = size_at(text, third);
+    let mut list = [0usize; 16];
+    let fourth = replay::read_counts(text, past(text, third), &mut list, k);
+    let m = size_at(text, fourth);
+    let mut state = [0.0; 8200];
+    let fifth = replay::read_floats(text, past(text, fourth), &mut state, m);
+    let sixth = past(text, fifth);
+    density_into(
+        front_floats(&state, m),
+        size_at(text, at),
+        front(&list, k),
+        size_at(text, second),
+        size_at(text, fifth),
+        size_at(text, sixth),
+    );
+    past(text, sixth)
+}
+
+fn show_mirror(rho: &mut [f64], m: usize, dim: usize) {
+    if rho.len() < m {
+        return;
+    }
+    replay::print_answer(densities::mirror_lower_triangle(&mut rho[..m], dim));
+    replay::print_floats(front_floats(rho, m));
+}
+
+fn show_trace(rho: &mut [f64], m: usize, dim: usize) {
+    if rho.len() < m {
+        return;
+    }
+    replay::print_answer(traces::normalize_trace(&mut rho[..m], dim));
+    replay::print_floats(front_floats(rho, m));
+}
+
+fn square(text: &[u8], at: usize, kind: u64) -> usize {
+    let second = past(text, at);
+    let m = size_at(text, second);
+    let mut rho = [0.0; 8200];
+    let last = replay::read_floats(text, past(text, second), &mut rho, m);
+    if kind == 2 {
+        show_mirror(&mut rho, m, size_at(text, at));
+        return last;
+    }
+    show_trace(&mut rho, m, size_at(text, at));
+    last
+}
+
+fn show_block(
+    rho: &mut [f64],
+    m: usize,
+    dim: usize,
+    positions: &[usize],
+    factor: &[f64],
+    side: usize,
+) {
+    if rho.len() < m {
+        return;
+    }
+    replay::print_answer(blocks::multiply_block_factor(
+        &mut rho[..m],
+        dim,
+        positions,
+        factor,
+        side,
+    ));
+    replay::print_floats(front_floats(rho, m));
+}
+
+fn block_into(text: &[u8], at: usize, dim: usize, positions: &[usize], side: usize) -> usize {
+    let m = size_at(text, at);
+    let mut rho = [0.0; 2048];
+    let second = replay::read_floats(text, past(text, at), &mut rho, m);
+    let f = size_at(text, second);
+    let mut factor = [0.0; 2048];
+    let last = replay::read_floats(text, past(text, second), &mut factor, f);
+    show_block(&mut rho, m, dim, positions, front_floats(&factor, f), side);
+    last
+}
+
+fn block(text: &[u8], at: usize) -> usize {
+    let second = past(text, at);
+    let k = size_at(text, second);
+    let mut positions = [0usize; 16];
+    let third = replay::read_counts(text, past(text, second), &mut positions, k);
+    block_into(
+        text,
+        past(text, third),
+        size_at(text, at),
+        front(&positions, k),
+        size_at(text, third),
+    )
+}
+
+fn case(text: &[u8], at: usize, kind: u64) -> usize {
+    if kind == 1 {
+        return density(text, at);
+    }
+    if kind == 4 {
+        return block(text, at);
+    }
+    square(text, at, kind)
+}
+
+fn run(text: &[u8]) {
+    let mut at = 0;
+    for _ in 0..10000usize {
+        let kind = replay::next_word(text, at);
+        if !kind.found {
+            return;
+        }
+        at = case(text, kind.next, kind.value);
+        replay::end_line();
+    }
+}
+
+fn main() {
+    let mut text = [0u8; 524288];
+    let n = io::read_full(0, &mut text);
+    run(&text[..n]);
+}
