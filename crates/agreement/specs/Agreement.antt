@@ -20,7 +20,7 @@ use Rattle.agreement.specs.FromCut.{placeOf, cutDensityCell}
 use Rattle.agreement.specs.Once.{once, amplitude-held}
 use Rattle.agreement.specs.SameDensity.{same-density}
 
-written-same : (m : ℕ) (f g : ℕ → Complex) (o : List Float) → ((k : ℕ) → k < m → f k ≡ g k) → written m f o ≡ written m g o
+pub written-same : (m : ℕ) (f g : ℕ → Complex) (o : List Float) → ((k : ℕ) → k < m → f k ≡ g k) → written m f o ≡ written m g o
 unfolding written
 written-same m f g o h = ap (λ (x : List Float). x ++ drop (2 * m) o) (cells-same m f g h)
 

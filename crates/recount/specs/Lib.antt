@@ -1,2 +1,3 @@
 pub mod Recount
 pub mod RecountLaws
+pub mod Pages
