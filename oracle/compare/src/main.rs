@@ -122,6 +122,7 @@ fn main() {
         _ => panic!("usage: compare SEED COUNT, or compare replay FILE"),
     };
     tally.print();
-    println!("compared {} calls, {} mismatches, {how}, {} s", tally.calls, tally.wrong, start.elapsed().as_secs());
+    let seconds = start.elapsed().as_secs_f64();
+    println!("compared {} calls, {} mismatches, {how}, {seconds:.1} s", tally.calls, tally.wrong);
     exit(if tally.wrong > 0 || tally.calls == 0 { 1 } else { 0 });
 }

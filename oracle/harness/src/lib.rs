@@ -5,5 +5,6 @@ pub mod cases;
 pub mod oracle;
 pub mod random;
 pub mod sample;
+pub mod sites_sample;
 pub mod small;
 pub mod table;

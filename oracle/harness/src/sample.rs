@@ -4,6 +4,7 @@ use crate::call::{Arg, Call, Entry, Entry::*, Kind};
 use crate::cases::{self, Bounds, Style, lent, numbers, one, power};
 use crate::oracle::{Build, outcome};
 use crate::random::Random;
+use crate::sites_sample;
 use crate::table::{self, LARGEST, Role};
 
 /// What stands in a lent slice before the call.
@@ -35,6 +36,9 @@ pub fn entries(kind: &str) -> &'static [Entry] {
 pub fn asked(kind: &str, call: &Call) -> String {
     let number =
         entries(kind).iter().position(|&entry| entry == call.entry).expect("an entry point of the program") + 1;
+    if kind == "sites_cases" {
+        return sites_sample::asked(number, call);
+    }
     let mut line = format!("{number:X}");
     for (arg, what) in call.args.iter().zip(call.entry.kinds()) {
         match arg {
@@ -53,7 +57,10 @@ pub fn asked(kind: &str, call: &Call) -> String {
 }
 
 /// What the case prints: number, place, the number handed back where there is one, and each lent slice whole.
-pub fn printed(call: &Call) -> String {
+pub fn printed(kind: &str, call: &Call) -> String {
+    if kind == "sites_cases" {
+        return sites_sample::printed(call);
+    }
     let outcome = outcome(call, Build::Replaced);
     let mut words = vec![u64::from(outcome.number), outcome.place];
     if call.entry.returns() {
@@ -205,39 +212,6 @@ fn finishes(rng: &mut Random, calls: &mut Vec<Call>) {
     damaged(rng, finish_schmidt_values, 12, calls);
 }
 
-fn sites(rng: &mut Random, entry: Entry, calls: &mut Vec<Call>) {
-    for _ in 0..20 {
-        calls.push(cases::accepted(rng, entry, Bounds { qubits: 2, side: 2 }));
-    }
-    match entry {
-        cut_rank | widest_block_cut => {
-            let last = if entry == cut_rank { [0, 1, 4096, 4097] } else { [1, 2, 16, 17] };
-            for a in [0, 1, 4096] {
-                for b in [0, 3, 4096, 4097] {
-                    for c in last {
-                        calls.push(Call::new(entry, vec![one(a), one(b), one(c)]));
-                    }
-                }
-            }
-            if entry == widest_block_cut {
-                calls.push(Call::new(entry, vec![one(1), one(1), one(0)]));
-            }
-        }
-        truncated_svd_rank => {
-            let list = |values: &[f64]| Arg::Many(values.iter().map(|value| value.to_bits()).collect());
-            for (values, epsilon, cap) in
-                [(&[1.0, 0.5, 0.25][..], 0.3, 8), (&[0.0, 0.0], 0.3, 8), (&[1.0, 1.0], 0.1, 0)]
-            {
-                calls.push(Call::new(entry, vec![list(values), Arg::One(f64::to_bits(epsilon)), one(cap)]));
-            }
-        }
-        _ => {}
-    }
-    if entry.kinds().len() > 4 {
-        damaged(rng, entry, 20, calls);
-    }
-}
-
 fn damaged(rng: &mut Random, entry: Entry, count: usize, calls: &mut Vec<Call>) {
     for at in 0..count {
         let mut call = cases::accepted(rng, entry, Bounds { qubits: 2, side: 2 });
@@ -265,8 +239,8 @@ pub fn cases_of(kind: &str, seed: u64) -> Vec<Call> {
             svd_jacobi | factorize_gram_schmidt => matrices(rng, entry, &mut calls),
             finish_schmidt_values => finishes(rng, &mut calls),
             hermitian_eigenvalues | schmidt_values_from_density | hermitian_eigen => squares(rng, entry, &mut calls),
-            _ => sites(rng, entry, &mut calls),
+            _ => sites_sample::cases_of(rng, entry, &mut calls),
         }
     }
-    calls.into_iter().map(filled).collect()
+    calls.into_iter().map(if kind == "sites_cases" { sites_sample::filled } else { filled }).collect()
 }

@@ -20,7 +20,7 @@ fn main() {
     for call in &calls {
         asked.push_str(&sample::asked(kind, call));
         asked.push('\n');
-        printed.push_str(&sample::printed(call));
+        printed.push_str(&sample::printed(kind, call));
         printed.push('\n');
         *answers.entry(outcome(call, Build::Replaced).number).or_insert(0) += 1;
     }
