@@ -1,0 +1,59 @@
+-- `sites_cases::digest` is safe and ends: the sum stays below 2^31 - 1. Assumes nothing.
+use Prim.Native.Nat.{_-_, _≤_}
+use lib.ListN.{length}
+use borrow.Author.Needs.{needs}
+use Rattle.sites_cases.proofs.digest.Statement.{statement}
+use Rattle.sites_cases.proofs.digest.Tie as tie
+
+abbrev Inv-loop : tie.InvT-loop
+Inv-loop s sum₀ i₀ sum i = sum ≤ 2147483646
+
+abbrev μ-loop : tie.MeasureT-loop
+μ-loop s sum₀ i₀ sum i = length s - i
+
+loop-holds : tie.Need-loop-holds Inv-loop μ-loop
+loop-holds c = search needs
+
+mul-sum : tie.Need-mul-sum Inv-loop μ-loop
+mul-sum c = search needs
+
+mul-bits-of : tie.Need-mul-bits-of Inv-loop μ-loop
+mul-bits-of c = search needs
+
+shared-slice-read-bits-of : tie.Need-shared-slice-read-bits-of Inv-loop μ-loop
+shared-slice-read-bits-of c = search needs
+
+bits-of-requires : tie.Need-bits-of-requires Inv-loop μ-loop
+bits-of-requires c κs = search needs
+
+add-sum : tie.Need-add-sum Inv-loop μ-loop
+add-sum c = search needs
+
+add-i : tie.Need-add-i Inv-loop μ-loop
+add-i c = search needs
+
+loop-less : tie.Need-loop-less Inv-loop μ-loop
+loop-less c = search needs
+
+loop-again : tie.Need-loop-again Inv-loop μ-loop
+loop-again c = search needs
+
+returns : tie.Need-returns Inv-loop μ-loop
+returns c = search needs
+
+pub digest-spec : {M : Type 1} → statement M
+digest-spec =
+    tie.close
+    (tie.spec
+    Inv-loop
+    μ-loop
+    loop-holds
+    mul-sum
+    mul-bits-of
+    shared-slice-read-bits-of
+    bits-of-requires
+    add-sum
+    add-i
+    loop-less
+    loop-again
+    returns)

@@ -1,0 +1,48 @@
+-- `sites_cases::scaled_vt` is safe: the part lies in its slice. Assumes nothing.
+use mathlib.Core.Path.{sym}
+use native.Mathlib.Omega.{arith}
+use lib.Seq.{length-take-le}
+use borrow.Author.Needs.{needs}
+use Rattle.sites_cases.proofs.scaled_vt.Statement.{statement}
+use Rattle.sites_cases.proofs.scaled_vt.Tie as tie
+
+returns : tie.Need-returns
+returns c = search needs
+
+slice-relend-prefix-fill-scaled-vt-data : tie.Need-slice-relend-prefix-fill-scaled-vt-data
+slice-relend-prefix-fill-scaled-vt-data c = search needs
+
+slice-aggregate-fill-scaled-vt-data : tie.Need-slice-aggregate-fill-scaled-vt-data
+slice-aggregate-fill-scaled-vt-data c = sym (length-take-le _ _ (omega arith))
+
+fill-scaled-vt-data-requires : tie.Need-fill-scaled-vt-data-requires
+fill-scaled-vt-data-requires c κs = search needs
+
+print-answer-requires : tie.Need-print-answer-requires
+print-answer-requires c κs = search needs
+
+front-floats-requires : tie.Need-front-floats-requires
+front-floats-requires c κs = search needs
+
+print-site-requires : tie.Need-print-site-requires
+print-site-requires c κs = search needs
+
+same-length : tie.Need-same-length
+same-length c = search needs
+
+returns-2 : tie.Need-returns-2
+returns-2 c = search needs
+
+pub scaled-vt-spec : {M : Type 1} → statement M
+scaled-vt-spec =
+    tie.close
+    (tie.spec
+    returns
+    slice-relend-prefix-fill-scaled-vt-data
+    slice-aggregate-fill-scaled-vt-data
+    fill-scaled-vt-data-requires
+    print-answer-requires
+    front-floats-requires
+    print-site-requires
+    same-length
+    returns-2)
