@@ -1,4 +1,5 @@
 //! `sample KIND SEED FOLDER` writes what the replay program KIND reads and must print, `stdin` and `stdout`, to FOLDER.
+//! Cases that stand there before the oracle's are kept.
 
 use std::collections::BTreeMap;
 use std::fs;
@@ -6,16 +7,26 @@ use std::fs;
 use harness::oracle::{Build, outcome};
 use harness::sample;
 
+/// How the oracle's part of a text starts.
+const HEAD: &str = "# Answers of the published Rust, build replaced (norm is the root of norm_sqr), ";
+
+/// What a folder has from another hand: the text up to the oracle's part, and the lines that it prints.
+fn kept(folder: &str) -> (String, String) {
+    let read = |name: &str| fs::read_to_string(format!("{folder}/{name}")).unwrap_or_default();
+    let (asked, printed) = (read("stdin"), read("stdout"));
+    let asked = &asked[..asked.find(HEAD).unwrap_or(asked.len())];
+    let cases = asked.lines().filter(|line| !line.starts_with('#') && !line.is_empty()).count();
+    let printed: String = printed.split_inclusive('\n').take(cases).collect();
+    (asked.to_string(), printed)
+}
+
 fn main() {
     std::panic::set_hook(Box::new(|_| {}));
     let args: Vec<String> = std::env::args().skip(1).collect();
     let [kind, seed, folder] = &args[..] else { panic!("usage: sample KIND SEED FOLDER") };
     let calls = sample::cases_of(kind, seed.parse().expect("a seed"));
-    let mut asked = format!(
-        "# Answers of the published Rust, build replaced (norm is the root of norm_sqr), seed {seed}.\n\
-         # Made by: oracle/sample {kind} {seed}\n"
-    );
-    let mut printed = String::new();
+    let (mut asked, mut printed) = kept(folder);
+    asked.push_str(&format!("{HEAD}seed {seed}.\n# Made by: oracle/sample {kind} {seed}\n"));
     let mut answers = BTreeMap::new();
     for call in &calls {
         asked.push_str(&sample::asked(kind, call));
