@@ -144,6 +144,67 @@ def cut_matrix(n, cap, qubits, long, room, changes):
     return (0, 0), held
 
 
+# ---- the two pages
+
+def number(bits):
+    return struct.unpack('<d', struct.pack('<Q', bits))[0]
+
+
+def bits_of(x):
+    return struct.unpack('<Q', struct.pack('<d', x))[0]
+
+
+def density_of(side, groups, amplitude):
+    """From +0.0, e rising, amplitude(t,e) times the conjugate of amplitude(u,e); the upper half is the lower's conjugate."""
+    cells = [[None] * side for _ in range(side)]
+    for t in range(side):
+        for u in range(t + 1):
+            re, im = 0.0, 0.0
+            for e in range(groups):
+                (a, b), (c, d) = amplitude(t, e), amplitude(u, e)
+                d = -d
+                re, im = re + (a * c - b * d), im + (a * d + b * c)
+            cells[t][u] = (re, im)
+            if u < t:
+                cells[u][t] = (re, -im)
+    return [bits_of(x) for row in cells for cell in row for x in cell]
+
+
+def pages(n, cap, qubits, changes):
+    """The answers of the cut, of the density and of the density from the cut matrix, and the two densities."""
+    need, k = 2 * 2 ** n, len(qubits)
+    cut, matrix = cut_matrix(n, cap, qubits, need, need, changes)
+    size = 2 * 4 ** k if k <= 6 else 2
+    if density_size_broken(n, k, cap):
+        dense = (1, 0)
+    else:
+        dense = list_refusal(n, qubits) or (0, 0)
+    state = [0x3FF0000000000000 + i for i in range(need)]
+    for place, bits in changes:
+        state[place] = bits
+    if dense == (0, 0) and cut[0] == 7:
+        dense = cut
+    both = (1, 0) if (1, 0) in (dense, cut) else (list_refusal(n, qubits) or (cut if cut[0] == 5 else (0, 0)))
+    first, second = [0] * size, [0] * size
+    rest = rest_of(n, qubits)
+    if dense == (0, 0):
+        def from_state(t, e):
+            x = put_bits(t, qubits) | put_bits(e, rest)
+            return number(state[2 * x]), number(state[2 * x + 1])
+        first = density_of(2 ** k, 2 ** (n - k), from_state)
+    if both == (0, 0):
+        order = submasks(qubits)
+        if cut != (0, 0):
+            matrix = [0] * need  # a refused cut leaves the lent zeros, and their density is summed
+
+        def from_matrix(t, e):
+            named = order.index(put_bits(t, qubits))
+            x = e * 2 ** k + named if k <= n - k else named * 2 ** (n - k) + e
+            return number(matrix[2 * x]), number(matrix[2 * x + 1])
+        second = density_of(2 ** k, 2 ** (n - k), from_matrix)
+    return cut, dense, both, size, first, second
+
+
 # ---- lines
 
 def words(numbers):
@@ -160,6 +221,12 @@ def matrix_words(bits):
 
 
 class Cases:
+    def two(self, n, cap, qubits, changes):
+        cut, dense, both, size, first, second = pages(n, cap, qubits, changes)
+        flat = [x for pair in changes for x in pair]
+        out = words(cut) + words(dense) + matrix_words(first) + words(both) + matrix_words(second)
+        self.case(6, n, cap, qubits, [2 * 2 ** n, size, len(changes)] + flat, out)
+
     def __init__(self):
         self.lines, self.answers = [], []
 
@@ -189,6 +256,26 @@ class Cases:
         answer, held = cut_matrix(n, cap, qubits, long, room, list(changes))
         flat = [x for pair in changes for x in pair]
         self.case(5, n, cap, qubits, [long, room, len(changes)] + flat, words(answer) + matrix_words(held))
+
+
+def page_cases(c):
+    """Both pages of one state. First the smallest reason for 'signs of zeros aside': all amplitudes 1, the lists 0,1 and 1,0 of n=3."""
+    ones = [(i, 0x3FF0000000000000 if i % 2 == 0 else 0) for i in range(16)]
+    c.two(3, 13, [0, 1], ones)
+    c.two(3, 13, [1, 0], ones)
+    draw = random.Random(SEED + 1)
+    for n in (2, 3, 4):
+        for k in range(1, n):
+            for qubits in itertools.permutations(range(n), k):
+                c.two(n, 13, list(qubits), [(draw.randrange(2 * 2 ** n), bits_of(draw.choice([-3.5, 0.0, -0.0, 1e-300, 2.0 ** 99]))) for _ in range(4)])
+    for _ in range(40):
+        n = draw.choice([5, 6, 7])
+        k = draw.randint(1, n - 1)
+        c.two(n, draw.choice([13, 13, n + 1, n, 2 * k]), draw.sample(range(n), k), [(draw.randrange(2 * 2 ** n), bits_of(draw.uniform(-2, 2))) for _ in range(8)])
+    c.two(4, 13, [0, 0], [])
+    c.two(4, 13, [0, 1, 2, 3], [])
+    c.two(4, 13, [], [])
+    c.two(4, 13, [1, 3], [(5, 0x7FF0000000000000)])
 
 
 def bench(c):
@@ -275,6 +362,7 @@ def main():
     bench(c)
     small(c)
     drawn(c)
+    page_cases(c)
     head = ('# %d cases of qubit lists, row offsets, traced bases, the smaller side and the cut matrix.\n'
             '# Made by tools/vectors/cuts.py with seed %d, which follows 01 and no code of this repository.\n' % (len(c.lines), SEED))
     stdin, stdout = head + '\n'.join(c.lines) + '\n', '\n'.join(c.answers) + '\n'

@@ -7,6 +7,8 @@
 //   4 head room           smaller_side with a slice of that many numbers: the answer, the slice, and side_part's list
 //   5 head state room m   cut_matrix of a state of that many numbers into a slice of that many, after m changes of the state, each
 //                         a position and bits: the answer, and the slice, or its digest where it is long
+//   6 head state size m   the same state's two pages: the answers of cut_matrix, of dense_reduced_density with that many numbers of its
+//                         density, and of density_from_cut with as many of its own
 // A slice of whole numbers is lent as 100, 101 and so on; number i of a state has the bits 3FF0000000000000 + i, of a matrix
 // C000000000000000 + i.
 struct Head {
@@ -190,7 +192,42 @@ fn cut_into(state: &[f64], n: usize, list: &[usize], cap: usize, room: usize) {
     show_cut(state, n, list, cap, room, &mut out);
 }
 
-fn cut_case(text: &[u8], at: usize) -> usize {
+fn show_again(matrix: &[f64], n: usize, list: &[usize], cap: usize, size: usize) {
+    let mut again = [0.0; 8200];
+    replay::print_answer(recount::density_from_cut(matrix, n, list, cap, &mut again));
+    print_matrix(front_floats(&again, size));
+}
+
+fn show_density(state: &[f64], n: usize, list: &[usize], cap: usize, size: usize) {
+    let mut density = [0.0; 8200];
+    let mut scratch = [0.0; 128];
+    replay::print_answer(densities::dense_reduced_density(
+        state,
+        n,
+        list,
+        cap,
+        &mut density,
+        &mut scratch,
+    ));
+    print_matrix(front_floats(&density, size));
+}
+
+fn show_pages(state: &[f64], n: usize, list: &[usize], cap: usize, size: usize) {
+    let mut matrix = [0.0; 8200];
+    replay::print_answer(cuts::cut_matrix(state, n, list, cap, &mut matrix));
+    show_density(state, n, list, cap, size);
+    show_again(front_floats(&matrix, state.len()), n, list, cap, size);
+}
+
+fn show_state(pages: bool, state: &[f64], n: usize, list: &[usize], cap: usize, size: usize) {
+    if pages {
+        show_pages(state, n, list, cap, size);
+        return;
+    }
+    cut_into(state, n, list, cap, size);
+}
+
+fn cut_case(text: &[u8], at: usize, pages: bool) -> usize {
     let mut names = [0usize; 16];
     let h = read_head(text, at, &mut names);
     let long = size_at(text, h.next);
@@ -199,7 +236,8 @@ fn cut_case(text: &[u8], at: usize) -> usize {
     let mut state = [0.0; 8200];
     count_up(&mut state, 0x3ff0_0000_0000_0000);
     let next = change(text, past(text, third), &mut state, size_at(text, third));
-    cut_into(
+    show_state(
+        pages,
         front_floats(&state, long),
         h.n,
         front(&names, h.k),
@@ -222,7 +260,7 @@ fn case(text: &[u8], at: usize, kind: u64) -> usize {
     if kind == 4 {
         return side_case(text, at);
     }
-    cut_case(text, at)
+    cut_case(text, at, kind == 6)
 }
 
 fn run(text: &[u8]) {
