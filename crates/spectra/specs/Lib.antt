@@ -2,3 +2,5 @@
 pub mod Eigenvalues
 pub mod Outcomes
 pub mod OutcomeLaws
+pub mod Density
+pub mod DensityLaws

@@ -140,11 +140,11 @@ zeroed-part m s e h i =
     let l : length (take m s) ≤ m = omega (arith, length-take-le m s h) in
     rw (i, drop-of-length-le (take m s) l, append-nil)
 
-front-is : (n : ℕ) (f : ℕ → Float) (old : List Float) → take n (filled n f old) ≡ numbersOf n f
+pub front-is : (n : ℕ) (f : ℕ → Float) (old : List Float) → take n (filled n f old) ≡ numbersOf n f
 unfolding filled
 front-is n f old = take-at (numbersOf n f) (drop n old) n (length-numbers n f)
 
-past-is : (n : ℕ) (f : ℕ → Float) (old : List Float) → drop n (filled n f old) ≡ drop n old
+pub past-is : (n : ℕ) (f : ℕ → Float) (old : List Float) → drop n (filled n f old) ≡ drop n old
 unfolding filled
 past-is n f old = drop-at (numbersOf n f) (drop n old) n (length-numbers n f)
 
@@ -167,7 +167,7 @@ module _ (a : List Float) (n : ℕ) (out scratch mid scratch′ : List Float) (w
 
 -- ---- the entry point
 
-stopped-same : (x b : Reply) → (x .0 ≡ 0 → ⊥) → andThen x b ≡ x
+pub stopped-same : (x b : Reply) → (x .0 ≡ 0 → ⊥) → andThen x b ≡ x
 stopped-same (zero, p) b h = absurd (h refl)
 stopped-same (suc k, p) b h = refl
 
@@ -181,7 +181,7 @@ eigenvalues-refused a n out scratch r e h =
     let l = square-small a n (length out) (length scratch) in
     record { answer = e ∙ sym s; values = rw s (end-old _ _ _ _ m l); cleared = rw s (worked-old _ _ _ m l) }
 
-worked : (x : ℕ) (new cleared old : List Float) → (x ≡ 0) ⊎ (8 ≤ x) → ifDone x new cleared ≡ atEnd x new cleared old
+pub worked : (x : ℕ) (new cleared old : List Float) → (x ≡ 0) ⊎ (8 ≤ x) → ifDone x new cleared ≡ atEnd x new cleared old
 worked zero new cleared old h = refl
 worked (suc x) new cleared old h = worked-new (suc x) cleared old h
 

@@ -1,5 +1,6 @@
 // Spectra of square matrices of complex cells, row-major.
 use answers::Answer;
+use finish::Kept;
 ghost use mathlib.Core.Path.{_≡_};
 ghost use Prim.Native.Nat.{_*_, _≤_};
 ghost use lib.ListN.{length};
@@ -9,6 +10,7 @@ ghost use Rattle.loading.specs.Numbers.{filled};
 ghost use Rattle.complex.specs.Zeros.{zeroed};
 ghost use Rattle.spectra.specs.Eigenvalues.{eigenvalue, squareRefusal};
 ghost use Rattle.spectra.specs.Outcomes.{Given, Worked, Eigenvalues};
+ghost use Rattle.spectra.specs.Density.{DensityWorked, DensityValues};
 
 // Answers 1, 6 and 7 of a spectrum of a square matrix.
 fn square_refusal(a: &[f64], dim: usize, out: usize, scratch: usize) -> Answer
@@ -79,4 +81,32 @@ pub fn hermitian_eigenvalues(a: &[f64], dim: usize, out: &mut [f64], scratch: &m
         return answer;
     };
     work_out(a, dim, out, scratch)
+}
+
+// The Schmidt values of a density that is not refused, over work of exactly the needed length: 0, 8 or 9.
+fn density_work(rho: &[f64], n: usize, out: &mut [f64], work: &mut [f64]) -> Kept
+    requires { ⌜ Given n (length (now rho)) (length (now out)) (length (now work)) × (length (now work) ≡ 2 * (n * n)) ⌝ }
+    ensures { λ r. ⌜ DensityWorked (now (rho .entry)) n (now (out .entry)) (now (work .entry)) r (now (out .exit)) (now (work .exit)) ⌝ }
+{
+    spectrum(rho, n, out, work);
+    let kept = weights::finish_weights(n, out, work);
+    complex::zero_first(work, 2 * (n * n));
+    kept
+}
+
+// The Schmidt values from a reduced density matrix of side dim: the roots of its eigenvalues above the floor, finished.
+pub fn schmidt_values_from_density(
+    rho: &[f64],
+    dim: usize,
+    out: &mut [f64],
+    scratch: &mut [f64],
+) -> Kept
+    ensures { λ r. ⌜ DensityValues (now (rho .entry)) dim (now (out .entry)) (now (scratch .entry)) r (now (out .exit)) (now (scratch .exit)) ⌝ }
+{
+    let answer = square_refusal(rho, dim, out.len(), scratch.len());
+    let Answer::Done = answer else {
+        return Kept { answer, count: 0 };
+    };
+    let need = 2 * (dim * dim);
+    density_work(rho, dim, out, &mut scratch[..need])
 }

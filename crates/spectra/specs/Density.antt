@@ -1,0 +1,38 @@
+-- Schmidt values from a reduced density matrix: what a call answers and leaves. Definitions only.
+use mathlib.Core.Path.{_≡_}
+use mathlib.Core.List.{List}
+use Prim.Native.Nat.{ℕ, _*_}
+use lib.Ieee.{Float}
+use lib.ListN.{length}
+use Rattle.answers.specs.Paper.{Reply, paper, andThen, ifDone, ifWorked, atEnd}
+use Rattle.complex.specs.Zeros.{zeroed}
+use Rattle.finish.specs.declared.Kept.{Kept}
+use Rattle.finish.specs.Finish.{padded}
+use Rattle.weights.specs.Weights.{weightsFinished, weightsReply}
+use Rattle.spectra.specs.Eigenvalues.{eigenvaluesOf, squareRefusal}
+
+-- the eigenvalues are the weights
+abbrev pub densityValues : List Float → ℕ → List Float
+densityValues rho n = weightsFinished (eigenvaluesOf rho n)
+
+-- 8 or 9, as the finish gives them
+abbrev pub densityReply : List Float → ℕ → Reply
+densityReply rho n = weightsReply (eigenvaluesOf rho n)
+
+-- the whole answer
+abbrev pub densityAnswer : List Float → ℕ → List Float → List Float → Reply
+densityAnswer rho n out scratch = andThen (squareRefusal rho n (length out) (length scratch)) (densityReply rho n)
+
+-- of a density that is not refused
+pub record DensityWorked (rho : List Float) (n : ℕ) (out work : List Float) (r : Kept) (out′ work′ : List Float) : Type 0 where
+  pub answer : paper (r .answer) ≡ densityReply rho n
+  pub count : r .count ≡ ifDone (densityReply rho n .0) (length (densityValues rho n)) 0
+  pub values : out′ ≡ ifDone (densityReply rho n .0) (padded n (densityValues rho n) out) (zeroed n out)
+  pub cleared : work′ ≡ zeroed (2 * (n * n)) work
+
+-- of schmidt_values_from_density
+pub record DensityValues (rho : List Float) (n : ℕ) (out scratch : List Float) (r : Kept) (out′ scratch′ : List Float) : Type 0 where
+  pub answer : paper (r .answer) ≡ densityAnswer rho n out scratch
+  pub count : r .count ≡ ifDone (densityAnswer rho n out scratch .0) (length (densityValues rho n)) 0
+  pub values : out′ ≡ atEnd (densityAnswer rho n out scratch .0) (padded n (densityValues rho n) out) (zeroed n out) out
+  pub cleared : scratch′ ≡ ifWorked (densityAnswer rho n out scratch .0) (zeroed (2 * (n * n)) scratch) scratch

@@ -1,0 +1,4 @@
+-- What the contracts of `weights` cite.
+pub mod Weights
+pub mod WeightOutcome
+pub mod WeightLaws
