@@ -1,2 +1,5 @@
 pub mod Accepted
 pub mod AcceptedLaws
+pub mod Certificate
+pub mod CertificateLaws
+pub mod Answered

@@ -1,7 +1,13 @@
-// What is printed of a cut that the library accepts.
-ghost use Prim.Native.Nat.{_≤_};
+// What the program `cutprint` prints of a cut file. Its number buffers are filled arrays, lent to the library: a file has at
+// most 9 qubits, so 1,024 numbers of state, 1,024 of the cut matrix and of the sweeps each, and 16 values.
+use answers::Answer;
+ghost use mathlib.Core.Path.{_≡_};
+ghost use Prim.Native.Nat.{_*_, _^_, _≤_};
 ghost use lib.ListN.{length};
+ghost use Rattle.io.specs.Counts.{Counts};
+ghost use Rattle.cutfile.specs.Layout.{LongEnough};
 ghost use Rattle.certificates.specs.Accepted.{Accepted, acceptedText, Printed};
+ghost use Rattle.certificates.specs.Certificate.{cutText, fileText, certificateOf};
 
 // Inner: puts the lines of a cut that the library accepts.
 pub fn put_accepted(list: &[usize], n: usize, values: &[f64], out: &mut [u8]) -> usize
@@ -13,4 +19,46 @@ pub fn put_accepted(list: &[usize], n: usize, values: &[f64], out: &mut [u8]) ->
     let cut = sides::sides_of(list, n);
     let side = sides::side_part(list, n, 10, &others);
     lines::put_listing(out, n, list.len(), cut.rows, cut.columns, side, values)
+}
+
+// Puts the cut values of a state, or the library's refusal.
+fn put_values(state: &[f64], n: usize, list: &[usize], out: &mut [u8]) -> usize
+    requires { ⌜ (n ≤ 9) × (2048 ≤ length (now out)) ⌝ }
+    ensures { λ r. ⌜ Printed (cutText (now (state .entry)) n (now (list .entry))) (now (out .entry)) r (now (out .exit)) ⌝ }
+{
+    let mut values = [0.0f64; 16];
+    let cut = cutvalues::cut_values(state, n, list, &mut values);
+    let answer = cut.answer;
+    let count = cut.count;
+    let Answer::Done = answer else {
+        return lines::put_refused(out, answer);
+    };
+    put_accepted(list, n, &values[..count], out)
+}
+
+// Puts what a file whose header was answered 0 is answered by.
+fn put_file(file: &[u8], n: usize, k: usize, out: &mut [u8]) -> usize
+    requires { ⌜ LongEnough (now file) n k × (2048 ≤ length (now out)) ⌝ }
+    ensures { λ r. ⌜ Printed (fileText (now (file .entry)) n k) (now (out .entry)) r (now (out .exit)) ⌝ }
+{
+    let mut list = [0usize; 64];
+    decode::decode_list(file, n, k, &mut list);
+    let mut state = [0.0f64; 1024];
+    decode::decode_state(file, n, k, &mut state);
+    let components = 2 * cutfile::power_of_two(n);
+    put_values(&state[..components], n, &list[..k], out)
+}
+
+// Puts the certificate of a file, or `refused N P`, at the front of out; answers its length.
+pub fn certificate(file: &[u8], out: &mut [u8]) -> usize
+    requires { ⌜ 2048 ≤ length (now out) ⌝ }
+    ensures { λ r. ⌜ Printed (certificateOf (now (file .entry))) (now (out .entry)) r (now (out .exit)) ⌝ }
+    ensures { λ r. ⌜ Counts r (now (out .exit)) ⌝ }
+{
+    let header = cutfile::check_header(file);
+    let answer = header.answer;
+    let Answer::Done = answer else {
+        return lines::put_refused(out, answer);
+    };
+    put_file(file, header.n, header.k, out)
 }

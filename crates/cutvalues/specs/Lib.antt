@@ -1,0 +1,2 @@
+pub mod CutValues
+pub mod CutValuesLaws
