@@ -5,7 +5,7 @@ ghost use Prim.Native.Nat.{_+_, _*_, _/_, _<_, _≤_};
 ghost use lib.ListN.{length};
 ghost use Rattle.qubits.specs.Lists.{Listed};
 ghost use Rattle.entries.specs.Squares.{mirrored, Square};
-ghost use Rattle.entries.specs.Blocks.{added, blockTurn, blockSums, Reach};
+ghost use Rattle.entries.specs.Blocks.{blockTurn, blockSums, Reach};
 ghost use Rattle.entries.specs.Pairs.{setPair};
 ghost use Rattle.entries.specs.Filled.{tableEntry, Ready, PairTurns, LowerTurns};
 ghost use Rattle.entries.specs.EntryLaws.{OffsetTurns};
@@ -19,13 +19,6 @@ pub struct Block {
     pub fourth: Complex,
 }
 
-// One more term to an entry's sum: an amplitude times the conjugate of another.
-fn add_term(s: Complex, a: Complex, b: Complex) -> Complex
-    ensures { λ r. ⌜ r ≡ added s a b ⌝ }
-{
-    s.add(a.mul(b.conj()))
-}
-
 impl Block {
     fn turn(self, a0: Complex, a1: Complex, b0: Complex, b1: Complex) -> Block
         ensures { λ r. ⌜ r ≡ blockTurn self a0 a1 b0 b1 ⌝ }
@@ -35,10 +28,10 @@ impl Block {
         let r = self.third;
         let s = self.fourth;
         Block {
-            first: add_term(p, a0, b0),
-            second: add_term(q, a0, b1),
-            third: add_term(r, a1, b0),
-            fourth: add_term(s, a1, b1),
+            first: signs::add_term(p, a0, b0),
+            second: signs::add_term(q, a0, b1),
+            third: signs::add_term(r, a1, b0),
+            fourth: signs::add_term(s, a1, b1),
         }
     }
 }
