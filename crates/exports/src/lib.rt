@@ -4,8 +4,9 @@
 // entry point's contract holds.
 use answers::Answer;
 ghost use mathlib.Core.Path.{_≡_};
-ghost use Rattle.answers.specs.Paper.{paper};
-ghost use Prim.Native.Nat.{_≤_};
+ghost use Rattle.answers.specs.Paper.{paper, andThen};
+ghost use Prim.Native.Nat.{_≤_, _*_};
+ghost use lib.ListN.{length};
 ghost use Rattle.exports.specs.Told.{Told, Exported, ExportedWith};
 ghost use lib.Ieee.{binary64, toBits, ofBits};
 ghost use Rattle.numbers.specs.Root.{sqrtOf};
@@ -20,6 +21,14 @@ ghost use Rattle.cuts.specs.Cut.{CutMatrix};
 ghost use Rattle.densities.specs.Density.{Density};
 ghost use Rattle.qr.specs.Call.{Factorized};
 ghost use Rattle.qr.specs.declared.Factored.{Factored};
+ghost use Rattle.traces.specs.Trace.{normalizeAnswer, normalized};
+ghost use Rattle.blocks.specs.Factor.{blockAnswer, multiplied};
+ghost use Rattle.svd.specs.Svd.{Svd};
+ghost use Rattle.spectra.specs.Outcomes.{Eigenvalues};
+ghost use Rattle.ranks.specs.Ranks.{rankOf, discardsOf, Ranked, cutSizes, cutRankOf, widestSizes, widestOf};
+ghost use Rattle.ranks.specs.declared.CutRank.{CutRank};
+ghost use Rattle.sites.specs.Sources.{siteCell, isometryCell, scaledUCell, vtCell, scaledVtCell};
+ghost use Rattle.sites.specs.Calls.{columnSizes, rowSizes, plainReply, scaledUReply, scaledVtReply, Filled};
 
 // Inner: a number of the paper's table, as C has it.
 fn small(n: usize) -> u32
@@ -197,6 +206,28 @@ pub extern "C" fn zg_dense_reduced_density(
     )
 }
 
+#[no_mangle]
+pub extern "C" fn zg_normalize_trace(rho: &mut [f64], dim: usize, place: &mut usize) -> u32
+    ensures { λ r. ⌜ Exported (λ a. InPlace (normalizeAnswer (now (rho .entry)) dim) (normalized (now (rho .entry)) dim) (now (rho .entry)) a (now (rho .exit))) r (now (place .exit)) ⌝ }
+{
+    told(traces::normalize_trace(rho, dim), place)
+}
+
+#[no_mangle]
+pub extern "C" fn zg_multiply_block_factor(
+    rho: &mut [f64],
+    dim: usize,
+    positions: &[usize],
+    factor: &[f64],
+    side: usize,
+    place: &mut usize,
+) -> u32
+    ensures { λ r. ⌜ Exported (λ a. InPlace (blockAnswer (now (rho .entry)) dim (now (positions .entry)) (now (factor .entry)) side)
+        (multiplied (now (rho .entry)) dim (now (positions .entry)) (now (factor .entry)) side) (now (rho .entry)) a (now (rho .exit))) r (now (place .exit)) ⌝ }
+{
+    told(blocks::multiply_block_factor(rho, dim, positions, factor, side), place)
+}
+
 // ---- factors
 
 #[no_mangle]
@@ -218,6 +249,23 @@ pub extern "C" fn zg_factorize_gram_schmidt(
     told(answer, place)
 }
 
+#[no_mangle]
+pub extern "C" fn zg_svd_jacobi(
+    a: &[f64],
+    m: usize,
+    n: usize,
+    u: &mut [f64],
+    s: &mut [f64],
+    vt: &mut [f64],
+    scratch: &mut [f64],
+    place: &mut usize,
+) -> u32
+    ensures { λ r. ⌜ Exported (λ x. Svd (now (a .entry)) m n (now (u .entry)) (now (s .entry)) (now (vt .entry)) (now (scratch .entry)) x
+        (now (u .exit)) (now (s .exit)) (now (vt .exit)) (now (scratch .exit))) r (now (place .exit)) ⌝ }
+{
+    told(svd::svd_jacobi(a, m, n, u, s, vt, scratch), place)
+}
+
 // ---- spectra
 
 #[no_mangle]
@@ -233,4 +281,125 @@ pub extern "C" fn zg_finish_schmidt_values(
     *count = k.count;
     let answer = k.answer;
     told(answer, place)
+}
+
+#[no_mangle]
+pub extern "C" fn zg_hermitian_eigenvalues(a: &[f64], dim: usize, out: &mut [f64], scratch: &mut [f64], place: &mut usize) -> u32
+    ensures { λ r. ⌜ Exported (λ x. Eigenvalues (now (a .entry)) dim (now (out .entry)) (now (scratch .entry)) x (now (out .exit)) (now (scratch .exit))) r (now (place .exit)) ⌝ }
+{
+    told(spectra::hermitian_eigenvalues(a, dim, out, scratch), place)
+}
+
+// ---- ranks and sites
+
+// Nothing is refused.
+#[no_mangle]
+pub extern "C" fn zg_truncated_svd_rank(
+    values: &[f64],
+    epsilon: f64,
+    max_bond_dim: usize,
+    place: &mut usize,
+    rank: &mut usize,
+) -> u32
+    ensures { λ r. ⌜ (r ≡ 0) × (now (place .exit) ≡ 0) × (now (rank .exit) ≡ rankOf (now (values .entry)) epsilon «max_bond_dim») ⌝ }
+{
+    *rank = ranks::truncated_svd_rank(values, epsilon, max_bond_dim);
+    *place = 0;
+    0
+}
+
+// Nothing is refused.
+#[no_mangle]
+pub extern "C" fn zg_discards_resolvable_weight(values: &[f64], chi: usize, place: &mut usize, yes: &mut bool) -> u32
+    ensures { λ r. ⌜ (r ≡ 0) × (now (place .exit) ≡ 0) × (now (yes .exit) ≡ discardsOf (now (values .entry)) chi) ⌝ }
+{
+    *yes = ranks::discards_resolvable_weight(values, chi);
+    *place = 0;
+    0
+}
+
+#[no_mangle]
+pub extern "C" fn zg_cut_rank(bond_left: usize, bond_mid: usize, bond_right: usize, place: &mut usize, rank: &mut u64) -> u32
+    ensures { λ r. ⌜ ExportedWith {R = CutRank} (λ k. k .answer) (λ k. k .rank)
+        (λ k. Ranked (cutSizes «bond_left» «bond_mid» «bond_right») (cutRankOf «bond_left» «bond_mid» «bond_right») (k .answer) (k .rank)) r (now (place .exit)) (now (rank .exit)) ⌝ }
+{
+    let k = ranks::cut_rank(bond_left, bond_mid, bond_right);
+    *rank = k.rank;
+    let answer = k.answer;
+    told(answer, place)
+}
+
+#[no_mangle]
+pub extern "C" fn zg_widest_block_cut(bond_left: usize, bond_right: usize, n: usize, place: &mut usize, rank: &mut u64) -> u32
+    ensures { λ r. ⌜ ExportedWith {R = CutRank} (λ k. k .answer) (λ k. k .rank)
+        (λ k. Ranked (widestSizes «bond_left» «bond_right» n) (widestOf «bond_left» «bond_right» n) (k .answer) (k .rank)) r (now (place .exit)) (now (rank .exit)) ⌝ }
+{
+    let k = ranks::widest_block_cut(bond_left, bond_right, n);
+    *rank = k.rank;
+    let answer = k.answer;
+    told(answer, place)
+}
+
+#[no_mangle]
+pub extern "C" fn zg_fill_isometry_site_data(
+    columns: &[f64],
+    stride: usize,
+    bond_left: usize,
+    chi: usize,
+    out: &mut [f64],
+    place: &mut usize,
+) -> u32
+    ensures { λ r. ⌜ Exported (λ a. Filled (andThen (columnSizes stride «bond_left» chi) (plainReply (now (columns .entry)) stride (2 * «bond_left») chi (length (now (out .entry)))))
+        (2 * «bond_left» * chi) (siteCell chi (isometryCell (now (columns .entry)) stride)) (now (out .entry)) a (now (out .exit))) r (now (place .exit)) ⌝ }
+{
+    told(sites::fill_isometry_site_data(columns, stride, bond_left, chi, out), place)
+}
+
+#[no_mangle]
+pub extern "C" fn zg_fill_scaled_u_site_data(
+    u: &[f64],
+    s: &[f64],
+    stride: usize,
+    bond_left: usize,
+    chi: usize,
+    out: &mut [f64],
+    place: &mut usize,
+) -> u32
+    ensures { λ r. ⌜ Exported (λ a. Filled (andThen (columnSizes stride «bond_left» chi) (scaledUReply (now (u .entry)) (now (s .entry)) stride (2 * «bond_left») chi (length (now (out .entry)))))
+        (2 * «bond_left» * chi) (siteCell chi (scaledUCell (now (u .entry)) (now (s .entry)) stride)) (now (out .entry)) a (now (out .exit))) r (now (place .exit)) ⌝ }
+{
+    told(sites::fill_scaled_u_site_data(u, s, stride, bond_left, chi, out), place)
+}
+
+#[no_mangle]
+pub extern "C" fn zg_fill_vt_site_data(
+    vt: &[f64],
+    row_len: usize,
+    chi: usize,
+    physical_dim: usize,
+    bond_right: usize,
+    out: &mut [f64],
+    place: &mut usize,
+) -> u32
+    ensures { λ r. ⌜ Exported (λ a. Filled (andThen (rowSizes «row_len» chi «physical_dim» «bond_right») (plainReply (now (vt .entry)) «row_len» («physical_dim» * «bond_right») chi (length (now (out .entry)))))
+        («physical_dim» * «bond_right» * chi) (siteCell («physical_dim» * «bond_right») (vtCell (now (vt .entry)) «row_len»)) (now (out .entry)) a (now (out .exit))) r (now (place .exit)) ⌝ }
+{
+    told(sites::fill_vt_site_data(vt, row_len, chi, physical_dim, bond_right, out), place)
+}
+
+#[no_mangle]
+pub extern "C" fn zg_fill_scaled_vt_data(
+    s: &[f64],
+    vt: &[f64],
+    row_len: usize,
+    chi: usize,
+    physical_dim: usize,
+    bond_right: usize,
+    out: &mut [f64],
+    place: &mut usize,
+) -> u32
+    ensures { λ r. ⌜ Exported (λ a. Filled (andThen (rowSizes «row_len» chi «physical_dim» «bond_right») (scaledVtReply (now (s .entry)) (now (vt .entry)) «row_len» («physical_dim» * «bond_right») chi (length (now (out .entry)))))
+        («physical_dim» * «bond_right» * chi) (siteCell («physical_dim» * «bond_right») (scaledVtCell (now (s .entry)) (now (vt .entry)) «row_len»)) (now (out .entry)) a (now (out .exit))) r (now (place .exit)) ⌝ }
+{
+    told(sites::fill_scaled_vt_data(s, vt, row_len, chi, physical_dim, bond_right, out), place)
 }
