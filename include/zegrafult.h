@@ -82,7 +82,22 @@ uint32_t zg_dense_reduced_density(const double *state, size_t state_len, size_t 
  * conjugate of the lower, the diagonal stays. Refused by 1, 6, 7. */
 uint32_t zg_mirror_lower_triangle(double *rho, size_t rho_len, size_t dim, size_t *place);
 
+/* Each cell times 1/trace (slice 0, exact). Refused by 1, 6, 7, 8 (zero trace), 9; then rho is as it was. */
+uint32_t zg_normalize_trace(double *rho, size_t rho_len, size_t dim, size_t *place);
+/* Slices: rho 0 (exactly 2*dim*dim), positions 1, factor 2 (exactly 2*side*side). Each cell of rho times the factor's
+ * cell at the bits of its row and column that stand at the positions. dim a power of two up to 64, one to six distinct
+ * positions below log2 dim, side 2^positions; anything else is 1. Refused by 1, 6, 7. */
+uint32_t zg_multiply_block_factor(double *rho, size_t rho_len, size_t dim, const size_t *positions,
+                                  size_t positions_len, const double *factor, size_t factor_len, size_t side,
+                                  size_t *place);
+
 /* ---- factors */
+
+/* Slices: a 0 (m by n, column-major, exactly 2*m*n numbers; m*n at most 4096), u 1 (2*m*k, k = min(m, n),
+ * column-major), s 2 (k, falling), vt 3 (2*k*n, row-major), scratch 4 (6*m*n + 2*k). a = u s vt by one-sided Jacobi.
+ * Refused by 1, 6, 7, 9. */
+uint32_t zg_svd_jacobi(const double *a, size_t a_len, size_t m, size_t n, double *u, size_t u_len, double *s,
+                       size_t s_len, double *vt, size_t vt_len, double *scratch, size_t scratch_len, size_t *place);
 
 /* Slices: a 0 (rows by cols, column-major, exactly 2*rows*cols numbers; rows*cols at most 4096), q 1 (2*rows*k,
  * k = min(rows, cols), column-major), r 2 (2*k*cols, row-major), scratch 3 (2*rows). Modified Gram-Schmidt; columns of
@@ -97,6 +112,40 @@ uint32_t zg_factorize_gram_schmidt(const double *a, size_t a_len, size_t rows, s
  * below 1e-14 times the first, each times 1/sqrt(sum of squares); out past the count is +0.0. Refused by 1, 6 to 9. */
 uint32_t zg_finish_schmidt_values(const double *values, size_t values_len, double *out, size_t out_len,
                                   size_t *place, size_t *count);
+
+/* Slices: a 0 (dim by dim, exactly 2*dim*dim numbers; dim 1 to 64), out 1 (dim), scratch 2 (2*dim*dim). The diagonal
+ * that cyclic Jacobi sweeps leave. Refused by 1, 6, 7, 9. */
+uint32_t zg_hermitian_eigenvalues(const double *a, size_t a_len, size_t dim, double *out, size_t out_len,
+                                  double *scratch, size_t scratch_len, size_t *place);
+
+/* ---- ranks and sites */
+
+/* How many values are above epsilon times the first, at least 1, at most max_bond_dim. Any bits; the answer is 0. */
+uint32_t zg_truncated_svd_rank(const double *values, size_t values_len, double epsilon, size_t max_bond_dim,
+                               size_t *place, size_t *rank);
+/* Whether keeping chi values drops one above 2^-50 times the first. Any bits; the answer is 0. */
+uint32_t zg_discards_resolvable_weight(const double *values, size_t values_len, size_t chi, size_t *place, bool *yes);
+/* The rank of the cut between two sites; bonds 0 to 4096, else 1. */
+uint32_t zg_cut_rank(size_t bond_left, size_t bond_mid, size_t bond_right, size_t *place, uint64_t *rank);
+/* The widest cut inside a block of n sites (1 to 16); bonds 0 to 4096, else 1. */
+uint32_t zg_widest_block_cut(size_t bond_left, size_t bond_right, size_t n, size_t *place, uint64_t *rank);
+/* The four fills write a site's cells; lengths below are in cells. Bonds, chi, physical_dim, stride and row_len are 0 to
+ * 4096, a site has at most 4096 cells, a stride is at least 2*bond_left, a row length at least physical_dim*bond_right,
+ * else 1. Inputs hold at least chi columns (chi*stride), rows (chi*row_len) or values (chi); a gap is neither read nor
+ * checked. Refused by 1, 6, 7. */
+/* Slices: columns 0, out 1 (2*bond_left*chi). */
+uint32_t zg_fill_isometry_site_data(const double *columns, size_t columns_len, size_t stride, size_t bond_left,
+                                    size_t chi, double *out, size_t out_len, size_t *place);
+/* Slices: u 0, s 1, out 2 (2*bond_left*chi). */
+uint32_t zg_fill_scaled_u_site_data(const double *u, size_t u_len, const double *s, size_t s_len, size_t stride,
+                                    size_t bond_left, size_t chi, double *out, size_t out_len, size_t *place);
+/* Slices: vt 0, out 1 (chi*physical_dim*bond_right). */
+uint32_t zg_fill_vt_site_data(const double *vt, size_t vt_len, size_t row_len, size_t chi, size_t physical_dim,
+                              size_t bond_right, double *out, size_t out_len, size_t *place);
+/* Slices: s 0, vt 1, out 2 (chi*physical_dim*bond_right). */
+uint32_t zg_fill_scaled_vt_data(const double *s, size_t s_len, const double *vt, size_t vt_len, size_t row_len,
+                                size_t chi, size_t physical_dim, size_t bond_right, double *out, size_t out_len,
+                                size_t *place);
 
 #ifdef __cplusplus
 }

@@ -159,4 +159,79 @@ extern "C" {
         scratch_len: usize,
         place: &mut usize,
     ) -> u32;
+    pub fn zg_truncated_svd_rank(
+        values: *const f64,
+        values_len: usize,
+        epsilon: f64,
+        max_bond_dim: usize,
+        place: &mut usize,
+        rank: &mut usize,
+    ) -> u32;
+    pub fn zg_discards_resolvable_weight(
+        values: *const f64,
+        values_len: usize,
+        chi: usize,
+        place: &mut usize,
+        yes: &mut bool,
+    ) -> u32;
+    pub fn zg_cut_rank(
+        bond_left: usize,
+        bond_mid: usize,
+        bond_right: usize,
+        place: &mut usize,
+        rank: &mut u64,
+    ) -> u32;
+    pub fn zg_widest_block_cut(
+        bond_left: usize,
+        bond_right: usize,
+        n: usize,
+        place: &mut usize,
+        rank: &mut u64,
+    ) -> u32;
+    pub fn zg_fill_isometry_site_data(
+        columns: *const f64,
+        columns_len: usize,
+        stride: usize,
+        bond_left: usize,
+        chi: usize,
+        out: *mut f64,
+        out_len: usize,
+        place: &mut usize,
+    ) -> u32;
+    pub fn zg_fill_scaled_u_site_data(
+        u: *const f64,
+        u_len: usize,
+        s: *const f64,
+        s_len: usize,
+        stride: usize,
+        bond_left: usize,
+        chi: usize,
+        out: *mut f64,
+        out_len: usize,
+        place: &mut usize,
+    ) -> u32;
+    pub fn zg_fill_vt_site_data(
+        vt: *const f64,
+        vt_len: usize,
+        row_len: usize,
+        chi: usize,
+        physical_dim: usize,
+        bond_right: usize,
+        out: *mut f64,
+        out_len: usize,
+        place: &mut usize,
+    ) -> u32;
+    pub fn zg_fill_scaled_vt_data(
+        s: *const f64,
+        s_len: usize,
+        vt: *const f64,
+        vt_len: usize,
+        row_len: usize,
+        chi: usize,
+        physical_dim: usize,
+        bond_right: usize,
+        out: *mut f64,
+        out_len: usize,
+        place: &mut usize,
+    ) -> u32;
 }
