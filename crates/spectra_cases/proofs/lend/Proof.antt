@@ -1,0 +1,72 @@
+-- `spectra_cases::lend` is safe: the lent parts lie in their arrays. Assumes nothing.
+use mathlib.Core.Path.{sym}
+use native.Mathlib.Omega.{arith}
+use lib.Seq.{length-take-le}
+use borrow.Author.Needs.{needs}
+use Rattle.spectra_cases.proofs.lend.Statement.{statement}
+use Rattle.spectra_cases.proofs.lend.Tie as tie
+
+past-requires : tie.Need-past-requires
+past-requires c κs = search needs
+
+room-at-requires : tie.Need-room-at-requires
+room-at-requires c κs = search needs
+
+room-at-requires-2 : tie.Need-room-at-requires-2
+room-at-requires-2 c κs = search needs
+
+array-borrow-prefix-out : tie.Need-array-borrow-prefix-out
+array-borrow-prefix-out c = search needs
+
+slice-aggregate-eigenvalues : tie.Need-slice-aggregate-eigenvalues
+slice-aggregate-eigenvalues c = sym (length-take-le _ _ (omega arith))
+
+array-borrow-prefix-scratch : tie.Need-array-borrow-prefix-scratch
+array-borrow-prefix-scratch c = search needs
+
+slice-aggregate-eigenvalues-2 : tie.Need-slice-aggregate-eigenvalues-2
+slice-aggregate-eigenvalues-2 c = sym (length-take-le _ _ (omega arith))
+
+eigenvalues-requires : tie.Need-eigenvalues-requires
+eigenvalues-requires c κs = search needs
+
+array-borrow-prefix-out-2 : tie.Need-array-borrow-prefix-out-2
+array-borrow-prefix-out-2 c = search needs
+
+slice-aggregate-from-density : tie.Need-slice-aggregate-from-density
+slice-aggregate-from-density c = sym (length-take-le _ _ (omega arith))
+
+array-borrow-prefix-scratch-2 : tie.Need-array-borrow-prefix-scratch-2
+array-borrow-prefix-scratch-2 c = search needs
+
+slice-aggregate-from-density-2 : tie.Need-slice-aggregate-from-density-2
+slice-aggregate-from-density-2 c = sym (length-take-le _ _ (omega arith))
+
+from-density-requires : tie.Need-from-density-requires
+from-density-requires c κs = search needs
+
+past-requires-2 : tie.Need-past-requires-2
+past-requires-2 c κs = search needs
+
+returns : tie.Need-returns
+returns c = search needs
+
+pub lend-spec : {M : Type 1} → statement M
+lend-spec =
+    tie.close
+    (tie.spec
+    past-requires
+    room-at-requires
+    room-at-requires-2
+    array-borrow-prefix-out
+    slice-aggregate-eigenvalues
+    array-borrow-prefix-scratch
+    slice-aggregate-eigenvalues-2
+    eigenvalues-requires
+    array-borrow-prefix-out-2
+    slice-aggregate-from-density
+    array-borrow-prefix-scratch-2
+    slice-aggregate-from-density-2
+    from-density-requires
+    past-requires-2
+    returns)
