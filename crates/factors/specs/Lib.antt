@@ -1,4 +1,3 @@
 -- What the contracts of `factors` cite.
 pub mod Columns
 pub mod Grids
-pub mod Finite

@@ -7,7 +7,6 @@ ghost use lib.ListN.{length};
 ghost use Rattle.complex.specs.Cells.{written};
 ghost use Rattle.complex.specs.Planes.{planeAt};
 ghost use Rattle.order.specs.Places.{placesIn, Places};
-ghost use Rattle.factors.specs.Finite.{allFinite};
 ghost use Rattle.factors.specs.Columns.{squaresTo, normsOf, normClampMin, unitLength, directionOf, directionsOf, turnOf, turnsOf, sortedOf};
 
 // The sum of the squares of a column's cells, from the cell `at` on, row after row from +0.0.
@@ -141,20 +140,4 @@ pub fn write_values(norms: &[f64], order: &[f64], side: usize, s: &mut [f64])
         let o = order::read_place(order, j, side);
         s[j] = norms[o];
     }
-}
-
-// Whether every number is finite.
-pub fn all_finite(xs: &[f64]) -> bool
-    ensures { λ r. ⌜ r ≡ allFinite (now (xs .entry)) ⌝ }
-{
-    let mut i = 0;
-    while i < xs.len() {
-        let x = xs[i];
-        if numbers::is_finite(x) {
-            i += 1;
-        } else {
-            return false;
-        }
-    }
-    true
 }

@@ -1,4 +1,6 @@
--- What the contracts of `order` cite.
+-- What the contracts of `order` cite, and what they imply.
 pub mod Places
 pub mod Push
 pub mod Order
+pub mod Comparing
+pub mod Stable

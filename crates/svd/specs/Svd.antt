@@ -12,7 +12,7 @@ use Rattle.complex.specs.Cells.{cellAt, components}
 use Rattle.complex.specs.Zeros.{zeros, zeroed}
 use Rattle.loading.specs.Loading.{planesOf, conjugateTransposed}
 use Rattle.factors.specs.Columns.{directionsOf, turnsOf}
-use Rattle.factors.specs.Finite.{allFinite}
+use Rattle.values.specs.Lists.{allFinite}
 use Rattle.thin.specs.Thin.{swept, orderOf, valuesOf}
 
 -- ---- the sizes

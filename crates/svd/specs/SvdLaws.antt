@@ -17,7 +17,7 @@ use Rattle.numbers.specs.Numbers.{allowed}
 use Rattle.complex.specs.Cells.{cellAt, components}
 use Rattle.complex.specs.Zeros.{zeros, zeroed}
 use Rattle.loading.specs.Loading.{planesOf, conjugateTransposed}
-use Rattle.factors.specs.Finite.{allFinite}
+use Rattle.values.specs.Lists.{allFinite}
 use Rattle.thin.specs.Thin.{Thin, Lent, side-fits}
 use Rattle.svd.specs.Svd.{sideOf, rowsOf, needU, needVt, needScratch, sizeTest, lengthTests, tests, workOf, directions, turns, uOf, sOf, vtOf, finiteFactors, endTest, answerOf, Svd, Exact, Factored, Finished, Worked}
 

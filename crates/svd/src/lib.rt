@@ -116,13 +116,13 @@ fn factor(
 fn finite_factors(u: &[f64], s: &[f64], vt: &[f64]) -> bool
     ensures { λ r. ⌜ r ≡ finiteFactors (now (u .entry)) (now (s .entry)) (now (vt .entry)) ⌝ }
 {
-    if !factors::all_finite(u) {
+    if !values::all_finite(u) {
         return false;
     }
-    if !factors::all_finite(s) {
+    if !values::all_finite(s) {
         return false;
     }
-    factors::all_finite(vt)
+    values::all_finite(vt)
 }
 
 // 9 where a number of a factor is not finite, and then all three are +0.0.
