@@ -78,6 +78,10 @@ uint32_t zg_cut_matrix(const double *state, size_t state_len, size_t n, const si
 uint32_t zg_dense_reduced_density(const double *state, size_t state_len, size_t n, const size_t *list, size_t list_len,
                                   size_t cap, double *out, size_t out_len, double *scratch, size_t scratch_len,
                                   size_t *place);
+/* Slices: matrix 0 (a cut matrix, exactly 2*2^n numbers), list 1 (the one it was cut by), out 2 (2*4^k). The same density
+ * matrix, bit for bit, from the cut matrix alone. Refused by 1 (as a cut and as a density) to 7. */
+uint32_t zg_density_from_cut(const double *matrix, size_t matrix_len, size_t n, const size_t *list, size_t list_len,
+                             size_t cap, double *out, size_t out_len, size_t *place);
 /* rho is dim by dim, row-major, exactly 2*dim*dim numbers (slice 0); dim 1 to 64. The upper half becomes the
  * conjugate of the lower, the diagonal stays. Refused by 1, 6, 7. */
 uint32_t zg_mirror_lower_triangle(double *rho, size_t rho_len, size_t dim, size_t *place);
@@ -117,6 +121,11 @@ uint32_t zg_finish_schmidt_values(const double *values, size_t values_len, doubl
  * that cyclic Jacobi sweeps leave. Refused by 1, 6, 7, 9. */
 uint32_t zg_hermitian_eigenvalues(const double *a, size_t a_len, size_t dim, double *out, size_t out_len,
                                   double *scratch, size_t scratch_len, size_t *place);
+
+/* Slices: rho 0 (exactly 2*dim*dim), out 1 (dim), scratch 2 (2*dim*dim). Eigenvalues above the floor, their roots, then
+ * the finish. Refused by 1, 6 to 9. */
+uint32_t zg_schmidt_values_from_density(const double *rho, size_t rho_len, size_t dim, double *out, size_t out_len,
+                                        double *scratch, size_t scratch_len, size_t *place, size_t *count);
 
 /* ---- ranks and sites */
 

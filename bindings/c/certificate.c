@@ -6,13 +6,20 @@
 #include <stdio.h>
 #include <string.h>
 
-enum { N = 4, AMPLITUDES = 16, SIDE = 4, SCRATCH = 8 * AMPLITUDES + 2 * SIDE };
+enum { N = 4, AMPLITUDES = 16, SIDE = 4, SCRATCH = 6 * AMPLITUDES + 2 * SIDE };
 
-static double scratch[SCRATCH];
-
+/* The Schmidt values: the cut matrix, its singular values, the finish. */
 static uint32_t values_of(const double *state, size_t length, const size_t *list, size_t k, double *values,
                           size_t *place, size_t *count) {
-    return zg_dense_schmidt_values(state, length, N, list, k, 13, values, SIDE, scratch, SCRATCH, place, count);
+    static double cut[2 * AMPLITUDES], u[2 * SIDE * SIDE], s[SIDE], vt[2 * SIDE * SIDE], scratch[SCRATCH];
+    uint32_t answer = zg_cut_matrix(state, length, N, list, k, 13, cut, 2 * AMPLITUDES, place);
+
+    if (answer == 0)
+        answer = zg_svd_jacobi(cut, 2 * AMPLITUDES, SIDE, SIDE, u, 2 * SIDE * SIDE, s, SIDE, vt, 2 * SIDE * SIDE,
+                               scratch, SCRATCH, place);
+    if (answer == 0)
+        answer = zg_finish_schmidt_values(s, SIDE, values, SIDE, place, count);
+    return answer;
 }
 
 int main(void) {

@@ -206,6 +206,21 @@ EXAMPLES = {
 }
 
 
+NAN_AT_2 = [(1.0, 0.0), (0.0, 0.0), (struct.pack('<Q', 0x7ff8000000000000), 0.0), (0.0, 0.0)]
+
+# one file for each number that a file can be refused by
+REFUSED = {
+    'refused-1': cut_file(4, [0, 1], set_at(4, {0: 1.0}), claimed=10),
+    'refused-2': cut_file(3, [0, 7], set_at(3, {0: 1.0})),
+    'refused-3': cut_file(2, [1, 1], set_at(2, {0: 1.0})),
+    'refused-4': cut_file(3, [], set_at(3, {0: 1.0})),
+    'refused-5': cut_file(2, [0, 1], set_at(2, {0: 1.0})),
+    'refused-7': cut_file(2, [0], NAN_AT_2),
+    'refused-8': cut_file(3, [1], set_at(3, {})),
+    'refused-10': PAPER + b'\0',
+}
+
+
 def cases():
     """The files of the table, each with what it is for."""
     rng = random.Random(20261115)
@@ -277,7 +292,7 @@ def cases():
 def main():
     kind = sys.argv[1]
     if kind == 'examples':
-        for name, file in EXAMPLES.items():
+        for name, file in (EXAMPLES | REFUSED).items():
             with open(os.path.join(sys.argv[2], name + '.cut'), 'wb') as f:
                 f.write(file)
             with open(os.path.join(sys.argv[2], name + '.txt'), 'w') as f:

@@ -42,6 +42,26 @@ pub fn dense_reduced_density(
     answered(number, place, out)
 }
 
+/// The same matrix, bit for bit, from the cut matrix that [`crate::cut_matrix`] gives for this list.
+///
+/// ```
+/// use zegrafult::{cut_matrix, dense_reduced_density, density_from_cut, Complex};
+///
+/// let state: Vec<Complex> = (0..8).map(|i| Complex::new(i as f64, 1.0)).collect();
+/// let cut = cut_matrix(&state, 3, &[2, 0], 13)?;
+/// assert_eq!(density_from_cut(&cut.cells, 3, &[2, 0], 13)?, dense_reduced_density(&state, 3, &[2, 0], 13)?);
+/// # Ok::<(), zegrafult::Refusal>(())
+/// ```
+pub fn density_from_cut(matrix: &[Complex], n: usize, list: &[usize], cap: usize) -> Result<Vec<Complex>, Refusal> {
+    let side = power(list.len());
+    let mut out = vec![Complex::default(); area(side, side)];
+    let mut place = 0;
+    let (m, m_len) = numbers_of(matrix);
+    let (o, o_len) = numbers_of_mut(&mut out);
+    let number = unsafe { ffi::zg_density_from_cut(m, m_len, n, list.as_ptr(), list.len(), cap, o, o_len, &mut place) };
+    answered(number, place, out)
+}
+
 /// The upper half becomes the conjugate of the lower.
 pub fn mirror_lower_triangle(rho: &mut [Complex], dim: usize) -> Result<(), Refusal> {
     let mut place = 0;

@@ -49,20 +49,6 @@ extern "C" {
         out_len: usize,
         place: &mut usize,
     ) -> u32;
-    pub fn zg_dense_schmidt_values(
-        state: *const f64,
-        state_len: usize,
-        n: usize,
-        list: *const usize,
-        list_len: usize,
-        cap: usize,
-        out: *mut f64,
-        out_len: usize,
-        scratch: *mut f64,
-        scratch_len: usize,
-        place: &mut usize,
-        count: &mut usize,
-    ) -> u32;
     pub fn zg_dense_reduced_density(
         state: *const f64,
         state_len: usize,
@@ -74,6 +60,17 @@ extern "C" {
         out_len: usize,
         scratch: *mut f64,
         scratch_len: usize,
+        place: &mut usize,
+    ) -> u32;
+    pub fn zg_density_from_cut(
+        matrix: *const f64,
+        matrix_len: usize,
+        n: usize,
+        list: *const usize,
+        list_len: usize,
+        cap: usize,
+        out: *mut f64,
+        out_len: usize,
         place: &mut usize,
     ) -> u32;
     pub fn zg_mirror_lower_triangle(rho: *mut f64, rho_len: usize, dim: usize, place: &mut usize) -> u32;
@@ -146,18 +143,6 @@ extern "C" {
         scratch_len: usize,
         place: &mut usize,
         count: &mut usize,
-    ) -> u32;
-    pub fn zg_hermitian_eigen(
-        matrix: *const f64,
-        matrix_len: usize,
-        dim: usize,
-        values: *mut f64,
-        values_len: usize,
-        vectors: *mut f64,
-        vectors_len: usize,
-        scratch: *mut f64,
-        scratch_len: usize,
-        place: &mut usize,
     ) -> u32;
     pub fn zg_truncated_svd_rank(
         values: *const f64,

@@ -1,31 +1,11 @@
 //! Schmidt values and spectra.
-use crate::{area, ffi, numbers_of, numbers_of_mut, power, refusal::answered, Complex, Refusal};
+use crate::{area, cut_matrix, ffi, numbers_of, refusal::answered, svd_jacobi, Complex, Refusal};
 
-/// The Schmidt values of the cut between the listed qubits and the rest, falling, their squares summing to 1.
+/// The Schmidt values of the cut between the listed qubits and the rest, falling, their squares summing to 1:
+/// [`cut_matrix`], the singular values of [`svd_jacobi`], then [`finish_schmidt_values`].
 pub fn dense_schmidt_values(state: &[Complex], n: usize, list: &[usize], cap: usize) -> Result<Vec<f64>, Refusal> {
-    let side = list.len().min(n.saturating_sub(list.len()));
-    let mut out = vec![0.0; power(side)];
-    let mut scratch = vec![0.0; 8 * power(n) + 2 * power(side)];
-    let (mut place, mut count) = (0, 0);
-    let (s, s_len) = numbers_of(state);
-    let number = unsafe {
-        ffi::zg_dense_schmidt_values(
-            s,
-            s_len,
-            n,
-            list.as_ptr(),
-            list.len(),
-            cap,
-            out.as_mut_ptr(),
-            out.len(),
-            scratch.as_mut_ptr(),
-            scratch.len(),
-            &mut place,
-            &mut count,
-        )
-    };
-    out.truncate(count);
-    answered(number, place, out)
+    let cut = cut_matrix(state, n, list, cap)?;
+    finish_schmidt_values(&svd_jacobi(&cut.cells, cut.rows, cut.columns)?.s)
 }
 
 /// Sorted downward, cut at the floor, scaled to unit length.
@@ -102,37 +82,4 @@ pub fn schmidt_values_from_density(rho: &[Complex], dim: usize) -> Result<Vec<f6
     };
     out.truncate(count);
     answered(number, place, out)
-}
-
-/// Eigenvalues rising, each with its vector: vector j is the cells from j * dim on.
-#[derive(Clone, Debug, PartialEq)]
-pub struct Eigen {
-    pub values: Vec<f64>,
-    pub vectors: Vec<Complex>,
-}
-
-/// The eigenvalues and vectors of a Hermitian matrix.
-pub fn hermitian_eigen(matrix: &[Complex], dim: usize) -> Result<Eigen, Refusal> {
-    let cells = area(dim, dim);
-    let mut values = vec![0.0; if cells == 0 { 0 } else { dim }];
-    let mut vectors = vec![Complex::default(); cells];
-    let mut scratch = vec![0.0; 6 * cells + 2 * values.len()];
-    let mut place = 0;
-    let (m, m_len) = numbers_of(matrix);
-    let (v, v_len) = numbers_of_mut(&mut vectors);
-    let number = unsafe {
-        ffi::zg_hermitian_eigen(
-            m,
-            m_len,
-            dim,
-            values.as_mut_ptr(),
-            values.len(),
-            v,
-            v_len,
-            scratch.as_mut_ptr(),
-            scratch.len(),
-            &mut place,
-        )
-    };
-    answered(number, place, Eigen { values, vectors })
 }

@@ -66,7 +66,9 @@ fn sizes() {
     assert_eq!(refused(factorize_gram_schmidt(&[], 65, 64)), (1, 0));
     assert_eq!(refused(dense_schmidt_values(&[], 13, &[0], 13)), (1, 0));
     assert_eq!(refused(dense_schmidt_values(&[], usize::MAX, &[0], 13)), (1, 0));
-    assert_eq!(refused(hermitian_eigen(&[], 65)), (1, 0));
+    assert_eq!(refused(hermitian_eigenvalues(&[], 65)), (1, 0));
+    assert_eq!(refused(cut_rank(4097, 1, 1)), (1, 0));
+    assert_eq!(refused(fill_isometry_site_data(&[], 1, 1, 1)), (1, 0));
 }
 
 #[test]

@@ -29,6 +29,8 @@ ghost use Rattle.ranks.specs.Ranks.{rankOf, discardsOf, Ranked, cutSizes, cutRa
 ghost use Rattle.ranks.specs.declared.CutRank.{CutRank};
 ghost use Rattle.sites.specs.Sources.{siteCell, isometryCell, scaledUCell, vtCell, scaledVtCell};
 ghost use Rattle.sites.specs.Calls.{columnSizes, rowSizes, plainReply, scaledUReply, scaledVtReply, Filled};
+ghost use Rattle.spectra.specs.Density.{DensityValues};
+ghost use Rattle.recount.specs.Recount.{DensityFromCut};
 
 // Inner: a number of the paper's table, as C has it.
 fn small(n: usize) -> u32
@@ -225,7 +227,24 @@ pub extern "C" fn zg_multiply_block_factor(
     ensures { λ r. ⌜ Exported (λ a. InPlace (blockAnswer (now (rho .entry)) dim (now (positions .entry)) (now (factor .entry)) side)
         (multiplied (now (rho .entry)) dim (now (positions .entry)) (now (factor .entry)) side) (now (rho .entry)) a (now (rho .exit))) r (now (place .exit)) ⌝ }
 {
-    told(blocks::multiply_block_factor(rho, dim, positions, factor, side), place)
+    told(
+        blocks::multiply_block_factor(rho, dim, positions, factor, side),
+        place,
+    )
+}
+
+#[no_mangle]
+pub extern "C" fn zg_density_from_cut(
+    matrix: &[f64],
+    n: usize,
+    list: &[usize],
+    cap: usize,
+    out: &mut [f64],
+    place: &mut usize,
+) -> u32
+    ensures { λ r. ⌜ Exported (λ a. DensityFromCut (now (matrix .entry)) n (now (list .entry)) cap (now (out .entry)) a (now (out .exit))) r (now (place .exit)) ⌝ }
+{
+    told(recount::density_from_cut(matrix, n, list, cap, out), place)
 }
 
 // ---- factors
@@ -284,10 +303,34 @@ pub extern "C" fn zg_finish_schmidt_values(
 }
 
 #[no_mangle]
-pub extern "C" fn zg_hermitian_eigenvalues(a: &[f64], dim: usize, out: &mut [f64], scratch: &mut [f64], place: &mut usize) -> u32
+pub extern "C" fn zg_hermitian_eigenvalues(
+    a: &[f64],
+    dim: usize,
+    out: &mut [f64],
+    scratch: &mut [f64],
+    place: &mut usize,
+) -> u32
     ensures { λ r. ⌜ Exported (λ x. Eigenvalues (now (a .entry)) dim (now (out .entry)) (now (scratch .entry)) x (now (out .exit)) (now (scratch .exit))) r (now (place .exit)) ⌝ }
 {
     told(spectra::hermitian_eigenvalues(a, dim, out, scratch), place)
+}
+
+#[no_mangle]
+pub extern "C" fn zg_schmidt_values_from_density(
+    rho: &[f64],
+    dim: usize,
+    out: &mut [f64],
+    scratch: &mut [f64],
+    place: &mut usize,
+    count: &mut usize,
+) -> u32
+    ensures { λ r. ⌜ ExportedWith (λ k. k .answer) (λ k. k .count)
+        (λ k. DensityValues (now (rho .entry)) dim (now (out .entry)) (now (scratch .entry)) k (now (out .exit)) (now (scratch .exit))) r (now (place .exit)) (now (count .exit)) ⌝ }
+{
+    let k = spectra::schmidt_values_from_density(rho, dim, out, scratch);
+    *count = k.count;
+    let answer = k.answer;
+    told(answer, place)
 }
 
 // ---- ranks and sites
@@ -310,7 +353,12 @@ pub extern "C" fn zg_truncated_svd_rank(
 
 // Nothing is refused.
 #[no_mangle]
-pub extern "C" fn zg_discards_resolvable_weight(values: &[f64], chi: usize, place: &mut usize, yes: &mut bool) -> u32
+pub extern "C" fn zg_discards_resolvable_weight(
+    values: &[f64],
+    chi: usize,
+    place: &mut usize,
+    yes: &mut bool,
+) -> u32
     ensures { λ r. ⌜ (r ≡ 0) × (now (place .exit) ≡ 0) × (now (yes .exit) ≡ discardsOf (now (values .entry)) chi) ⌝ }
 {
     *yes = ranks::discards_resolvable_weight(values, chi);
@@ -319,7 +367,13 @@ pub extern "C" fn zg_discards_resolvable_weight(values: &[f64], chi: usize, plac
 }
 
 #[no_mangle]
-pub extern "C" fn zg_cut_rank(bond_left: usize, bond_mid: usize, bond_right: usize, place: &mut usize, rank: &mut u64) -> u32
+pub extern "C" fn zg_cut_rank(
+    bond_left: usize,
+    bond_mid: usize,
+    bond_right: usize,
+    place: &mut usize,
+    rank: &mut u64,
+) -> u32
     ensures { λ r. ⌜ ExportedWith {R = CutRank} (λ k. k .answer) (λ k. k .rank)
         (λ k. Ranked (cutSizes «bond_left» «bond_mid» «bond_right») (cutRankOf «bond_left» «bond_mid» «bond_right») (k .answer) (k .rank)) r (now (place .exit)) (now (rank .exit)) ⌝ }
 {
@@ -330,7 +384,13 @@ pub extern "C" fn zg_cut_rank(bond_left: usize, bond_mid: usize, bond_right: usi
 }
 
 #[no_mangle]
-pub extern "C" fn zg_widest_block_cut(bond_left: usize, bond_right: usize, n: usize, place: &mut usize, rank: &mut u64) -> u32
+pub extern "C" fn zg_widest_block_cut(
+    bond_left: usize,
+    bond_right: usize,
+    n: usize,
+    place: &mut usize,
+    rank: &mut u64,
+) -> u32
     ensures { λ r. ⌜ ExportedWith {R = CutRank} (λ k. k .answer) (λ k. k .rank)
         (λ k. Ranked (widestSizes «bond_left» «bond_right» n) (widestOf «bond_left» «bond_right» n) (k .answer) (k .rank)) r (now (place .exit)) (now (rank .exit)) ⌝ }
 {
@@ -352,7 +412,10 @@ pub extern "C" fn zg_fill_isometry_site_data(
     ensures { λ r. ⌜ Exported (λ a. Filled (andThen (columnSizes stride «bond_left» chi) (plainReply (now (columns .entry)) stride (2 * «bond_left») chi (length (now (out .entry)))))
         (2 * «bond_left» * chi) (siteCell chi (isometryCell (now (columns .entry)) stride)) (now (out .entry)) a (now (out .exit))) r (now (place .exit)) ⌝ }
 {
-    told(sites::fill_isometry_site_data(columns, stride, bond_left, chi, out), place)
+    told(
+        sites::fill_isometry_site_data(columns, stride, bond_left, chi, out),
+        place,
+    )
 }
 
 #[no_mangle]
@@ -368,7 +431,10 @@ pub extern "C" fn zg_fill_scaled_u_site_data(
     ensures { λ r. ⌜ Exported (λ a. Filled (andThen (columnSizes stride «bond_left» chi) (scaledUReply (now (u .entry)) (now (s .entry)) stride (2 * «bond_left») chi (length (now (out .entry)))))
         (2 * «bond_left» * chi) (siteCell chi (scaledUCell (now (u .entry)) (now (s .entry)) stride)) (now (out .entry)) a (now (out .exit))) r (now (place .exit)) ⌝ }
 {
-    told(sites::fill_scaled_u_site_data(u, s, stride, bond_left, chi, out), place)
+    told(
+        sites::fill_scaled_u_site_data(u, s, stride, bond_left, chi, out),
+        place,
+    )
 }
 
 #[no_mangle]
@@ -384,7 +450,10 @@ pub extern "C" fn zg_fill_vt_site_data(
     ensures { λ r. ⌜ Exported (λ a. Filled (andThen (rowSizes «row_len» chi «physical_dim» «bond_right») (plainReply (now (vt .entry)) «row_len» («physical_dim» * «bond_right») chi (length (now (out .entry)))))
         («physical_dim» * «bond_right» * chi) (siteCell («physical_dim» * «bond_right») (vtCell (now (vt .entry)) «row_len»)) (now (out .entry)) a (now (out .exit))) r (now (place .exit)) ⌝ }
 {
-    told(sites::fill_vt_site_data(vt, row_len, chi, physical_dim, bond_right, out), place)
+    told(
+        sites::fill_vt_site_data(vt, row_len, chi, physical_dim, bond_right, out),
+        place,
+    )
 }
 
 #[no_mangle]
@@ -401,5 +470,8 @@ pub extern "C" fn zg_fill_scaled_vt_data(
     ensures { λ r. ⌜ Exported (λ a. Filled (andThen (rowSizes «row_len» chi «physical_dim» «bond_right») (scaledVtReply (now (s .entry)) (now (vt .entry)) «row_len» («physical_dim» * «bond_right») chi (length (now (out .entry)))))
         («physical_dim» * «bond_right» * chi) (siteCell («physical_dim» * «bond_right») (scaledVtCell (now (s .entry)) (now (vt .entry)) «row_len»)) (now (out .entry)) a (now (out .exit))) r (now (place .exit)) ⌝ }
 {
-    told(sites::fill_scaled_vt_data(s, vt, row_len, chi, physical_dim, bond_right, out), place)
+    told(
+        sites::fill_scaled_vt_data(s, vt, row_len, chi, physical_dim, bond_right, out),
+        place,
+    )
 }
