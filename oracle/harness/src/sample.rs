@@ -15,9 +15,7 @@ pub fn entries(kind: &str) -> &'static [Entry] {
     match kind {
         "svd_cases" => &[svd_jacobi],
         "qr_cases" => &[factorize_gram_schmidt],
-        "spectra_cases" => {
-            &[hermitian_eigenvalues, finish_schmidt_values, schmidt_values_from_density, hermitian_eigen]
-        }
+        "spectra_cases" => &[hermitian_eigenvalues, finish_schmidt_values, schmidt_values_from_density],
         "sites_cases" => &[
             truncated_svd_rank,
             discards_resolvable_weight,
