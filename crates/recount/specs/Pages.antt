@@ -21,7 +21,7 @@ use Rattle.agreement.specs.Agreement.{cut-parted, cut-left, density-left, writt
 use Rattle.recount.specs.Recount.{recountAnswer, recounted, DensityFromCut}
 
 -- the front of a list that was written, as a matrix of its own
-front : (m : ℕ) (f : ℕ → Complex) (o : List Float) → take (2 * m) (written m f o) ≡ written m f []
+pub front : (m : ℕ) (f : ℕ → Complex) (o : List Float) → take (2 * m) (written m f o) ≡ written m f []
 unfolding written
 front m f o =
     take-at (cellsOf m f) (drop (2 * m) o) (2 * m) (length-cells m f)

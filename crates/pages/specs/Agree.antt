@@ -1,0 +1,45 @@
+-- The check that a state's two pages agree: its answer, and its yes or no. Assumes nothing.
+use mathlib.Core.Bool.{Bool, true, false, _&&_}
+use mathlib.Core.Path.{_≡_}
+use mathlib.Core.List.{List, [], _∷_}
+use Prim.Native.Nat.{ℕ, _^_}
+use lib.Dec.{eqb}
+use lib.Ieee.{Float, binary64, toBits}
+use lib.ListN.{length}
+use Rattle.answers.specs.Paper.{Reply, paper, andThen, ifDone}
+use Rattle.complex.specs.Cells.{written}
+use Rattle.cuts.specs.Cut.{cutCell, cutAnswer}
+use Rattle.densities.specs.Density.{densityAnswer, densityList}
+use Rattle.recount.specs.Recount.{recountAnswer, recounted}
+use Rattle.pages.specs.declared.Agreement.{Agreement}
+
+-- the same length, and the same bits throughout
+unfoldable pub sameFloats : List Float → List Float → Bool
+sameFloats [] [] = true
+sameFloats [] (y ∷ b) = false
+sameFloats (x ∷ a) [] = false
+sameFloats (x ∷ a) (y ∷ b) = eqb (toBits binary64 x) (toBits binary64 y) && sameFloats a b
+
+-- the density summed from the matrix m into o, held against d
+pub record Again (m : List Float) (n : ℕ) (l : List ℕ) (cap : ℕ) (d o : List Float) (r : Agreement) : Type 0 where
+  pub answer : paper (r .answer) ≡ recountAnswer m n l cap (length o)
+  pub same : r .yes ≡ ifDone (recountAnswer m n l cap (length o) .0) (sameFloats d (recounted n l m o)) false
+
+-- the answer of a state's density, then that of the density from the matrix m
+abbrev pub comparedAnswer : List Float → List Float → ℕ → List ℕ → ℕ → Reply
+comparedAnswer s m n l cap = andThen (densityAnswer s n l cap 8192 128) (recountAnswer m n l cap 8192)
+
+-- the two densities, over a list that both began with
+pub record Compared (s m : List Float) (n : ℕ) (l : List ℕ) (cap : ℕ) (r : Agreement) : Type 0 where
+  pub room : List Float
+  pub answer : paper (r .answer) ≡ comparedAnswer s m n l cap
+  pub same : r .yes ≡ ifDone (comparedAnswer s m n l cap .0) (sameFloats (densityList n l s room) (recounted n l m room)) false
+
+-- the cut, the density, and the density from the cut matrix, in this order
+abbrev pub pagesAnswer : List Float → ℕ → List ℕ → ℕ → Reply
+pagesAnswer s n l cap = andThen (cutAnswer s n l cap 8192) (comparedAnswer s (written (2 ^ n) (cutCell s n l) []) n l cap)
+
+-- a call of `pages_agree`: yes on answer 0, and no on any other
+pub record PagesAgree (s : List Float) (n : ℕ) (l : List ℕ) (cap : ℕ) (r : Agreement) : Type 0 where
+  pub answer : paper (r .answer) ≡ pagesAnswer s n l cap
+  pub agree : r .yes ≡ ifDone (pagesAnswer s n l cap .0) true false

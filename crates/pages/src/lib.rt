@@ -1,0 +1,85 @@
+// The two pages of one state, worked out and held against each other.
+use answers::Answer;
+ghost use mathlib.Core.Path.{_≡_};
+ghost use lib.Ieee.{binary64, toBits};
+ghost use Rattle.pages.specs.Agree.{sameFloats, Again, Compared, PagesAgree};
+
+// The bits of a float; of a NaN those of the one that the logic writes.
+fn bits_of(x: f64) -> u64
+    ensures { λ r. ⌜ r ≡ toBits binary64 x ⌝ }
+{
+    if x != x {
+        return 0x7ff8_0000_0000_0000;
+    }
+    f64::to_bits(x)
+}
+
+// Whether two lists have the same length and the same bits throughout.
+fn same_floats(a: &[f64], b: &[f64]) -> bool
+    ensures { λ r. ⌜ r ≡ sameFloats (now (a .entry)) (now (b .entry)) ⌝ }
+{
+    if a.len() != b.len() {
+        return false;
+    }
+    let mut i = 0;
+    while i < a.len() {
+        if bits_of(a[i]) != bits_of(b[i]) {
+            return false;
+        }
+        i += 1;
+    }
+    true
+}
+
+// The answer of the check, and yes where the two densities have the same bits; no on a refusal.
+pub struct Agreement {
+    pub answer: Answer,
+    pub yes: bool,
+}
+
+// The density summed from the cut matrix alone, in room, held against the state's own.
+fn same_again(
+    matrix: &[f64],
+    n: usize,
+    list: &[usize],
+    cap: usize,
+    density: &[f64],
+    room: &mut [f64],
+) -> Agreement
+    ensures { λ r. ⌜ Again (now (matrix .entry)) n (now (list .entry)) cap (now (density .entry)) (now (room .entry)) r ⌝ }
+{
+    let answer = recount::density_from_cut(matrix, n, list, cap, room);
+    let Answer::Done = answer else {
+        return Agreement { answer, yes: false };
+    };
+    Agreement {
+        answer: Answer::Done,
+        yes: same_floats(density, room),
+    }
+}
+
+// The two densities over equal zeros, so that what lies past them is the same.
+fn compare(state: &[f64], matrix: &[f64], n: usize, list: &[usize], cap: usize) -> Agreement
+    ensures { λ r. ⌜ Compared (now (state .entry)) (now (matrix .entry)) n (now (list .entry)) cap r ⌝ }
+{
+    let mut density = [0.0; 8192];
+    let mut scratch = [0.0; 128];
+    let answer = densities::dense_reduced_density(state, n, list, cap, &mut density, &mut scratch);
+    let Answer::Done = answer else {
+        return Agreement { answer, yes: false };
+    };
+    let mut room = [0.0; 8192];
+    same_again(matrix, n, list, cap, &density, &mut room)
+}
+
+// Whether both pages of a state agree: its density, and the density summed from its cut matrix alone. Refused as the two calls are.
+pub fn pages_agree(state: &[f64], n: usize, list: &[usize], cap: usize) -> Agreement
+    ensures { λ r. ⌜ PagesAgree (now (state .entry)) n (now (list .entry)) cap r ⌝ }
+{
+    let mut matrix = [0.0; 8192];
+    let answer = cuts::cut_matrix(state, n, list, cap, &mut matrix);
+    let Answer::Done = answer else {
+        return Agreement { answer, yes: false };
+    };
+    compare(state, &matrix[..state.len()], n, list, cap)
+}
