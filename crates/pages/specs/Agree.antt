@@ -2,15 +2,14 @@
 use mathlib.Core.Bool.{Bool, true, false, _&&_}
 use mathlib.Core.Path.{_≡_}
 use mathlib.Core.List.{List, [], _∷_}
-use Prim.Native.Nat.{ℕ, _^_}
+use Prim.Native.Nat.{ℕ}
 use lib.Dec.{eqb}
 use lib.Ieee.{Float, binary64, toBits}
 use lib.ListN.{length}
 use Rattle.answers.specs.Paper.{Reply, paper, andThen, ifDone}
-use Rattle.complex.specs.Cells.{written}
-use Rattle.cuts.specs.Cut.{cutCell, cutAnswer}
+use Rattle.cuts.specs.Cut.{cutAnswer}
 use Rattle.densities.specs.Density.{densityAnswer, densityList}
-use Rattle.recount.specs.Recount.{recountAnswer, recounted}
+use Rattle.recount.specs.Recount.{recountSizes, recountAnswer, recounted}
 use Rattle.pages.specs.declared.Agreement.{Agreement}
 
 -- the same length, and the same bits throughout
@@ -35,11 +34,15 @@ pub record Compared (s m : List Float) (n : ℕ) (l : List ℕ) (cap : ℕ) (r :
   pub answer : paper (r .answer) ≡ comparedAnswer s m n l cap
   pub same : r .yes ≡ ifDone (comparedAnswer s m n l cap .0) (sameFloats (densityList n l s room) (recounted n l m room)) false
 
--- the cut, the density, and the density from the cut matrix, in this order
-abbrev pub pagesAnswer : List Float → ℕ → List ℕ → ℕ → Reply
-pagesAnswer s n l cap = andThen (cutAnswer s n l cap 8192) (comparedAnswer s (written (2 ^ n) (cutCell s n l) []) n l cap)
+-- the cut's answer, then the density's, over arrays that are long enough for both: an answer 6 is only the state's
+abbrev pub bothAnswer : List Float → ℕ → List ℕ → ℕ → Reply
+bothAnswer s n l cap = andThen (cutAnswer s n l cap 8192) (densityAnswer s n l cap 8192 128)
 
--- a call of `pages_agree`: yes on answer 0, and no on any other
-pub record PagesAgree (s : List Float) (n : ℕ) (l : List ℕ) (cap : ℕ) (r : Agreement) : Type 0 where
-  pub answer : paper (r .answer) ≡ pagesAnswer s n l cap
-  pub agree : r .yes ≡ ifDone (pagesAnswer s n l cap .0) true false
+-- the sizes of both first, as 1 comes before 2
+abbrev pub pagesAnswer : List Float → ℕ → List ℕ → ℕ → Reply
+pagesAnswer s n l cap = andThen (recountSizes n (length l) cap) (bothAnswer s n l cap)
+
+-- what the check says where its answer is a: yes on answer 0, and no on any other
+pub record Says (a : Reply) (r : Agreement) : Type 0 where
+  pub answer : paper (r .answer) ≡ a
+  pub agree : r .yes ≡ ifDone (a .0) true false

@@ -25,10 +25,11 @@ use Rattle.entries.specs.Entries.{densityCell}
 use Rattle.agreement.specs.FromCut.{cutDensityCell}
 use Rattle.agreement.specs.SameDensity.{same-density}
 use Rattle.agreement.specs.Agreement.{cut-parted, cut-left, density-left, written-same}
-use Rattle.recount.specs.Recount.{recountAnswer, recounted, DensityFromCut}
+use Rattle.recount.specs.Recount.{recountSizes, recountAnswer, recounted, DensityFromCut}
 use Rattle.recount.specs.Pages.{front}
 use Rattle.pages.specs.declared.Agreement.{Agreement}
-use Rattle.pages.specs.Agree.{sameFloats, Again, comparedAnswer, Compared, pagesAnswer, PagesAgree}
+use Rattle.pages.specs.Both.{goes, adds-nothing, density-done, recount-done, sizes-done}
+use Rattle.pages.specs.Agree.{sameFloats, Again, comparedAnswer, Compared, bothAnswer, pagesAnswer, Says}
 
 -- ---- the bits of a float
 
@@ -92,13 +93,6 @@ after-stays (suc k) x b h = refl
 stays : (x b : Reply) → (x .0 ≡ 0 → ⊥) → x ≡ andThen x b
 stays x b h = after-stays (x .0) x b h
 
-after-goes : (k : ℕ) (x b : Reply) → k ≡ 0 → b ≡ after k x b
-after-goes zero x b h = refl
-after-goes (suc k) x b h = absurd (omega arith)
-
-goes : (x b : Reply) → x .0 ≡ 0 → b ≡ andThen x b
-goes x b h = after-goes (x .0) x b h
-
 number : (a : Answer) (x : Reply) → paper a ≡ x → a ≡ Done → x .0 ≡ 0
 number a x e d = ap (λ (r : Reply). r .0) (sym e ∙ ap paper d)
 
@@ -161,8 +155,8 @@ module _ (s : List Float) (n : ℕ) (l : List ℕ) (cap : ℕ) (o : List Float) 
   cut-said : paper a ≡ cutAnswer s n l cap 8192
   cut-said = f .answer ∙ ap (cutAnswer s n l cap) eo
 
-  pub pages-refused : (paper a .0 ≡ 0 → ⊥) → PagesAgree s n l cap (record { answer = a; yes = false })
-  pages-refused h = record { answer = stopped a _ _ cut-said h; agree = says-no a _ _ cut-said h true }
+  pub both-refused : (paper a .0 ≡ 0 → ⊥) → Says (bothAnswer s n l cap) (record { answer = a; yes = false })
+  both-refused h = record { answer = stopped a _ _ cut-said h; agree = says-no a _ _ cut-said h true }
 
   module _ (e : a ≡ Done) where
     zero-said : paper a .0 ≡ 0
@@ -185,12 +179,15 @@ module _ (s : List Float) (n : ℕ) (l : List ℕ) (cap : ℕ) (o : List Float) 
         written-same (2 ^ length l * 2 ^ length l) (cutDensityCell n l (written (2 ^ n) (cutCell s n l) [])) (densityCell n l s) room
         (λ k h. same-density n l (cut-parted s n l cap o a m f zero-said) s [] k)
 
-    pub pages-done : (r : Agreement) → Compared s (take (length s) m) n l cap r → PagesAgree s n l cap r
-    pages-done r g =
+    pub both-done : (r : Agreement) → Compared s (take (length s) m) n l cap r → Says (bothAnswer s n l cap) r
+    both-done r g =
         let W = written (2 ^ n) (cutCell s n l) [] in
         let C = cutAnswer s n l cap 8192 in
-        let q : comparedAnswer s (take (length s) m) n l cap ≡ pagesAnswer s n l cap =
-        ap (λ (x : List Float). comparedAnswer s x n l cap) cut-matrix-is ∙ goes C (comparedAnswer s W n l cap) (number a C cut-said e) in
+        let D = densityAnswer s n l cap 8192 128 in
+        let z = number a C cut-said e in
+        let q : comparedAnswer s (take (length s) m) n l cap ≡ bothAnswer s n l cap =
+        ap (λ (x : List Float). comparedAnswer s x n l cap) cut-matrix-is
+        ∙ adds-nothing D (recountAnswer W n l cap 8192) (λ h. recount-done s n l cap z h ∙ sym (density-done s n l cap z h)) ∙ goes C D z in
         record {
           answer = g .answer ∙ q;
           agree =
@@ -200,8 +197,29 @@ module _ (s : List Float) (n : ℕ) (l : List ℕ) (cap : ℕ) (o : List Float) 
               ∙ same-self (densityList n l s (g .room)));
         }
 
+-- ---- the sizes first
+
+module _ (s : List Float) (n : ℕ) (l : List ℕ) (cap : ℕ) (a : Answer) (e : paper a ≡ recountSizes n (length l) cap) where
+  pub pages-refused : (paper a .0 ≡ 0 → ⊥) → Says (pagesAnswer s n l cap) (record { answer = a; yes = false })
+  pages-refused h = record { answer = stopped a _ _ e h; agree = says-no a _ _ e h true }
+
+  pub pages-done : (r : Agreement) → a ≡ Done → Says (bothAnswer s n l cap) r → Says (pagesAnswer s n l cap) r
+  pages-done r d g =
+      let q = goes (recountSizes n (length l) cap) (bothAnswer s n l cap) (number a _ e d) in
+      record { answer = g .answer ∙ q; agree = g .agree ∙ ap (λ (x : Reply). ifDone (x .0) true false) q }
+
+-- ALWAYS YES where the cut and the density are both accepted
+pub always-yes : (s : List Float) (n : ℕ) (l : List ℕ) (cap : ℕ) (r : Agreement) → Says (pagesAnswer s n l cap) r
+    → cutAnswer s n l cap 8192 .0 ≡ 0 → densityAnswer s n l cap 8192 128 .0 ≡ 0 → (r .answer ≡ Done) × (r .yes ≡ true)
+always-yes s n l cap r f e h =
+    let q : pagesAnswer s n l cap ≡ (0, 0) =
+    sym (goes (recountSizes n (length l) cap) (bothAnswer s n l cap) (sizes-done s n l cap e h))
+    ∙ sym (goes (cutAnswer s n l cap 8192) (densityAnswer s n l cap 8192 128) e) ∙ density-done s n l cap e h in
+    (paper-one (r .answer) Done (f .answer ∙ q), f .agree ∙ ap (λ (x : Reply). ifDone (x .0) true false) q)
+
 -- ONE OUTCOME
-pub pages-agree-one : (s : List Float) (n : ℕ) (l : List ℕ) (cap : ℕ) (r r' : Agreement) → PagesAgree s n l cap r → PagesAgree s n l cap r' → r ≡ r'
+pub pages-agree-one : (s : List Float) (n : ℕ) (l : List ℕ) (cap : ℕ) (r r' : Agreement) → Says (pagesAnswer s n l cap) r
+    → Says (pagesAnswer s n l cap) r' → r ≡ r'
 pages-agree-one s n l cap r r' f g =
     let made : Answer → Bool → Agreement = λ a y. record { answer = a; yes = y } in
     ap₂ made (paper-one (r .answer) (r' .answer) (f .answer ∙ sym (g .answer))) (f .agree ∙ sym (g .agree))

@@ -1,3 +1,4 @@
 -- What the contracts of `pages` cite.
 pub mod Agree
+pub mod Both
 pub mod AgreeLaws

@@ -10,8 +10,8 @@ ghost use Rattle.qubits.specs.Lists.{Listed};
 ghost use Rattle.qubits.specs.Spread.{named};
 ghost use Rattle.recount.specs.Recount.{recountSizes, recountLengths, recountAnswer, recounted, DensityFromCut, layoutOf, Accepted, Numbers};
 
-// Answer 1: the register, then a cut's n+1 and a density's 2k against the cap.
-fn recount_size(n: usize, k: usize, cap: usize) -> Answer
+// Inner. Answer 1: the register, then a cut's n+1 and a density's 2k against the cap.
+pub fn recount_size(n: usize, k: usize, cap: usize) -> Answer
     ensures { λ r. ⌜ paper r ≡ recountSizes n k cap ⌝ }
 {
     if n < 1 {

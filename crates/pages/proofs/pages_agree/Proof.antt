@@ -1,46 +1,32 @@
--- `pages::pages_agree` meets its contract at each way out: the front of the array is the cut matrix. Assumes nothing.
-use native.Mathlib.Omega.{arith}
-use mathlib.Core.Path.{refl, sym}
-use lib.Seq.{length-take-le}
+-- `pages::pages_agree` meets its contract at each way out: the sizes, then both pages. Assumes nothing.
+use denote.Ref.{now}
 use Rattle.answers.proofs.Stopped.{stopped-number}
-use Rattle.pages.specs.AgreeLaws.{state-fits, pages-refused, pages-done}
+use Rattle.pages.specs.AgreeLaws.{pages-refused, pages-done}
 use borrow.Author.Needs.{needs}
 use Rattle.pages.proofs.pages_agree.Statement.{statement}
 use Rattle.pages.proofs.pages_agree.Tie as tie
 
-slice-aggregate-cut-matrix : tie.Need-slice-aggregate-cut-matrix
-slice-aggregate-cut-matrix c = search needs
-
-cut-matrix-requires : tie.Need-cut-matrix-requires
-cut-matrix-requires c κs = search needs
+recount-size-requires : tie.Need-recount-size-requires
+recount-size-requires c κs = search needs
 
 enum-told : tie.Need-enum-told
 enum-told c = search needs
 
 returns : tie.Need-returns
-returns c = pages-refused _ _ _ _ _ _ _ (c .before .before .cut-matrix .ensures) refl (stopped-number (c .before .before .cut-matrix .result) (c .match .keys2))
+returns c =
+    let z = c .before .before .before .before .args in
+    let r = c .before .recount-size in
+    pages-refused (now (z .state)) (z .n) (now (z .list)) (z .cap) (r .result) (r .ensures) (stopped-number (r .result) (c .match .keys2))
 
-array-share-prefix-matrix : tie.Need-array-share-prefix-matrix
-array-share-prefix-matrix c = omega (arith, state-fits _ _ _ _ _ _ _ (c .before .before .before .cut-matrix .ensures) refl (c .enum-told .given .1))
-
-slice-aggregate-compare : tie.Need-slice-aggregate-compare
-slice-aggregate-compare c = sym (length-take-le _ _ (array-share-prefix-matrix (c .before)))
-
-compare-requires : tie.Need-compare-requires
-compare-requires c κs = search needs
+both-pages-requires : tie.Need-both-pages-requires
+both-pages-requires c κs = search needs
 
 returns-2 : tie.Need-returns-2
-returns-2 c = pages-done _ _ _ _ _ _ _ (c .before .before .before .before .before .cut-matrix .ensures) refl (c .before .before .enum-told .given .1) _ (c .compare .ensures)
+returns-2 c =
+    let z = c .before .before .before .before .before .before .args in
+    let r = c .before .before .before .recount-size in
+    pages-done (now (z .state)) (z .n) (now (z .list)) (z .cap) (r .result) (r .ensures) _ (c .before .enum-told .given .1) (c .both-pages .ensures)
 
 pub pages-agree-spec : {M : Type 1} → statement M
 pages-agree-spec =
-    tie.close
-    (tie.spec
-    slice-aggregate-cut-matrix
-    cut-matrix-requires
-    enum-told
-    returns
-    array-share-prefix-matrix
-    slice-aggregate-compare
-    compare-requires
-    returns-2)
+    tie.close (tie.spec recount-size-requires enum-told returns both-pages-requires returns-2)
