@@ -20,6 +20,8 @@ use Rattle.masks.specs.Submasks.{submaskAt}
 use Rattle.qubits.specs.Lists.{stands, placesFrom, subsystem}
 use Rattle.qubits.specs.Spread.{spread, table, otherQubits, maskFrom, rowOffsets, tracedBase}
 use Rattle.cuts.specs.Cut.{sourceOf}
+use Rattle.eigenpair.specs.Decide.{thetaOf, tangentOf}
+use Rattle.numbers.specs.Numbers.{signOf, magnitudeOf}
 
 abbrev to8 : List ℕ
 to8 = 0 ∷ 1 ∷ 2 ∷ 3 ∷ 4 ∷ 5 ∷ 6 ∷ 7 ∷ []
@@ -73,9 +75,12 @@ pub record Starred : Type 0 where
   pub rank-halves : rankOf (float1 ∷ ofBits binary64 0x3fe0_0000_0000_0000 ∷ ofBits binary64 0x3fd0_0000_0000_0000 ∷ []) threshold 8 ≡ 2
   pub rank-zeros : rankOf (float0 ∷ float0 ∷ []) threshold 8 ≡ 1
   pub rank-capped : (values : List Float) (epsilon : Float) → rankOf values epsilon 0 ≡ 0
+  -- eigen pair with diagonal +0.0, -0.0 and off-diagonal 1: theta -0.0, t = -1
+  pub eigen-theta : thetaOf float0 (Ieee.neg float0) float1 ≡ Ieee.neg float0
+  pub eigen-tangent : tangentOf (Ieee.neg float0) ≡ Ieee.neg float1
 
 pub starred : Starred
-unfolding submaskAt maskFrom spread table otherQubits stands placesFrom zeros cellsOf product sum difference conjugate scaled normSqr noSums addQuad addFirst joined term quadsTo tailTo dotOf cellFrom columnOf squaresTo normOf lessCell lessened scaledInto projectedBy projected passTo passes newBasis kept judged addColumn columnsTo basisFor withBasis factorsOf firstOrZero aboveCount rankOf sqrtOf rootOf squared size floorRoot nextRoot ofBits toBits ofFields odd round units trailingZeros Ieee.add Ieee.sub Ieee.mul Ieee.div Ieee.neg Ieee.lt Ieee.sum Ieee.size Ieee.span Ieee.climb
+unfolding submaskAt maskFrom spread table otherQubits stands placesFrom zeros cellsOf product sum difference conjugate scaled normSqr noSums addQuad addFirst joined term quadsTo tailTo dotOf cellFrom columnOf squaresTo normOf lessCell lessened scaledInto projectedBy projected passTo passes newBasis kept judged addColumn columnsTo basisFor withBasis factorsOf firstOrZero aboveCount rankOf tangentOf signOf magnitudeOf sqrtOf rootOf squared size floorRoot nextRoot ofBits toBits ofFields odd round units trailingZeros Ieee.add Ieee.sub Ieee.mul Ieee.div Ieee.neg Ieee.lt Ieee.sum Ieee.size Ieee.span Ieee.climb
 starred = record {
   list-2 = refl;
   list-01 = refl;
@@ -93,4 +98,6 @@ starred = record {
   rank-halves = refl;
   rank-zeros = refl;
   rank-capped = λ values epsilon. min-zero _;
+  eigen-theta = refl;
+  eigen-tangent = refl;
 }
