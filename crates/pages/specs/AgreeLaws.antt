@@ -6,9 +6,10 @@ use mathlib.Core.List.{List, [], _∷_}
 use Prim.Native.Nat.{ℕ, zero, suc, _+_, _*_, _^_, _≤_, _<_}
 use native.Mathlib.Omega.{arith}
 use native.Mathlib.Numerals.{add-one}
-use borrow.Author.Tests.{eq-eqb, ne-eqb}
+use borrow.Author.Tests.{eq-eqb, ne-eqb, eqb-true}
 use lib.Dec.{T, eqb}
-use lib.Ieee.{Float, nan, inf, fin, binary64, toBits, ne, eq, isNan}
+use lib.Ieee.{Float, nan, inf, fin, binary64, toBits, ne, eq, isNan, fits, ofBits}
+use lib.Ieee.Bits.{ofBits-toBits}
 use lib.Ieee.Compare.{differs-from-itself}
 use lib.ListN.{length, getD, take, drop, drop-of-length-le}
 use lib.Seq.{drop-cons}
@@ -57,6 +58,24 @@ same-self (x ∷ a) = ap (λ (t : Bool). t && sameFloats a a) (eq-eqb (toBits bi
 and-false : (t : Bool) → (t && false) ≡ false
 and-false true = refl
 and-false false = refl
+
+and-both : (t u : Bool) → (t && u) ≡ true → (t ≡ true) × (u ≡ true)
+and-both true u h = (refl, h)
+and-both false u h = absurd (true≢false (sym h))
+
+-- two lists of floats that fit and have the same bits are the same list
+pub same-sound : (a b : List Float) → ((k : ℕ) → k < length a → T (fits binary64 (getD a k nan))) → ((k : ℕ) → k < length b → T (fits binary64 (getD b k nan)))
+    → sameFloats a b ≡ true → a ≡ b
+unfolding sameFloats
+same-sound [] [] f g h = refl
+same-sound [] (y ∷ b) f g h = absurd (true≢false (sym h))
+same-sound (x ∷ a) [] f g h = absurd (true≢false (sym h))
+same-sound (x ∷ a) (y ∷ b) f g h =
+    let p = and-both (eqb (toBits binary64 x) (toBits binary64 y)) (sameFloats a b) h in
+    let e : x ≡ y =
+    sym (ofBits-toBits binary64 x (f 0 (omega arith))) ∙ ap (ofBits binary64) (eqb-true (toBits binary64 x) (toBits binary64 y) (p .0))
+    ∙ ofBits-toBits binary64 y (g 0 (omega arith)) in
+    ap₂ (λ (z : Float) (c : List Float). z ∷ c) e (same-sound a b (λ k q. f (suc k) (omega arith)) (λ k q. g (suc k) (omega arith)) (p .1))
 
 pub same-short : (a b : List Float) → (length a ≡ length b → ⊥) → sameFloats a b ≡ false
 unfolding sameFloats
