@@ -11,7 +11,7 @@ use Rattle.complex.specs.Cells.{cellAt, written}
 
 -- the entry of row t and column u of a matrix whose lower half is known: above the diagonal the lower entry's conjugate
 abbrev pub mirroredEntry : (ℕ → ℕ → Complex) → ℕ → ℕ → Complex
-mirroredEntry lower t u = cond (leb u t) (lower t u) (lower u t)
+mirroredEntry lower t u = cond (leb u t) (lower t u) (conjugate (lower u t))
 
 -- the k-th cell of a matrix, row after row, from its entries
 abbrev pub rowMajor : ℕ → (ℕ → ℕ → Complex) → ℕ → Complex
