@@ -20,7 +20,7 @@ fn sweep(work: &mut [f64], v: &mut [f64], rows: usize, side: usize)
 }
 
 // The order of the norms, and the norms in that order.
-fn sort(norms: &[f64], side: usize, s: &mut [f64], order: &mut [f64])
+pub fn sort(norms: &[f64], side: usize, s: &mut [f64], order: &mut [f64])
     requires { ⌜ (side ≤ 64) × (length (now norms) ≡ side) × (length (now s) ≡ side) × (length (now order) ≡ side) ⌝ }
     ensures { λ _. ⌜ (now (order .exit) ≡ placesOf (orderTo (now (norms .entry)) side))
         × (now (s .exit) ≡ sortedOf (now (norms .entry)) (orderTo (now (norms .entry)) side) side) ⌝ }
@@ -31,7 +31,7 @@ fn sort(norms: &[f64], side: usize, s: &mut [f64], order: &mut [f64])
 
 // The norms of the columns go to `other` for the while, their order to scratch behind the work matrix, and
 // the values to s.
-fn rank(rows: usize, side: usize, s: &mut [f64], other: &mut [f64], scratch: &mut [f64])
+pub fn rank(rows: usize, side: usize, s: &mut [f64], other: &mut [f64], scratch: &mut [f64])
     requires { ⌜ Lent rows side (length (now s)) (length (now other)) (length (now scratch)) ⌝ }
     ensures { λ _. ⌜ Ranked rows side (take (2 * (side * rows)) (now (scratch .entry))) (now (s .exit)) (now (scratch .exit)) ⌝ }
 {
