@@ -22,7 +22,7 @@ pub fn square_refusal(rho: &[f64], dim: usize) -> Answer
     if rho.len() != need {
         return Answer::Length(0);
     }
-    complex::check_components(rho)
+    components::check_components(rho)
 }
 
 // The upper half of a square matrix becomes the conjugate of the lower; the diagonal stays as it is.
@@ -76,7 +76,7 @@ fn density_answer(
     let Answer::Done = second else {
         return second;
     };
-    complex::check_components(state)
+    components::check_components(state)
 }
 
 // The density at the front of out.

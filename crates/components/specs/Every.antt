@@ -1,0 +1,52 @@
+-- Whether each number of a list is an allowed component, and that nothing is refused then. Assumes nothing.
+use mathlib.Core.Path.{_≡_, refl, sym, ap, _∙_}
+use mathlib.Core.Bool.{Bool, true, false, not, _&&_}
+use mathlib.Core.List.{List, [], _∷_}
+use Prim.Native.Nat.{ℕ, suc, _+_, _/_, _≤_, _<_}
+use native.Mathlib.Numerals.{add-one}
+use lib.Ieee.{Float, nan}
+use lib.ListN.{length, getD, drop, drop-of-length-le}
+use lib.Seq.{drop-cons}
+use Rattle.answers.specs.Paper.{done, refuse}
+use Rattle.numbers.specs.Numbers.{allowed}
+use Rattle.complex.specs.Cells.{components}
+
+unfoldable pub everyAllowed : List Float → Bool
+everyAllowed [] = true
+everyAllowed (x ∷ l) = allowed x && everyAllowed l
+
+and-assoc : (a b c : Bool) → (a && (b && c)) ≡ ((a && b) && c)
+and-assoc true b c = refl
+and-assoc false b c = refl
+
+and-true : (a : Bool) → (a && true) ≡ a
+and-true true = refl
+and-true false = refl
+
+-- one more number of the scan: what is left decides with what was seen
+pub every-more : (s : List Float) (i : ℕ) (b : Bool) → i < length s → everyAllowed s ≡ (b && everyAllowed (drop i s))
+    → everyAllowed s ≡ ((b && allowed (getD s i nan)) && everyAllowed (drop (i + 1) s))
+unfolding everyAllowed
+every-more s i b h e =
+    e ∙ ap (λ (l : List Float). b && everyAllowed l) (drop-cons s i nan h) ∙ and-assoc b (allowed (getD s i nan)) (everyAllowed (drop (suc i) s))
+    ∙ ap (λ (x : ℕ). (b && allowed (getD s i nan)) && everyAllowed (drop x s)) (sym (add-one i))
+
+pub every-end : (s : List Float) (i : ℕ) (b : Bool) → length s ≤ i → everyAllowed s ≡ (b && everyAllowed (drop i s)) → b ≡ everyAllowed s
+unfolding everyAllowed
+every-end s i b h e = sym (e ∙ ap (λ (l : List Float). b && everyAllowed l) (drop-of-length-le s h) ∙ and-true b)
+
+left-true : (a b : Bool) → (a && b) ≡ true → a ≡ true
+left-true true b e = refl
+left-true false b e = e
+
+right-true : (a b : Bool) → (a && b) ≡ true → b ≡ true
+right-true true b e = e
+right-true false b e = cc
+
+-- NOTHING IS REFUSED WHERE EVERY NUMBER IS ALLOWED
+pub every-done : (s : List Float) (i : ℕ) → everyAllowed s ≡ true → components i s ≡ done
+unfolding everyAllowed components
+every-done [] i e = refl
+every-done (x ∷ l) i e =
+    ap (λ (b : Bool). refuse (not b) (7, i / 2) (components (suc i) l)) (left-true (allowed x) (everyAllowed l) e)
+    ∙ every-done l (suc i) (right-true (allowed x) (everyAllowed l) e)

@@ -1,0 +1,2 @@
+-- What the contracts of `components` cite.
+pub mod Every
