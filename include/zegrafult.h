@@ -1,4 +1,4 @@
-/* Zegrafult: the certificate's arithmetic, proved. Link libexports.a (built by: rt staticlib exports).
+/* Zegrafult: the certificate's arithmetic, proved. Link libexports.a (built by: tools/library).
  *
  * A slice is passed as a pointer and a length, in numbers (f64 or size_t), not cells. A complex cell is two
  * adjacent doubles, real part first. Lent slices must not overlap. An empty slice may have any pointer.

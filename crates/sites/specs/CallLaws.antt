@@ -14,8 +14,8 @@ use Rattle.answers.specs.PaperLaws.{refuse-done, paper-one, done-old}
 use Rattle.values.specs.Lists.{valuesAllowed}
 use Rattle.complex.specs.declared.Complex.{Complex}
 use Rattle.complex.specs.Cells.{written}
-use Rattle.sites.specs.Sources.{linesFrom}
-use Rattle.sites.specs.Calls.{lineSizes, columnSizes, rowSizes, plainReply, scaledUReply, scaledVtReply, Filled, Sized, Ready}
+use Rattle.fills.specs.Sources.{linesFrom, Ready}
+use Rattle.sites.specs.Calls.{lineSizes, columnSizes, rowSizes, plainReply, scaledUReply, scaledVtReply, Filled, Sized}
 
 -- ---- 1
 

@@ -10,7 +10,7 @@ use Rattle.answers.specs.Paper.{Reply, paper, done, refuse, andThen, ifDone}
 use Rattle.values.specs.Lists.{valuesAllowed}
 use Rattle.complex.specs.declared.Complex.{Complex}
 use Rattle.complex.specs.Cells.{written}
-use Rattle.sites.specs.Sources.{linesFrom}
+use Rattle.fills.specs.Sources.{linesFrom}
 
 -- ---- 1: a size above 4,096, a stride below the `width` cells that are copied of each of chi lines, a site above 4,096 cells
 
@@ -61,12 +61,3 @@ pub record Sized (stride width chi : ℕ) : Type 0 where
   pub chi-small : chi ≤ 4096
   pub inside : width ≤ stride
   pub few : width * chi ≤ 4096
-
--- what the inner loops ask: chi lines of stride cells in `source` numbers, a site of width·chi cells in `room` numbers
-pub record Ready (stride width chi source room : ℕ) : Type 0 where
-  pub stride-small : stride ≤ 4096
-  pub chi-small : chi ≤ 4096
-  pub inside : width ≤ stride
-  pub few : width * chi ≤ 4096
-  pub lines : 2 * (chi * stride) ≤ source
-  pub site : 2 * (width * chi) ≤ room

@@ -1,14 +1,14 @@
--- `sites::copy_line` meets its contract. The loop's invariant: the first t cells of the line are put. Assumes nothing.
+-- `fills::copy_line` meets its contract. The loop's invariant: the first t cells of the line are put. Assumes nothing.
 use mathlib.Core.Path.{_≡_, refl}
 use Prim.Native.Nat.{_-_, _≤_}
 use native.Mathlib.Omega.{arith}
 use lib.ListN.{length}
 use Rattle.complex.specs.Loops.{stop}
-use Rattle.sites.specs.Sources.{putLine, strided}
-use Rattle.sites.specs.SourceLaws.{put-none, put-more, strided-cell}
+use Rattle.fills.specs.Sources.{putLine, strided}
+use Rattle.fills.specs.SourceLaws.{put-none, put-more, strided-cell}
 use borrow.Author.Needs.{needs}
-use Rattle.sites.proofs.copy_line.Statement.{statement}
-use Rattle.sites.proofs.copy_line.Tie as tie
+use Rattle.fills.proofs.copy_line.Statement.{statement}
+use Rattle.fills.proofs.copy_line.Tie as tie
 
 abbrev Inv-loop : tie.InvT-loop
 Inv-loop src from step n out₀ base t₀ out t = (t ≤ n) × (length out ≡ length out₀) × (out ≡ putLine (strided src from step) base out₀ t)

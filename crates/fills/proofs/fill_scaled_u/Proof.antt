@@ -1,14 +1,14 @@
--- `sites::fill_scaled_u` meets its contract. The loop's invariant: the first rows of the site are written. Assumes nothing.
+-- `fills::fill_scaled_u` meets its contract. The loop's invariant: the first rows of the site are written. Assumes nothing.
 use mathlib.Core.Path.{_≡_, refl}
 use Prim.Native.Nat.{_*_, _-_, _≤_}
 use native.Mathlib.Omega.{arith}
 use lib.ListN.{length}
 use Rattle.complex.specs.Cells.{written}
-use Rattle.sites.specs.Sources.{siteCell, scaledUCell}
-use Rattle.sites.specs.SourceLaws.{line-fits, site-none, site-more, site-end, scaled-u-cell}
+use Rattle.fills.specs.Sources.{siteCell, scaledUCell}
+use Rattle.fills.specs.SourceLaws.{line-fits, site-none, site-more, site-end, scaled-u-cell}
 use borrow.Author.Needs.{needs}
-use Rattle.sites.proofs.fill_scaled_u.Statement.{statement}
-use Rattle.sites.proofs.fill_scaled_u.Tie as tie
+use Rattle.fills.proofs.fill_scaled_u.Statement.{statement}
+use Rattle.fills.proofs.fill_scaled_u.Tie as tie
 
 abbrev Inv-loop : tie.InvT-loop
 Inv-loop u s stride width chi out₀ row₀ out row = (row ≤ width) × (length out ≡ length out₀) × (out ≡ written (row * chi) (siteCell chi (scaledUCell u s stride)) out₀)

@@ -1,13 +1,13 @@
--- `sites::product_line` meets its contract. The loop's invariant: the first t cells of the line are put. Assumes nothing.
+-- `fills::product_line` meets its contract. The loop's invariant: the first t cells of the line are put. Assumes nothing.
 use mathlib.Core.Path.{_≡_, refl}
 use Prim.Native.Nat.{_-_, _≤_}
 use lib.ListN.{length}
 use Rattle.complex.specs.Loops.{stop}
-use Rattle.sites.specs.Sources.{putLine, stridedProduct}
-use Rattle.sites.specs.SourceLaws.{put-none, put-more, product-cell}
+use Rattle.fills.specs.Sources.{putLine, stridedProduct}
+use Rattle.fills.specs.SourceLaws.{put-none, put-more, product-cell}
 use borrow.Author.Needs.{needs}
-use Rattle.sites.proofs.product_line.Statement.{statement}
-use Rattle.sites.proofs.product_line.Tie as tie
+use Rattle.fills.proofs.product_line.Statement.{statement}
+use Rattle.fills.proofs.product_line.Tie as tie
 
 abbrev Inv-loop : tie.InvT-loop
 Inv-loop x src from n out₀ base factor t₀ out t = (t ≤ n) × (length out ≡ length out₀) × (out ≡ putLine (stridedProduct x src from) base out₀ t)

@@ -1,8 +1,8 @@
--- `sites::cell_allowed` meets its contract: both components, the real one first. Assumes nothing.
-use Rattle.sites.specs.SourceLaws.{both-allowed, not-allowed}
+-- `fills::cell_allowed` meets its contract: both components, the real one first. Assumes nothing.
+use Rattle.fills.specs.SourceLaws.{both-allowed, not-allowed}
 use borrow.Author.Needs.{needs}
-use Rattle.sites.proofs.cell_allowed.Statement.{statement}
-use Rattle.sites.proofs.cell_allowed.Tie as tie
+use Rattle.fills.proofs.cell_allowed.Statement.{statement}
+use Rattle.fills.proofs.cell_allowed.Tie as tie
 
 component-allowed-requires : tie.Need-component-allowed-requires
 component-allowed-requires c κs = search needs

@@ -1,14 +1,14 @@
--- `sites::fill_isometry` meets its contract. The loop's invariant: the first rows of the site are written. Assumes nothing.
+-- `fills::fill_isometry` meets its contract. The loop's invariant: the first rows of the site are written. Assumes nothing.
 use mathlib.Core.Path.{_≡_, refl}
 use Prim.Native.Nat.{_*_, _-_, _≤_}
 use native.Mathlib.Omega.{arith}
 use lib.ListN.{length}
 use Rattle.complex.specs.Cells.{written}
-use Rattle.sites.specs.Sources.{siteCell, isometryCell}
-use Rattle.sites.specs.SourceLaws.{line-fits, site-none, site-more, site-end, isometry-cell}
+use Rattle.fills.specs.Sources.{siteCell, isometryCell}
+use Rattle.fills.specs.SourceLaws.{line-fits, site-none, site-more, site-end, isometry-cell}
 use borrow.Author.Needs.{needs}
-use Rattle.sites.proofs.fill_isometry.Statement.{statement}
-use Rattle.sites.proofs.fill_isometry.Tie as tie
+use Rattle.fills.proofs.fill_isometry.Statement.{statement}
+use Rattle.fills.proofs.fill_isometry.Tie as tie
 
 abbrev Inv-loop : tie.InvT-loop
 Inv-loop columns stride width chi out₀ row₀ out row = (row ≤ width) × (length out ≡ length out₀) × (out ≡ written (row * chi) (siteCell chi (isometryCell columns stride)) out₀)

@@ -1,12 +1,12 @@
--- `sites::check_cells` meets its contract. The loop's invariant: the answer is that of the cells that are left. Assumes nothing.
+-- `fills::check_cells` meets its contract. The loop's invariant: the answer is that of the cells that are left. Assumes nothing.
 use mathlib.Core.Path.{_≡_}
 use Prim.Native.Nat.{_+_, _-_, _≤_}
 use borrow.Author.Tests.{not-true, not-false}
-use Rattle.sites.specs.Sources.{cellsFrom}
-use Rattle.sites.specs.SourceLaws.{cells-begin, cell-bad, cell-good, cells-end}
+use Rattle.fills.specs.Sources.{cellsFrom}
+use Rattle.fills.specs.SourceLaws.{cells-begin, cell-bad, cell-good, cells-end}
 use borrow.Author.Needs.{needs}
-use Rattle.sites.proofs.check_cells.Statement.{statement}
-use Rattle.sites.proofs.check_cells.Tie as tie
+use Rattle.fills.proofs.check_cells.Statement.{statement}
+use Rattle.fills.proofs.check_cells.Tie as tie
 
 abbrev Inv-loop : tie.InvT-loop
 Inv-loop s from n t₀ t = (t ≤ n) × (cellsFrom s (from + t) (n - t) ≡ cellsFrom s from n)

@@ -1,7 +1,7 @@
 -- A strided source, the cells of it that a fill copies, and the site that they become. Assumes nothing.
 use mathlib.Core.Bool.{Bool, not, _&&_}
 use mathlib.Core.List.{List}
-use Prim.Native.Nat.{ℕ, zero, suc, _+_, _*_, _/_, _%_}
+use Prim.Native.Nat.{ℕ, zero, suc, _+_, _*_, _/_, _%_, _≤_}
 use lib.Ieee.{Float, nan}
 use lib.ListN.{getD}
 use Rattle.answers.specs.Paper.{Reply, done, refuse, andThen}
@@ -74,3 +74,12 @@ vtCell vt rowLength gamma c = lineCell vt rowLength gamma c
 unfoldable pub scaledVtCell : List Float → List Float → ℕ → ℕ → ℕ → Complex
 unfolding lineCell
 scaledVtCell s vt rowLength gamma c = product (complexOf (getD s gamma nan) zeroFloat) (lineCell vt rowLength gamma c)
+
+-- what the inner loops ask: chi lines of stride cells in `source` numbers, a site of width·chi cells in `room` numbers
+pub record Ready (stride width chi source room : ℕ) : Type 0 where
+  pub stride-small : stride ≤ 4096
+  pub chi-small : chi ≤ 4096
+  pub inside : width ≤ stride
+  pub few : width * chi ≤ 4096
+  pub lines : 2 * (chi * stride) ≤ source
+  pub site : 2 * (width * chi) ≤ room

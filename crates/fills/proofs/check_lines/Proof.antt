@@ -1,13 +1,13 @@
--- `sites::check_lines` meets its contract. The loop's invariant: the answer is that of the lines that are left. Assumes nothing.
+-- `fills::check_lines` meets its contract. The loop's invariant: the answer is that of the lines that are left. Assumes nothing.
 use mathlib.Core.Path.{_≡_, sym, _∙_}
 use Prim.Native.Nat.{_-_, _≤_}
 use native.Mathlib.Omega.{arith}
 use Rattle.answers.proofs.Stopped.{refused, passed}
-use Rattle.sites.specs.Sources.{linesFrom}
-use Rattle.sites.specs.SourceLaws.{line-fits, lines-begin, lines-next, lines-end}
+use Rattle.fills.specs.Sources.{linesFrom}
+use Rattle.fills.specs.SourceLaws.{line-fits, lines-begin, lines-next, lines-end}
 use borrow.Author.Needs.{needs}
-use Rattle.sites.proofs.check_lines.Statement.{statement}
-use Rattle.sites.proofs.check_lines.Tie as tie
+use Rattle.fills.proofs.check_lines.Statement.{statement}
+use Rattle.fills.proofs.check_lines.Tie as tie
 
 abbrev Inv-loop : tie.InvT-loop
 Inv-loop s stride width chi i₀ i = (i ≤ chi) × (linesFrom s stride width i (chi - i) ≡ linesFrom s stride width 0 chi)

@@ -15,7 +15,7 @@ use Rattle.complex.specs.Arithmetic.{complexOf, product, scaled}
 use Rattle.complex.specs.Cells.{cellAt, setCell, written}
 use Rattle.complex.specs.CellLaws.{written-none, written-more}
 use Rattle.complex.specs.Zeros.{zeroFloat}
-use Rattle.sites.specs.Sources.{lineCell, strided, stridedScaled, stridedProduct, cellAllowed, cellsFrom, linesFrom, putLine, siteCell, isometryCell, scaledUCell, vtCell, scaledVtCell}
+use Rattle.fills.specs.Sources.{lineCell, strided, stridedScaled, stridedProduct, cellAllowed, cellsFrom, linesFrom, putLine, siteCell, isometryCell, scaledUCell, vtCell, scaledVtCell}
 
 -- line i of n lines of w cells
 pub line-fits : (i n w : ℕ) → i < n → i * w + w ≤ n * w

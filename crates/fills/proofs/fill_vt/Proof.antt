@@ -1,15 +1,15 @@
--- `sites::fill_vt` meets its contract. The loop's invariant: the first rows of the site are written. Assumes nothing.
+-- `fills::fill_vt` meets its contract. The loop's invariant: the first rows of the site are written. Assumes nothing.
 use mathlib.Core.Path.{_≡_, refl}
 use Prim.Native.Nat.{_*_, _-_, _≤_}
 use native.Mathlib.Omega.{arith}
 use lib.ListN.{length}
 use Rattle.complex.specs.Cells.{written}
 use native.Mathlib.Nat.{mul-comm}
-use Rattle.sites.specs.Sources.{siteCell, vtCell}
-use Rattle.sites.specs.SourceLaws.{line-fits, site-none, site-more, site-end-by-rows, vt-cell}
+use Rattle.fills.specs.Sources.{siteCell, vtCell}
+use Rattle.fills.specs.SourceLaws.{line-fits, site-none, site-more, site-end-by-rows, vt-cell}
 use borrow.Author.Needs.{needs}
-use Rattle.sites.proofs.fill_vt.Statement.{statement}
-use Rattle.sites.proofs.fill_vt.Tie as tie
+use Rattle.fills.proofs.fill_vt.Statement.{statement}
+use Rattle.fills.proofs.fill_vt.Tie as tie
 
 abbrev Inv-loop : tie.InvT-loop
 Inv-loop vt stride width chi out₀ gamma₀ out gamma = (gamma ≤ chi) × (length out ≡ length out₀) × (out ≡ written (gamma * width) (siteCell width (vtCell vt stride)) out₀)

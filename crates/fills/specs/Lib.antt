@@ -1,0 +1,3 @@
+-- What the contracts of `fills` cite.
+pub mod Sources
+pub mod SourceLaws
