@@ -82,7 +82,7 @@ fn bounds(rng: &mut Random) -> Bounds {
 
 fn run(seed: u64, count: usize) -> Tally {
     let mut tally = Tally::default();
-    for entry in ENTRIES {
+    for &entry in ENTRIES {
         if !port::has(entry) {
             continue;
         }

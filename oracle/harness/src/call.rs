@@ -1,9 +1,20 @@
 //! A call of an entry point as plain data, and what it leaves behind. Floats are kept as their bits throughout.
 
-/// Which of the entry points, by name.
-#[derive(Clone, Copy, Debug, PartialEq, Eq, Hash, PartialOrd, Ord)]
-#[allow(non_camel_case_types)]
-pub enum Entry {
+/// Names each entry point once: as a case of `Entry`, and in `ENTRIES` in the same order.
+macro_rules! entries {
+    ($($name:ident,)*) => {
+        /// Which of the entry points, by name.
+        #[derive(Clone, Copy, Debug, PartialEq, Eq, Hash, PartialOrd, Ord)]
+        #[allow(non_camel_case_types)]
+        pub enum Entry {
+            $($name,)*
+        }
+
+        pub const ENTRIES: &[Entry] = &[$(Entry::$name,)*];
+    };
+}
+
+entries! {
     validate_qubit_set,
     validate_subsystem,
     row_offsets,
@@ -52,42 +63,6 @@ pub enum Kind {
 
 use Entry::*;
 use Kind::*;
-
-pub const ENTRIES: [Entry; 33] = [
-    validate_qubit_set,
-    validate_subsystem,
-    row_offsets,
-    traced_base,
-    smaller_side,
-    cut_matrix,
-    dense_schmidt_values,
-    dense_reduced_density,
-    mirror_lower_triangle,
-    normalize_trace,
-    multiply_block_factor,
-    svd_jacobi,
-    factorize_gram_schmidt,
-    hermitian_eigenvalues,
-    finish_schmidt_values,
-    schmidt_values_from_density,
-    hermitian_eigen,
-    truncated_svd_rank,
-    discards_resolvable_weight,
-    cut_rank,
-    widest_block_cut,
-    fill_isometry_site_data,
-    fill_scaled_u_site_data,
-    fill_vt_site_data,
-    fill_scaled_vt_data,
-    sqrt,
-    sqrt_bits,
-    magnitude,
-    sign,
-    is_finite,
-    component_allowed,
-    total_less,
-    total_order,
-];
 
 impl Entry {
     pub fn name(self) -> String {
