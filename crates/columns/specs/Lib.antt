@@ -1,4 +1,6 @@
 -- What the contracts of `columns` cite.
 pub mod Dot
+pub mod DotParts
 pub mod Columns
 pub mod ColumnLaws
+pub mod Woven

@@ -1,10 +1,23 @@
 // Columns of complex cells, as modified Gram-Schmidt works on them. Inner: callers keep the lengths.
+// A basis column stands in q as cells; the column v that is worked on is held as planes, all its real
+// parts and then all its imaginary parts, so that two rows at a time are multiplied and added.
 use complex::Complex;
 ghost use mathlib.Core.Path.{_≡_};
 ghost use Prim.Native.Nat.{_+_, _*_, _<_, _≤_};
 ghost use lib.ListN.{length};
-ghost use Rattle.columns.specs.Dot.{noSums, addQuad, addFirst, joined, term, quadsTo, tailTo, dotOf};
-ghost use Rattle.columns.specs.Columns.{columnOf, squaresTo, normOf, lessened, scaledInto};
+ghost use Rattle.numbers.specs.Root.{sqrtOf};
+ghost use Rattle.columns.specs.Dot.{addFirst, joined, term, quadsTo, tailTo, dotOf};
+ghost use Rattle.columns.specs.DotParts.{realParts, imaginaryParts, sumsOf};
+ghost use Rattle.columns.specs.Woven.{woven};
+ghost use Rattle.columns.specs.Columns.{columnOf, normOf, lessened, scaledInto};
+
+// The real parts of the four sums of a dot product, or their imaginary parts.
+pub struct Parts {
+    pub sum0: f64,
+    pub sum1: f64,
+    pub sum2: f64,
+    pub sum3: f64,
+}
 
 // The four sums of a dot product.
 pub struct Sums {
@@ -15,27 +28,14 @@ pub struct Sums {
 }
 
 impl Sums {
-    pub fn zero() -> Sums
-        ensures { λ r. ⌜ r ≡ noSums ⌝ }
-    {
-        let z = Complex { re: 0.0, im: 0.0 };
-        Sums {
-            sum0: z,
-            sum1: z,
-            sum2: z,
-            sum3: z,
-        }
-    }
-
-    // Four terms, one to each sum.
-    pub fn add_quad(self, x: Complex, y: Complex, z: Complex, w: Complex) -> Sums
-        ensures { λ r. ⌜ r ≡ addQuad self x y z w ⌝ }
+    pub fn of_parts(re: Parts, im: Parts) -> Sums
+        ensures { λ r. ⌜ r ≡ sumsOf re im ⌝ }
     {
         Sums {
-            sum0: self.sum0.add(x),
-            sum1: self.sum1.add(y),
-            sum2: self.sum2.add(z),
-            sum3: self.sum3.add(w),
+            sum0: Complex::new(re.sum0, im.sum0),
+            sum1: Complex::new(re.sum1, im.sum1),
+            sum2: Complex::new(re.sum2, im.sum2),
+            sum3: Complex::new(re.sum3, im.sum3),
         }
     }
 
@@ -62,97 +62,136 @@ impl Sums {
 }
 
 // Row t of the column of q that starts at cell o, conjugated, times row t of v.
-pub fn dot_term(q: &[f64], o: usize, v: &[f64], t: usize) -> Complex
-    requires { ⌜ (2 * (o + t) + 1 < length (now q)) × (2 * t + 1 < length (now v)) ⌝ }
-    ensures { λ x. ⌜ x ≡ term (now (q .entry)) o (now (v .entry)) t ⌝ }
+pub fn dot_term(q: &[f64], o: usize, v: &[f64], rows: usize, t: usize) -> Complex
+    requires { ⌜ (2 * (o + t) + 1 < length (now q)) × (t < rows) × (length (now v) ≡ 2 * rows) ⌝ }
+    ensures { λ x. ⌜ x ≡ term (now (q .entry)) o (woven rows (now (v .entry))) t ⌝ }
 {
     complex::read_cell(q, o + t)
         .conj()
-        .mul(complex::read_cell(v, t))
+        .mul(complex::read_plane(v, rows, t))
 }
 
-// The first n quads of rows.
-pub fn dot_quads(q: &[f64], o: usize, v: &[f64], n: usize) -> Sums
-    requires { ⌜ (2 * (o + 4 * n) ≤ length (now q)) × (2 * (4 * n) ≤ length (now v)) ⌝ }
-    ensures { λ r. ⌜ r ≡ quadsTo (now (q .entry)) o (now (v .entry)) n ⌝ }
+// The real parts of the first n quads of rows. They and the imaginary parts have a loop each: in one
+// loop the sums are not kept two to a register.
+pub fn real_quads(q: &[f64], o: usize, v: &[f64], rows: usize, n: usize) -> Parts
+    requires { ⌜ (2 * (o + 4 * n) ≤ length (now q)) × (4 * n ≤ rows) × (length (now v) ≡ 2 * rows) ⌝ }
+    ensures { λ r. ⌜ r ≡ realParts (quadsTo (now (q .entry)) o (woven rows (now (v .entry))) n) ⌝ }
 {
-    let mut sums = Sums::zero();
+    let mut sums = Parts {
+        sum0: 0.0,
+        sum1: 0.0,
+        sum2: 0.0,
+        sum3: 0.0,
+    };
     for k in 0..n {
         let t = 4 * k;
-        sums = sums.add_quad(
-            dot_term(q, o, v, t),
-            dot_term(q, o, v, t + 1),
-            dot_term(q, o, v, t + 2),
-            dot_term(q, o, v, t + 3),
-        );
+        sums = Parts {
+            sum0: sums.sum0 + dot_term(q, o, v, rows, t).re,
+            sum1: sums.sum1 + dot_term(q, o, v, rows, t + 1).re,
+            sum2: sums.sum2 + dot_term(q, o, v, rows, t + 2).re,
+            sum3: sums.sum3 + dot_term(q, o, v, rows, t + 3).re,
+        };
+    }
+    sums
+}
+
+// The imaginary parts of the first n quads of rows.
+pub fn imaginary_quads(q: &[f64], o: usize, v: &[f64], rows: usize, n: usize) -> Parts
+    requires { ⌜ (2 * (o + 4 * n) ≤ length (now q)) × (4 * n ≤ rows) × (length (now v) ≡ 2 * rows) ⌝ }
+    ensures { λ r. ⌜ r ≡ imaginaryParts (quadsTo (now (q .entry)) o (woven rows (now (v .entry))) n) ⌝ }
+{
+    let mut sums = Parts {
+        sum0: 0.0,
+        sum1: 0.0,
+        sum2: 0.0,
+        sum3: 0.0,
+    };
+    for k in 0..n {
+        let t = 4 * k;
+        sums = Parts {
+            sum0: sums.sum0 + dot_term(q, o, v, rows, t).im,
+            sum1: sums.sum1 + dot_term(q, o, v, rows, t + 1).im,
+            sum2: sums.sum2 + dot_term(q, o, v, rows, t + 2).im,
+            sum3: sums.sum3 + dot_term(q, o, v, rows, t + 3).im,
+        };
     }
     sums
 }
 
 // The n rows from row s on, past the last whole quad.
-pub fn dot_tail(q: &[f64], o: usize, v: &[f64], s: usize, sums: Sums, n: usize) -> Sums
-    requires { ⌜ (2 * (o + (s + n)) ≤ length (now q)) × (2 * (s + n) ≤ length (now v)) ⌝ }
-    ensures { λ r. ⌜ r ≡ tailTo (now (q .entry)) o (now (v .entry)) s sums n ⌝ }
+pub fn dot_tail(q: &[f64], o: usize, v: &[f64], rows: usize, s: usize, sums: Sums, n: usize) -> Sums
+    requires { ⌜ (2 * (o + (s + n)) ≤ length (now q)) × (s + n ≤ rows) × (length (now v) ≡ 2 * rows) ⌝ }
+    ensures { λ r. ⌜ r ≡ tailTo (now (q .entry)) o (woven rows (now (v .entry))) s sums n ⌝ }
 {
     let mut all = sums;
     for k in 0..n {
-        all = all.add_first(dot_term(q, o, v, s + k));
+        all = all.add_first(dot_term(q, o, v, rows, s + k));
     }
     all
 }
 
 // The dot product of the column of q that starts at cell o with v.
 pub fn dot(q: &[f64], o: usize, v: &[f64], rows: usize) -> Complex
-    requires { ⌜ (2 * (o + rows) ≤ length (now q)) × (2 * rows ≤ length (now v)) ⌝ }
-    ensures { λ r. ⌜ r ≡ dotOf (now (q .entry)) o (now (v .entry)) rows ⌝ }
+    requires { ⌜ (2 * (o + rows) ≤ length (now q)) × (length (now v) ≡ 2 * rows) ⌝ }
+    ensures { λ r. ⌜ r ≡ dotOf (now (q .entry)) o (woven rows (now (v .entry))) rows ⌝ }
 {
     let n = rows / 4;
     let done = 4 * n;
-    let whole = dot_quads(q, o, v, n);
-    let all = dot_tail(q, o, v, done, whole, rows - done);
+    let re = real_quads(q, o, v, rows, n);
+    let im = imaginary_quads(q, o, v, rows, n);
+    let whole = Sums::of_parts(re, im);
+    let all = dot_tail(q, o, v, rows, done, whole, rows - done);
     all.joined()
+}
+
+// The root of x: a guess that is tested, or the root worked out.
+fn root(x: f64) -> f64
+    ensures { λ r. ⌜ r ≡ sqrtOf x ⌝ }
+{
+    let y = roots::reciprocal_near(x);
+    roots::root_near(x, roots::sharpened(x, x * y, y))
 }
 
 // The root of the sum of the squared moduli of v's rows.
 pub fn norm(v: &[f64], rows: usize) -> f64
-    requires { ⌜ 2 * rows ≤ length (now v) ⌝ }
-    ensures { λ r. ⌜ r ≡ normOf (now (v .entry)) rows ⌝ }
+    requires { ⌜ length (now v) ≡ 2 * rows ⌝ }
+    ensures { λ r. ⌜ r ≡ normOf (woven rows (now (v .entry))) rows ⌝ }
 {
     let mut total = 0.0;
     for t in 0..rows {
-        total = total + complex::read_cell(v, t).norm_sqr();
+        total = total + complex::read_plane(v, rows, t).norm_sqr();
     }
-    numbers::sqrt(total)
+    root(total)
 }
 
 // v becomes the column of a that starts at cell o.
 pub fn load(a: &[f64], o: usize, rows: usize, v: &mut [f64])
     requires { ⌜ (2 * (o + rows) ≤ length (now a)) × (length (now v) ≡ 2 * rows) ⌝ }
-    ensures { λ _. ⌜ now (v .exit) ≡ columnOf (now (a .entry)) o rows ⌝ }
+    ensures { λ _. ⌜ woven rows (now (v .exit)) ≡ columnOf (now (a .entry)) o rows ⌝ }
 {
     for t in 0..rows {
-        complex::write_cell(v, t, complex::read_cell(a, o + t));
+        complex::write_plane(v, rows, t, complex::read_cell(a, o + t));
     }
 }
 
 // v loses d times the column of q that starts at cell o.
 pub fn subtract(v: &mut [f64], q: &[f64], o: usize, rows: usize, d: Complex)
     requires { ⌜ (2 * (o + rows) ≤ length (now q)) × (length (now v) ≡ 2 * rows) ⌝ }
-    ensures { λ _. ⌜ now (v .exit) ≡ lessened (now (v .entry)) (now (q .entry)) o rows d ⌝ }
+    ensures { λ _. ⌜ woven rows (now (v .exit)) ≡ lessened (woven rows (now (v .entry))) (now (q .entry)) o rows d ⌝ }
 {
     for t in 0..rows {
-        let x = complex::read_cell(v, t);
+        let x = complex::read_plane(v, rows, t);
         let part = d.mul(complex::read_cell(q, o + t));
-        complex::write_cell(v, t, x.sub(part));
+        complex::write_plane(v, rows, t, x.sub(part));
     }
 }
 
 // The column of q that starts at cell o becomes v times the real number k.
 pub fn store_scaled(v: &[f64], k: f64, rows: usize, q: &mut [f64], o: usize)
-    requires { ⌜ (2 * (o + rows) ≤ length (now q)) × (2 * rows ≤ length (now v)) ⌝ }
-    ensures { λ _. ⌜ now (q .exit) ≡ scaledInto (now (v .entry)) k (now (q .entry)) o rows ⌝ }
+    requires { ⌜ (2 * (o + rows) ≤ length (now q)) × (length (now v) ≡ 2 * rows) ⌝ }
+    ensures { λ _. ⌜ now (q .exit) ≡ scaledInto (woven rows (now (v .entry))) k (now (q .entry)) o rows ⌝ }
 {
     for t in 0..rows {
-        complex::write_cell(q, o + t, complex::read_cell(v, t).scale(k));
+        complex::write_cell(q, o + t, complex::read_plane(v, rows, t).scale(k));
     }
 }

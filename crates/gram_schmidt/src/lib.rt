@@ -1,4 +1,5 @@
 // Modified Gram-Schmidt, as `factorize_gram_schmidt` of src/backend/mps/svd.rs has it. Inner: callers keep the lengths.
+// The column v that is worked on is held as planes (crate columns).
 use complex::Complex;
 ghost use mathlib.Core.Path.{_≡_};
 ghost use Prim.Native.Nat.{_+_, _*_, _<_, _≤_, min, max};
@@ -6,6 +7,7 @@ ghost use lib.ListN.{length};
 ghost use Rattle.complex.specs.Arithmetic.{complexOf};
 ghost use Rattle.complex.specs.Cells.{setCell};
 ghost use Rattle.complex.specs.Zeros.{zeroFloat};
+ghost use Rattle.columns.specs.Woven.{woven};
 ghost use Rattle.gram_schmidt.specs.Room.{Room};
 ghost use Rattle.gram_schmidt.specs.GramSchmidt.{held, projected, passTo, passed, passes, newBasis, factors, Worked, judged, addColumn, columnsTo, basisFor, factorsOf};
 
@@ -19,7 +21,7 @@ const RANK_FLOOR: f64 = 1e-14;
 // v loses its part along the basis column of q that starts at cell o, and cell at of r gains it.
 fn project(q: &[f64], o: usize, rows: usize, v: &mut [f64], r: &mut [f64], at: usize)
     requires { ⌜ (2 * (o + rows) ≤ length (now q)) × (length (now v) ≡ 2 * rows) × (2 * at + 1 < length (now r)) ⌝ }
-    ensures { λ _. ⌜ held (now (v .exit)) (now (r .exit)) ≡ projected (now (q .entry)) o rows at (held (now (v .entry)) (now (r .entry))) ⌝ }
+    ensures { λ _. ⌜ held (woven rows (now (v .exit))) (now (r .exit)) ≡ projected (now (q .entry)) o rows at (held (woven rows (now (v .entry))) (now (r .entry))) ⌝ }
 {
     let d = columns::dot(q, o, v, rows);
     columns::subtract(v, q, o, rows, d);
@@ -30,7 +32,7 @@ fn project(q: &[f64], o: usize, rows: usize, v: &mut [f64], r: &mut [f64], at: u
 // One pass of column j over the first rank basis columns.
 fn pass(q: &[f64], rank: usize, rows: usize, cols: usize, j: usize, v: &mut [f64], r: &mut [f64])
     requires { ⌜ (2 * (rank * rows) ≤ length (now q)) × (2 * (rank * cols) ≤ length (now r)) × (length (now v) ≡ 2 * rows) × (j < cols) ⌝ }
-    ensures { λ _. ⌜ held (now (v .exit)) (now (r .exit)) ≡ passTo (now (q .entry)) rows cols j (held (now (v .entry)) (now (r .entry))) rank ⌝ }
+    ensures { λ _. ⌜ held (woven rows (now (v .exit))) (now (r .exit)) ≡ passTo (now (q .entry)) rows cols j (held (woven rows (now (v .entry))) (now (r .entry))) rank ⌝ }
 {
     for i in 0..rank {
         project(q, i * rows, rows, v, r, i * cols + j);
@@ -49,8 +51,8 @@ fn orthogonalize(
     r: &mut [f64],
 ) -> f64
     requires { ⌜ (2 * (rank * rows) ≤ length (now q)) × (2 * (rank * cols) ≤ length (now r)) × (length (now v) ≡ 2 * rows) × (j < cols) ⌝ }
-    ensures { λ x. ⌜ passed (held (now (v .exit)) (now (r .exit))) x
-        ≡ passes (now (q .entry)) rank rows cols j 3 norm (held (now (v .entry)) (now (r .entry))) ⌝ }
+    ensures { λ x. ⌜ passed (held (woven rows (now (v .exit))) (now (r .exit))) x
+        ≡ passes (now (q .entry)) rank rows cols j 3 norm (held (woven rows (now (v .entry))) (now (r .entry))) ⌝ }
 {
     let mut previous = norm;
     for k in 0..MAX_PASSES {
@@ -66,8 +68,8 @@ fn orthogonalize(
 
 // v times 1 / residual becomes the basis column that starts at cell o, and the residual goes to cell at of r.
 fn keep(v: &[f64], residual: f64, rows: usize, q: &mut [f64], o: usize, r: &mut [f64], at: usize)
-    requires { ⌜ (2 * rows ≤ length (now v)) × (2 * (o + rows) ≤ length (now q)) × (2 * at + 1 < length (now r)) ⌝ }
-    ensures basis { λ _. ⌜ now (q .exit) ≡ newBasis (now (v .entry)) residual rows o (now (q .entry)) ⌝ }
+    requires { ⌜ (length (now v) ≡ 2 * rows) × (2 * (o + rows) ≤ length (now q)) × (2 * at + 1 < length (now r)) ⌝ }
+    ensures basis { λ _. ⌜ now (q .exit) ≡ newBasis (woven rows (now (v .entry))) residual rows o (now (q .entry)) ⌝ }
     ensures entry { λ _. ⌜ now (r .exit) ≡ setCell (now (r .entry)) at (complexOf residual zeroFloat) ⌝ }
 {
     let inverse = 1.0 / residual;
@@ -98,7 +100,7 @@ fn work_column(
 ) -> Norms
     requires { ⌜ (2 * (j * rows + rows) ≤ length (now a)) × (2 * (rank * rows) ≤ length (now q)) × (2 * (rank * cols) ≤ length (now r))
         × (length (now v) ≡ 2 * rows) × (j < cols) ⌝ }
-    ensures { λ n. ⌜ Worked (now (a .entry)) rows cols j (now (q .entry)) (now (r .entry)) rank (n .whole) (n .residual) (now (v .exit)) (now (r .exit)) ⌝ }
+    ensures { λ n. ⌜ Worked (now (a .entry)) rows cols j (now (q .entry)) (now (r .entry)) rank (n .whole) (n .residual) (woven rows (now (v .exit))) (now (r .exit)) ⌝ }
 {
     columns::load(a, j * rows, rows, v);
     let whole = columns::norm(v, rows);
@@ -118,9 +120,9 @@ fn judge(
     q: &mut [f64],
     r: &mut [f64],
 ) -> usize
-    requires { ⌜ (2 * rows ≤ length (now v)) × (length (now q) ≡ 2 * (cap * rows)) × (length (now r) ≡ 2 * (cap * cols)) × (j < cols) × (rank ≤ cap) ⌝ }
+    requires { ⌜ (length (now v) ≡ 2 * rows) × (length (now q) ≡ 2 * (cap * rows)) × (length (now r) ≡ 2 * (cap * cols)) × (j < cols) × (rank ≤ cap) ⌝ }
     ensures is { λ k. ⌜ factors (now (q .exit)) (now (r .exit)) k
-        ≡ judged rows cols cap j (norms .whole) (now (q .entry)) rank (passed (held (now (v .entry)) (now (r .entry))) (norms .residual)) ⌝ }
+        ≡ judged rows cols cap j (norms .whole) (now (q .entry)) rank (passed (held (woven rows (now (v .entry))) (now (r .entry))) (norms .residual)) ⌝ }
     ensures within { λ k. ⌜ k ≤ cap ⌝ }
 {
     if cap <= rank {

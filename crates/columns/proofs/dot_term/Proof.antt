@@ -1,35 +1,27 @@
 -- `columns::dot_term` meets its contract: the product of what the callees read. Assumes nothing.
-use Rattle.columns.specs.Dot.{term}
+use native.Mathlib.Omega.{arith}
+use Rattle.columns.specs.Woven.{term-woven}
 use borrow.Author.Needs.{needs}
 use Rattle.columns.proofs.dot_term.Statement.{statement}
 use Rattle.columns.proofs.dot_term.Tie as tie
 
 add-read-cell : tie.Need-add-read-cell
-add-read-cell c = search needs
+add-read-cell c = omega arith
 
 read-cell-requires : tie.Need-read-cell-requires
-read-cell-requires c κs = search needs
+read-cell-requires c κs = omega arith
 
 conj-requires : tie.Need-conj-requires
 conj-requires c κs = search needs
 
-read-cell-requires-2 : tie.Need-read-cell-requires-2
-read-cell-requires-2 c κs = search needs
+read-plane-requires : tie.Need-read-plane-requires
+read-plane-requires c κs = omega (arith, c .before .before .before .before .pre)
 
 mul-requires : tie.Need-mul-requires
 mul-requires c κs = search needs
 
 returns : tie.Need-returns
-unfolding term
-returns c = cc
+returns c = term-woven _ _ _ _ _ (c .before .before .before .before .before .before .pre .1) (c .before .before .before .read-cell .ensures) (c .before .before .conj .ensures) (c .before .read-plane .ensures) (c .mul .ensures)
 
 pub dot-term-spec : {M : Type 1} → statement M
-dot-term-spec =
-    tie.close
-    (tie.spec
-    add-read-cell
-    read-cell-requires
-    conj-requires
-    read-cell-requires-2
-    mul-requires
-    returns)
+dot-term-spec = tie.close (tie.spec add-read-cell read-cell-requires conj-requires read-plane-requires mul-requires returns)

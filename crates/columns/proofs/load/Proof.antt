@@ -1,8 +1,9 @@
 -- `columns::load` meets its contract. The loop's invariant: the first t cells of v are written. Assumes nothing.
 use Prim.Native.Nat.{_-_}
+use native.Mathlib.Omega.{arith}
 use Rattle.columns.specs.Columns.{cellFrom}
-use Rattle.columns.specs.ColumnLaws.{Filled, fill-begin, fill-turn, column-cell, column-end}
-use borrow.Author.Needs.{needs}
+use Rattle.columns.specs.ColumnLaws.{column-cell}
+use Rattle.columns.specs.Woven.{Filled, fill-begin, fill-turn, column-end}
 use Rattle.columns.proofs.load.Statement.{statement}
 use Rattle.columns.proofs.load.Tie as tie
 
@@ -16,41 +17,28 @@ loop-holds : tie.Need-loop-holds Inv-loop μ-loop
 loop-holds c = fill-begin _ _ _
 
 add-read-cell : tie.Need-add-read-cell Inv-loop μ-loop
-add-read-cell c = search needs
+add-read-cell c = omega (arith, c .before .loop-test .taken, c .before .before .before .before .before .pre)
 
 read-cell-requires : tie.Need-read-cell-requires Inv-loop μ-loop
-read-cell-requires c κs = search needs
+read-cell-requires c κs = omega (arith, c .before .loop-test .taken, c .before .before .before .before .before .pre)
 
-write-cell-requires : tie.Need-write-cell-requires Inv-loop μ-loop
-write-cell-requires c κs = search needs
+write-plane-requires : tie.Need-write-plane-requires Inv-loop μ-loop
+write-plane-requires c κs = omega (arith, c .before .before .loop-test .taken, c .before .before .before .loop .inv .size, c .before .before .before .before .before .before .pre)
 
 add-t : tie.Need-add-t Inv-loop μ-loop
-add-t c = search needs
+add-t c = omega (arith, c .before .before .before .before .before .loop-test .taken)
 
 loop-less : tie.Need-loop-less Inv-loop μ-loop
-loop-less c = search needs
+loop-less c = omega (arith, c .before .before .before .before .before .loop-test .taken)
 
 loop-again : tie.Need-loop-again Inv-loop μ-loop
-loop-again c = fill-turn _ _ _ _ (c .before .before .before .before .before .before .loop .inv) (c .before .before .before .before .before .before .before .before .before .pre .1) (c .before .before .before .before .before .loop-test .taken) (column-cell _ _ _ (c .before .before .before .read-cell .ensures)) (c .before .before .write-cell .ensures)
+loop-again c = fill-turn _ _ _ _ (c .before .before .before .before .before .before .loop .inv) (c .before .before .before .before .before .before .before .before .before .pre .1) (c .before .before .before .before .before .loop-test .taken) (column-cell _ _ _ (c .before .before .before .read-cell .ensures)) (c .before .before .write-plane .ensures)
 
 same-length : tie.Need-same-length Inv-loop μ-loop
 same-length c = c .before .loop .inv .size
 
 returns : tie.Need-returns Inv-loop μ-loop
-returns c = column-end _ _ _ _ _ (c .before .loop .inv) (c .before .before .before .before .pre .1) (c .loop-test .left)
+returns c = column-end _ _ _ _ _ (c .before .loop .inv) (c .loop-test .left)
 
 pub load-spec : {M : Type 1} → statement M
-load-spec =
-    tie.close
-    (tie.spec
-    Inv-loop
-    μ-loop
-    loop-holds
-    add-read-cell
-    read-cell-requires
-    write-cell-requires
-    add-t
-    loop-less
-    loop-again
-    same-length
-    returns)
+load-spec = tie.close (tie.spec Inv-loop μ-loop loop-holds add-read-cell read-cell-requires write-plane-requires add-t loop-less loop-again same-length returns)

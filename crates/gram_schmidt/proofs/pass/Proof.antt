@@ -4,6 +4,7 @@ use Prim.Native.Nat.{_-_, _≤_}
 use lib.ListN.{length}
 use native.Mathlib.Omega.{arith}
 use Rattle.complex.specs.Loops.{stop}
+use Rattle.columns.specs.Woven.{woven}
 use Rattle.gram_schmidt.specs.GramSchmidt.{held, passTo}
 use Rattle.gram_schmidt.specs.GramSchmidtLaws.{pass-none, pass-more}
 use Rattle.gram_schmidt.specs.Room.{line-fits}
@@ -12,7 +13,7 @@ use Rattle.gram_schmidt.proofs.pass.Statement.{statement}
 use Rattle.gram_schmidt.proofs.pass.Tie as tie
 
 abbrev Inv-loop : tie.InvT-loop
-Inv-loop q rank rows cols j v₀ r₀ i₀ v r i = (i ≤ rank) × (length v ≡ length v₀) × (length r ≡ length r₀) × (held v r ≡ passTo q rows cols j (held v₀ r₀) i)
+Inv-loop q rank rows cols j v₀ r₀ i₀ v r i = (i ≤ rank) × (length v ≡ length v₀) × (length r ≡ length r₀) × (held (woven rows v) r ≡ passTo q rows cols j (held (woven rows v₀) r₀) i)
 
 abbrev μ-loop : tie.MeasureT-loop
 μ-loop q rank rows cols j v₀ r₀ i₀ v r i = rank - i
