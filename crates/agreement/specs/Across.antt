@@ -5,7 +5,8 @@ use lib.Ieee.{Float, binary64, add, sub, mul, neg, ofBits}
 use Rattle.complex.specs.declared.Complex.{Complex}
 use Rattle.complex.specs.Arithmetic.{sum, product, conjugate}
 use Rattle.entries.specs.Entries.{total}
-use Rattle.agreement.specs.Signs.{Alike, zeros, step, then, trans, neg-neg, mul-neg, mul-swap, add-swap, add-neg, alike-add}
+use Rattle.signs.specs.Signs.{neg-neg, mul-neg, mul-swap, add-swap}
+use Rattle.agreement.specs.Signs.{Alike, zeros, step, then, trans, add-neg, alike-add}
 
 -- the entry of rows t and u, from the amplitudes a t e
 abbrev pub entryOf : ℕ → (ℕ → ℕ → Complex) → ℕ → ℕ → Complex

@@ -10,7 +10,7 @@ use lib.Ieee.{Float, nan, inf, fin, Format, binary64, round, units, odd, add, su
 use Rattle.complex.specs.declared.Complex.{Complex}
 use Rattle.complex.specs.Arithmetic.{complexOf, product, conjugate}
 
-neg-neg : (x : Float) → neg (neg x) ≡ x
+pub neg-neg : (x : Float) → neg (neg x) ≡ x
 unfolding neg
 neg-neg nan = refl
 neg-neg (inf true) = refl
@@ -45,13 +45,13 @@ units-neg f s q k =
     let b = ltb (q * 2 ^ k) (2 ^ (low f + suc (emax f))) in
     ap (λ (x : Float). cond b x (inf (not s))) (odd-neg (suc (prec f)) s q k (low f)) ∙ neg-cond b (odd (suc (prec f)) s q k (low f)) (inf s)
 
-round-neg : (f : Format) (s : Bool) (a b : ℕ) → round f (not s) a b ≡ neg (round f s a b)
+pub round-neg : (f : Format) (s : Bool) (a b : ℕ) → round f (not s) a b ≡ neg (round f s a b)
 unfolding round
 round-neg f s a b = units-neg f s _ _
 
 -- ---- products
 
-mul-neg : (x y : Float) → mul binary64 x (neg y) ≡ neg (mul binary64 x y)
+pub mul-neg : (x y : Float) → mul binary64 x (neg y) ≡ neg (mul binary64 x y)
 unfolding mul neg
 mul-neg nan y = refl
 mul-neg (inf s) nan = refl
@@ -61,7 +61,7 @@ mul-neg (fin s m e) nan = refl
 mul-neg (fin s m e) (inf t) = ap (λ (b : Bool). cond (eqb m 0) nan (inf b)) (unlike-not s t) ∙ neg-cond (eqb m 0) nan (inf (unlike s t))
 mul-neg (fin s m e) (fin t n d) = rw unlike-not (round-neg binary64 (unlike s t) (m * up e * (n * up d)) (down e * down d))
 
-mul-swap : (x y : Float) → mul binary64 x y ≡ mul binary64 y x
+pub mul-swap : (x y : Float) → mul binary64 x y ≡ mul binary64 y x
 unfolding mul
 mul-swap nan nan = refl
 mul-swap nan (inf t) = refl
@@ -107,7 +107,7 @@ apart-swap s t a b c =
           ] refl
     ] refl
 
-add-swap : (x y : Float) → add binary64 x y ≡ add binary64 y x
+pub add-swap : (x y : Float) → add binary64 x y ≡ add binary64 y x
 unfolding add sum
 add-swap nan nan = refl
 add-swap nan (inf t) = refl
