@@ -1,0 +1,3 @@
+-- What the downward sort is.
+pub mod Total
+pub mod Sorted
