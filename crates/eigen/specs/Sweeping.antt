@@ -89,20 +89,20 @@ pub largest-none : (xs : List Float) (n : ℕ) → zeroFloat ≡ largestTo xs n 
 unfolding largestTo
 largest-none xs n = refl
 
-pub largest-more : (xs : List Float) (n k : ℕ) {m : Float} → m ≡ largestTo xs n k → lt m (diagonal xs n k) ≡ true → diagonal xs n k ≡ largestTo xs n (k + 1)
+pub largest-more : (xs : List Float) (n k : ℕ) {m x : Float} → m ≡ largestTo xs n k → x ≡ diagonal xs n k → lt m x ≡ true → x ≡ largestTo xs n (k + 1)
 unfolding largestTo
-largest-more xs n k e t = rw (add-one, ← e, t)
+largest-more xs n k e f t = rw (add-one, ← e, ← f, t)
 
-pub largest-same : (xs : List Float) (n k : ℕ) {m : Float} → m ≡ largestTo xs n k → lt m (diagonal xs n k) ≡ false → m ≡ largestTo xs n (k + 1)
+pub largest-same : (xs : List Float) (n k : ℕ) {m x : Float} → m ≡ largestTo xs n k → x ≡ diagonal xs n k → lt m x ≡ false → m ≡ largestTo xs n (k + 1)
 unfolding largestTo
-largest-same xs n k {m} e t = rw (add-one, ← e, t)
+largest-same xs n k {m} e f t = rw (add-one, ← e, ← f, t)
 
-pub pair-made : (n : ℕ) (largest : Float) (p q : ℕ) (s : State) (d : Decision) (z : Complex) (work : List Float) (t : Sweeps)
-    → z ≡ planeAt (s .work) (n * n) (p * n + q) → d ≡ decisionOf z (diagonal (s .work) n p) (diagonal (s .work) n q) largest
+pub pair-made : (n : ℕ) (largest : Float) (p q : ℕ) (s : State) (d : Decision) (z : Complex) (x y : Float) (work : List Float) (t : Sweeps)
+    → z ≡ planeAt (s .work) (n * n) (p * n + q) → x ≡ diagonal (s .work) n p → y ≡ diagonal (s .work) n q → d ≡ decisionOf z x y largest
     → work ≡ applied d n p q (s .work) → t ≡ counted d (s .sweeps)
     → state work t ≡ pairStep n largest p q s
 unfolding pairStep pairBy pairDecision
-pair-made n largest p q s d z work t y e f g = rw (← y, ← e, f, g)
+pair-made n largest p q s d z x y work t ez ex ey e f g = rw (← ez, ← ex, ← ey, ← e, f, g)
 
 -- no pair yet, and one more
 pub pairs-none : (n : ℕ) (largest : Float) (p : ℕ) (s : State) → s ≡ pairsTo n largest p (p + 1 - (p + 1)) s

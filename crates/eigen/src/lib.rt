@@ -1,10 +1,12 @@
-// Inner: the cyclic Jacobi sweeps of the eigenvalues, over a square matrix of n rows that is lent as planes, row-major.
+// Inner: the cyclic Jacobi sweeps of the eigenvalues, over a square matrix of n rows that is lent as cells, row-major. The
+// definitions speak of its planes.
 use jacobi::Sweeps;
 use pairs::Decision;
 ghost use mathlib.Core.Path.{_≡_};
 ghost use Prim.Native.Nat.{_+_, _-_, _*_, _<_, _≤_};
 ghost use lib.ListN.{length};
 ghost use Rattle.jacobi.specs.Sweeping.{counted};
+ghost use Rattle.eigenpair.specs.CellPlanes.{asPlanes};
 ghost use Rattle.eigen.specs.Sweeping.{Square, state, largestTo, pairStep, pairsTo, sweepOf, settled};
 
 const MAX_EIGEN_SWEEPS: usize = 60;
@@ -12,11 +14,11 @@ const MAX_EIGEN_SWEEPS: usize = 60;
 // The largest diagonal entry, at least +0.0; a NaN is passed over.
 fn largest_diagonal(xs: &[f64], n: usize) -> f64
     requires { ⌜ Square n (length (now xs)) ⌝ }
-    ensures { λ r. ⌜ r ≡ largestTo (now (xs .entry)) n n ⌝ }
+    ensures { λ r. ⌜ r ≡ largestTo (asPlanes (n * n) (now (xs .entry))) n n ⌝ }
 {
     let mut largest = 0.0;
     for i in 0..n {
-        let at = i * n + i;
+        let at = 2 * (i * n + i);
         let x = xs[at];
         if x > largest {
             largest = x;
@@ -47,12 +49,12 @@ fn count(d: Decision, s: Sweeps) -> Sweeps
 // The pair p, q, where the sweep began with this largest diagonal entry.
 fn pair(xs: &mut [f64], n: usize, largest: f64, p: usize, q: usize, s: Sweeps) -> Sweeps
     requires { ⌜ Square n (length (now xs)) × (p < n) × (q < n) × (s .turned < 1000000) ⌝ }
-    ensures done { λ r. ⌜ state (now (xs .exit)) r ≡ pairStep n largest p q (state (now (xs .entry)) s) ⌝ }
+    ensures done { λ r. ⌜ state (asPlanes (n * n) (now (xs .exit))) r ≡ pairStep n largest p q (state (asPlanes (n * n) (now (xs .entry))) s) ⌝ }
     ensures few { λ r. ⌜ (r .turned ≤ s .turned + 1) × (r .begun ≡ s .begun) ⌝ }
 {
-    let at_p = p * n + p;
-    let at_q = q * n + q;
-    let apq = complex::read_plane(xs, n * n, p * n + q);
+    let at_p = 2 * (p * n + p);
+    let at_q = 2 * (q * n + q);
+    let apq = complex::read_cell(xs, p * n + q);
     let d = eigenpair::decide(apq, xs[at_p], xs[at_q], largest);
     eigenpair::apply(xs, n, p, q, d);
     count(d, s)
@@ -61,7 +63,7 @@ fn pair(xs: &mut [f64], n: usize, largest: f64, p: usize, q: usize, s: Sweeps) -
 // The pairs of p with each later q.
 fn row(xs: &mut [f64], n: usize, largest: f64, p: usize, s: Sweeps) -> Sweeps
     requires { ⌜ Square n (length (now xs)) × (p < n) × (s .turned < 900000) ⌝ }
-    ensures done { λ r. ⌜ state (now (xs .exit)) r ≡ pairsTo n largest p (n - (p + 1)) (state (now (xs .entry)) s) ⌝ }
+    ensures done { λ r. ⌜ state (asPlanes (n * n) (now (xs .exit))) r ≡ pairsTo n largest p (n - (p + 1)) (state (asPlanes (n * n) (now (xs .entry))) s) ⌝ }
     ensures few { λ r. ⌜ (r .turned ≤ s .turned + 64) × (r .begun ≡ s .begun) ⌝ }
 {
     let mut t = s;
@@ -74,7 +76,7 @@ fn row(xs: &mut [f64], n: usize, largest: f64, p: usize, s: Sweeps) -> Sweeps
 // One sweep: all pairs p < q, rising.
 fn sweep(xs: &mut [f64], n: usize, s: Sweeps) -> Sweeps
     requires { ⌜ Square n (length (now xs)) × (s .begun < 1000) × (s .turned < 800000) ⌝ }
-    ensures done { λ r. ⌜ state (now (xs .exit)) r ≡ sweepOf n (state (now (xs .entry)) s) ⌝ }
+    ensures done { λ r. ⌜ state (asPlanes (n * n) (now (xs .exit))) r ≡ sweepOf n (state (asPlanes (n * n) (now (xs .entry))) s) ⌝ }
     ensures few { λ r. ⌜ (r .turned ≤ s .turned + 4096) × (r .begun ≡ s .begun + 1) ⌝ }
 {
     let largest = largest_diagonal(xs, n);
@@ -92,7 +94,7 @@ fn sweep(xs: &mut [f64], n: usize, s: Sweeps) -> Sweeps
 // Up to 60 sweeps, and none after a quiet one.
 pub fn settle(xs: &mut [f64], n: usize) -> Sweeps
     requires { ⌜ Square n (length (now xs)) ⌝ }
-    ensures { λ r. ⌜ state (now (xs .exit)) r ≡ settled n (now (xs .entry)) ⌝ }
+    ensures { λ r. ⌜ state (asPlanes (n * n) (now (xs .exit))) r ≡ settled n (asPlanes (n * n) (now (xs .entry))) ⌝ }
 {
     let mut s = Sweeps {
         begun: 0,

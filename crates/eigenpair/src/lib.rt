@@ -1,12 +1,15 @@
-// Inner: a pair of the eigenvalue sweep, in a square matrix of n rows that is lent as planes, row-major: the cell of row p and
-// column q is p * n + q. Cosine and sine are real here.
+// Inner: a pair of the eigenvalue sweep, in a square matrix of n rows, row-major: the cell of row p and column q is p * n + q.
+// Cosine and sine are real here. The definitions speak of planes; the matrix is lent as cells, since a column's cells are as far
+// apart as its rows are long and the two parts of each are then read at once.
 use complex::Complex;
 use pairs::Decision;
+use roots::Guesses;
 ghost use mathlib.Core.Path.{_≡_};
 ghost use Prim.Native.Nat.{_+_, _*_, _<_, _≤_};
 ghost use lib.ListN.{length};
 ghost use Rattle.pairs.specs.Decisions.{verdict};
 ghost use Rattle.eigenpair.specs.Decide.{tangentOf, turnAt, leftAlone, decisionOf};
+ghost use Rattle.eigenpair.specs.CellPlanes.{asPlanes};
 ghost use Rattle.eigenpair.specs.Turn.{timesReal, newP, newQ, turnTwo, turnLine, turned, applied};
 
 const EIGEN_PAIR_TOL: f64 = 1e-15;
@@ -14,18 +17,20 @@ const EIGEN_PAIR_TOL: f64 = 1e-15;
 // ---- the decision
 
 // The tangent of the angle: the root of smaller magnitude. The sign of a zero theta counts.
-fn tangent(theta: f64) -> f64
+fn tangent(theta: f64, near: Guesses) -> f64
     ensures { λ r. ⌜ r ≡ tangentOf theta ⌝ }
 {
-    let root = numbers::sqrt(1.0 + theta * theta);
+    let x = 1.0 + theta * theta;
+    let root = roots::root_near(x, roots::sharpened(x, near.root, near.root_over));
     numbers::sign(theta) / (numbers::magnitude(theta) + root)
 }
 
 // The turn by the tangent t, for the entry apq of the modulus given.
-fn turn_at(apq: Complex, modulus: f64, t: f64) -> Decision
+fn turn_at(apq: Complex, modulus: f64, t: f64, near: Guesses) -> Decision
     ensures { λ r. ⌜ r ≡ turnAt apq modulus t ⌝ }
 {
-    let cosine = 1.0 / numbers::sqrt(1.0 + t * t);
+    let x = 1.0 + t * t;
+    let cosine = 1.0 / roots::root_near(x, roots::sharpened(x, near.secant, near.cosine));
     Decision::Turn {
         cosine,
         sine: t * cosine,
@@ -37,7 +42,7 @@ fn turn_at(apq: Complex, modulus: f64, t: f64) -> Decision
 fn left_alone(modulus: f64, app: f64, aqq: f64, largest: f64) -> bool
     ensures { λ r. ⌜ r ≡ leftAlone modulus app aqq largest ⌝ }
 {
-    let root = numbers::sqrt(numbers::magnitude(app * aqq));
+    let root = roots::root_of(numbers::magnitude(app * aqq));
     if modulus <= EIGEN_PAIR_TOL * root {
         return true;
     }
@@ -48,12 +53,13 @@ fn left_alone(modulus: f64, app: f64, aqq: f64, largest: f64) -> bool
 pub fn decide(apq: Complex, app: f64, aqq: f64, largest: f64) -> Decision
     ensures { λ r. ⌜ verdict r ≡ verdict (decisionOf apq app aqq largest) ⌝ }
 {
-    let modulus = apq.modulus();
+    let near = roots::guess_roots(aqq - app, apq.norm_sqr());
+    let modulus = pairs::modulus_near(apq, near.modulus);
     if left_alone(modulus, app, aqq, largest) {
         return Decision::Leave;
     }
     let theta = (aqq - app) / (2.0 * modulus);
-    turn_at(apq, modulus, tangent(theta))
+    turn_at(apq, modulus, tangent(theta, near), near)
 }
 
 // ---- the turn
@@ -92,18 +98,18 @@ impl Angle {
 // The cells i and j of a matrix of c cells are turned, both from their old values.
 fn turn_two(xs: &mut [f64], c: usize, i: usize, j: usize, w: Angle)
     requires { ⌜ (length (now xs) ≡ 2 * c) × (i < c) × (j < c) ⌝ }
-    ensures { λ _. ⌜ now (xs .exit) ≡ turnTwo w c i j (now (xs .entry)) ⌝ }
+    ensures { λ _. ⌜ asPlanes c (now (xs .exit)) ≡ turnTwo w c i j (asPlanes c (now (xs .entry))) ⌝ }
 {
-    let x = complex::read_plane(xs, c, i);
-    let y = complex::read_plane(xs, c, j);
-    complex::write_plane(xs, c, i, w.new_p(x, y));
-    complex::write_plane(xs, c, j, w.new_q(x, y));
+    let x = complex::read_cell(xs, i);
+    let y = complex::read_cell(xs, j);
+    complex::write_cell(xs, i, w.new_p(x, y));
+    complex::write_cell(xs, j, w.new_q(x, y));
 }
 
 // The columns p and q.
 fn turn_columns(xs: &mut [f64], n: usize, p: usize, q: usize, w: Angle)
     requires { ⌜ (length (now xs) ≡ 2 * (n * n)) × (p < n) × (q < n) ⌝ }
-    ensures { λ _. ⌜ now (xs .exit) ≡ turnLine w (n * n) n p q n (now (xs .entry)) ⌝ }
+    ensures { λ _. ⌜ asPlanes (n * n) (now (xs .exit)) ≡ turnLine w (n * n) n p q n (asPlanes (n * n) (now (xs .entry))) ⌝ }
 {
     let c = n * n;
     for k in 0..n {
@@ -114,7 +120,7 @@ fn turn_columns(xs: &mut [f64], n: usize, p: usize, q: usize, w: Angle)
 // The rows that start at the cells i and j.
 fn turn_rows(xs: &mut [f64], n: usize, i: usize, j: usize, w: Angle)
     requires { ⌜ (length (now xs) ≡ 2 * (n * n)) × (i + n ≤ n * n) × (j + n ≤ n * n) ⌝ }
-    ensures { λ _. ⌜ now (xs .exit) ≡ turnLine w (n * n) 1 i j n (now (xs .entry)) ⌝ }
+    ensures { λ _. ⌜ asPlanes (n * n) (now (xs .exit)) ≡ turnLine w (n * n) 1 i j n (asPlanes (n * n) (now (xs .entry))) ⌝ }
 {
     let c = n * n;
     for k in 0..n {
@@ -125,7 +131,7 @@ fn turn_rows(xs: &mut [f64], n: usize, i: usize, j: usize, w: Angle)
 // The columns p and q with the conjugate of the phase, and then the rows with the phase.
 fn turn_pair(xs: &mut [f64], n: usize, p: usize, q: usize, w: Angle)
     requires { ⌜ (length (now xs) ≡ 2 * (n * n)) × (p < n) × (q < n) ⌝ }
-    ensures { λ _. ⌜ now (xs .exit) ≡ turned w n p q (now (xs .entry)) ⌝ }
+    ensures { λ _. ⌜ asPlanes (n * n) (now (xs .exit)) ≡ turned w n p q (asPlanes (n * n) (now (xs .entry))) ⌝ }
 {
     let back = w.phase.conj();
     turn_columns(
@@ -145,7 +151,7 @@ fn turn_pair(xs: &mut [f64], n: usize, p: usize, q: usize, w: Angle)
 // What is decided is done to the pair p, q.
 pub fn apply(xs: &mut [f64], n: usize, p: usize, q: usize, d: Decision)
     requires { ⌜ (length (now xs) ≡ 2 * (n * n)) × (p < n) × (q < n) ⌝ }
-    ensures { λ _. ⌜ now (xs .exit) ≡ applied d n p q (now (xs .entry)) ⌝ }
+    ensures { λ _. ⌜ asPlanes (n * n) (now (xs .exit)) ≡ applied d n p q (asPlanes (n * n) (now (xs .entry))) ⌝ }
 {
     match d {
         Decision::Leave => {}

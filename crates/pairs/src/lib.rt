@@ -1,6 +1,7 @@
 // Inner: what the Jacobi sweeps do with one pair of columns of a matrix that is lent as planes: its
 // Gram sums, the decision, and the turn.
 use complex::Complex;
+use roots::Guesses;
 ghost use mathlib.Core.Path.{_≡_};
 ghost use Prim.Native.Nat.{_+_, _*_, _<_, _≤_};
 ghost use lib.ListN.{length};
@@ -69,43 +70,8 @@ pub enum Decision {
     },
 }
 
-// Guesses at what the three roots of a decision give: nothing is promised of them, and they decide
-// nothing but the time. All three are made from the Gram sums alone, so that none waits for the root
-// before it.
-struct Guesses {
-    // |g_pq|
-    modulus: f64,
-    // √(1 + tau²) and its reciprocal
-    root: f64,
-    root_over: f64,
-    // 1 / cosine, and the cosine
-    secant: f64,
-    cosine: f64,
-}
-
-// For a pair with g_qq - g_pp = d and |g_pq|² = off.
-fn guess_roots(d: f64, off: f64) -> Guesses {
-    let y = roots::reciprocal_near(off);
-    let modulus = off * y;
-    let square = d * d + 4.0 * off;
-    let over = roots::reciprocal_near(square);
-    let mut size = d;
-    if d < 0.0 {
-        size = -d;
-    }
-    let cosine_square = 0.5 + (0.5 * size) * over;
-    let secant = roots::reciprocal_near(cosine_square);
-    Guesses {
-        modulus: roots::sharpened(off, modulus, y),
-        root: (square * over) * (0.5 * y),
-        root_over: 2.0 * (modulus * over),
-        secant,
-        cosine: cosine_square * secant,
-    }
-}
-
 // The modulus of z, for which t is a guess.
-fn modulus_near(z: Complex, t: f64) -> f64
+pub fn modulus_near(z: Complex, t: f64) -> f64
     ensures { λ r. ⌜ r ≡ modulusOf z ⌝ }
 {
     roots::root_near(z.norm_sqr(), t)
@@ -151,7 +117,7 @@ pub fn decide(g: GramSums) -> Decision
     if off <= JACOBI_REL_TOL * JACOBI_REL_TOL * g.pp * g.qq {
         return Decision::Leave;
     }
-    let near = guess_roots(g.qq - g.pp, off);
+    let near = roots::guess_roots(g.qq - g.pp, off);
     let beta = modulus_near(g.pq, near.modulus);
     let tau = (g.qq - g.pp) / (2.0 * beta);
     turn_at(g.pq, beta, tangent(tau, near), near)

@@ -118,3 +118,46 @@ pub fn sharpened(x: f64, g: f64, y: f64) -> f64 {
     let half = off * (0.5 * y);
     s + (half + half * ((1.0 - s * y) - off * (0.25 * (y * y))))
 }
+
+// The square root of x, by a guess from x alone.
+pub fn root_of(x: f64) -> f64
+    ensures { λ r. ⌜ r ≡ sqrtOf x ⌝ }
+{
+    let y = reciprocal_near(x);
+    root_near(x, sharpened(x, x * y, y))
+}
+
+// Guesses at what the three roots of a Jacobi decision give: nothing is promised of them, and they
+// decide nothing but the time. All three are made from the pair's sums alone, so that none waits for
+// the root before it.
+pub struct Guesses {
+    // |g_pq|
+    pub modulus: f64,
+    // √(1 + tau²) and its reciprocal
+    pub root: f64,
+    pub root_over: f64,
+    // 1 / cosine, and the cosine
+    pub secant: f64,
+    pub cosine: f64,
+}
+
+// For a pair with g_qq - g_pp = d and |g_pq|² = off.
+pub fn guess_roots(d: f64, off: f64) -> Guesses {
+    let y = reciprocal_near(off);
+    let modulus = off * y;
+    let square = d * d + 4.0 * off;
+    let over = reciprocal_near(square);
+    let mut size = d;
+    if d < 0.0 {
+        size = -d;
+    }
+    let cosine_square = 0.5 + (0.5 * size) * over;
+    let secant = reciprocal_near(cosine_square);
+    Guesses {
+        modulus: sharpened(off, modulus, y),
+        root: (square * over) * (0.5 * y),
+        root_over: 2.0 * (modulus * over),
+        secant,
+        cosine: cosine_square * secant,
+    }
+}

@@ -15,12 +15,15 @@ use Rattle.answers.specs.declared.Answer.the-variants.{Done, NotFinite}
 use Rattle.answers.specs.Paper.{Reply, paper, done, refuse, andThen, ifDone, atEnd}
 use Rattle.answers.specs.PaperLaws.{refuse-done, paper-one, worked-new, worked-old, end-old}
 use Rattle.numbers.specs.Numbers.{allowed}
-use Rattle.complex.specs.Cells.{cellAt, components}
+use Rattle.complex.specs.declared.Complex.{Complex}
+use Rattle.complex.specs.Cells.{cellAt, written, components}
+use Rattle.complex.specs.CellLaws.{cell-written}
 use Rattle.complex.specs.Zeros.{zeroed}
 use Rattle.loading.specs.Numbers.{numbersOf, filled, length-numbers}
 use Rattle.loading.specs.Loading.{planesOf}
 use Rattle.values.specs.Lists.{allFinite}
 use Rattle.jacobi.specs.declared.Sweeps.{Sweeps}
+use Rattle.eigenpair.specs.CellPlanes.{asPlanes, planes-same}
 use Rattle.eigen.specs.Sweeping.{State, state, diagonal, settled}
 use Rattle.spectra.specs.Eigenvalues.{eigenvalue, eigenvaluesOf, eigenReply, squareRefusal, eigenAnswer}
 use Rattle.spectra.specs.Outcomes.{Given, Worked, Eigenvalues}
@@ -119,6 +122,11 @@ reply-worked a n = pick (allFinite (eigenvaluesOf a n))
     pick false = inr (omega arith)
 
 -- ---- the work
+
+-- cells that are another matrix's have its planes
+pub loaded : (c : ℕ) (f : ℕ → Complex) (old : List Float) {xs : List Float} → xs ≡ written c f old → asPlanes c xs ≡ planesOf c f
+unfolding asPlanes
+loaded c f old {xs} e = ap (λ (l : List Float). planesOf c (cellAt l)) e ∙ planes-same c (cellAt (written c f old)) f (λ k h. cell-written c k f old h)
 
 -- the matrix was loaded, swept, and its diagonal written
 pub spectrum-made : (a : List Float) (n : ℕ) (old : List Float) {w1 w2 out : List Float} {s : Sweeps}

@@ -7,7 +7,10 @@ ghost use lib.ListN.{length};
 ghost use Rattle.answers.specs.Paper.{paper};
 ghost use Rattle.eigen.specs.Sweeping.{Square, diagonal};
 ghost use Rattle.loading.specs.Numbers.{filled};
+ghost use Rattle.loading.specs.Loading.{planesOf};
+ghost use Rattle.complex.specs.Cells.{cellAt};
 ghost use Rattle.complex.specs.Zeros.{zeroed};
+ghost use Rattle.eigenpair.specs.CellPlanes.{asPlanes};
 ghost use Rattle.spectra.specs.Eigenvalues.{eigenvalue, squareRefusal};
 ghost use Rattle.spectra.specs.Outcomes.{Given, Worked, Eigenvalues};
 ghost use Rattle.spectra.specs.Density.{DensityWorked, DensityValues};
@@ -35,13 +38,23 @@ fn square_refusal(a: &[f64], dim: usize, out: usize, scratch: usize) -> Answer
     complex::check_components(a)
 }
 
+// The matrix itself, as it came: its cells side by side.
+fn load_cells(a: &[f64], c: usize, work: &mut [f64])
+    requires { ⌜ (length (now a) ≡ 2 * c) × (length (now work) ≡ 2 * c) ⌝ }
+    ensures { λ _. ⌜ asPlanes c (now (work .exit)) ≡ planesOf c (cellAt (now (a .entry))) ⌝ }
+{
+    for i in 0..c {
+        complex::write_cell(work, i, complex::read_cell(a, i));
+    }
+}
+
 // The real parts of the diagonal, to the front of out.
 fn write_diagonal(work: &[f64], n: usize, out: &mut [f64])
     requires { ⌜ Square n (length (now work)) × (n ≤ length (now out)) ⌝ }
-    ensures { λ _. ⌜ now (out .exit) ≡ filled n (diagonal (now (work .entry)) n) (now (out .entry)) ⌝ }
+    ensures { λ _. ⌜ now (out .exit) ≡ filled n (diagonal (asPlanes (n * n) (now (work .entry))) n) (now (out .entry)) ⌝ }
 {
     for i in 0..n {
-        let at = i * n + i;
+        let at = 2 * (i * n + i);
         out[i] = work[at];
     }
 }
@@ -52,7 +65,7 @@ fn spectrum(a: &[f64], n: usize, out: &mut [f64], work: &mut [f64])
     ensures { λ _. ⌜ (now (out .exit) ≡ filled n (eigenvalue (now (a .entry)) n) (now (out .entry)))
         × (now (work .exit) ≡ zeroed (2 * (n * n)) (now (work .entry))) ⌝ }
 {
-    loading::load_tall(a, n * n, work);
+    load_cells(a, n * n, work);
     let swept = eigen::settle(work, n);
     write_diagonal(work, n, out);
     complex::zero_first(work, 2 * (n * n));

@@ -5,13 +5,14 @@ use mathlib.Core.Logic.{⊎-elim}
 use Prim.Native.Nat.{_*_, _+_, _-_, _≤_, _<_}
 use native.Mathlib.Omega.{arith}
 use Rattle.eigenpair.specs.Turn.{cell-fits}
+use Rattle.eigenpair.specs.CellPlanes.{asPlanes, plane-re}
 use Rattle.eigen.specs.Sweeping.{largestTo, largest-none, largest-more, largest-same}
 use borrow.Author.Needs.{needs}
 use Rattle.eigen.proofs.largest_diagonal.Statement.{statement}
 use Rattle.eigen.proofs.largest_diagonal.Tie as tie
 
 abbrev Inv-loop : tie.InvT-loop
-Inv-loop xs n largest₀ i₀ largest i = (i ≤ n) × (largest ≡ largestTo xs n i)
+Inv-loop xs n largest₀ i₀ largest i = (i ≤ n) × (largest ≡ largestTo (asPlanes (n * n) xs) n i)
 
 abbrev μ-loop : tie.MeasureT-loop
 μ-loop xs n largest₀ i₀ largest i = n - i
@@ -25,6 +26,9 @@ loop-holds c = (omega arith, largest-none _ _)
 
 mul-at : tie.Need-mul-at Inv-loop μ-loop
 mul-at c = omega (arith, at (c))
+
+mul-at-2 : tie.Need-mul-at-2 Inv-loop μ-loop
+mul-at-2 c = omega (arith, at (c), c .before .before .pre .cells)
 
 add-at : tie.Need-add-at Inv-loop μ-loop
 add-at c = omega (arith, at (c))
@@ -42,7 +46,11 @@ loop-less : tie.Need-loop-less Inv-loop μ-loop
 loop-less c = search needs
 
 loop-again : tie.Need-loop-again Inv-loop μ-loop
-loop-again c = (omega arith, ⊎-elim (λ w. w .1 ∙ largest-more (now (c .before .before .before .before .args .xs)) (c .before .before .before .before .args .n) (c .before .before .before .loop .i) (c .before .before .before .loop .inv .1) (w .0 .taken)) (λ w. w .1 ∙ largest-same (now (c .before .before .before .before .args .xs)) (c .before .before .before .before .args .n) (c .before .before .before .loop .i) (c .before .before .before .loop .inv .1) (w .0 .left)) (c .if1 .came))
+loop-again c =
+    let l = c .before .before .before in
+    let a = l .before .args in
+    let x = plane-re (a .n * a .n) (l .loop .i * a .n + l .loop .i) (now (a .xs)) (at (c .before .before)) in
+    (omega arith, ⊎-elim (λ w. w .1 ∙ largest-more _ _ _ (l .loop .inv .1) x (w .0 .taken)) (λ w. w .1 ∙ largest-same _ _ _ (l .loop .inv .1) x (w .0 .left)) (c .if1 .came))
 
 returns : tie.Need-returns Inv-loop μ-loop
 returns c = let e : c .before .loop .i ≡ c .before .before .args .n = omega arith in rw e at (c .before .loop .inv .1)
@@ -56,6 +64,7 @@ largest-diagonal-spec =
     loop-holds
     mul-at
     add-at
+    mul-at-2
     mul-x
     shared-slice-read-x
     add-i

@@ -1,7 +1,10 @@
 -- `eigen::pair` meets its contract: the calls are the definition's steps. Assumes nothing.
+use mathlib.Core.Path.{_∙_}
 use Prim.Native.Nat.{_*_, _+_, _<_}
 use native.Mathlib.Omega.{arith}
 use Rattle.pairs.specs.Decisions.{verdict-one}
+use denote.Ref.{now}
+use Rattle.eigenpair.specs.CellPlanes.{plane-read, plane-re}
 use Rattle.eigenpair.specs.Turn.{cell-fits}
 use Rattle.eigen.specs.Sweeping.{pair-made}
 use borrow.Author.Needs.{needs}
@@ -24,23 +27,26 @@ mul-at-p c = omega (arith, pp (c .before))
 add-at-p : tie.Need-add-at-p
 add-at-p c = omega (arith, pp (c .before))
 
+mul-at-p-2 : tie.Need-mul-at-p-2
+mul-at-p-2 c = omega (arith, pp (c .before), c .before .pre .0 .cells)
+
 mul-at-q : tie.Need-mul-at-q
 mul-at-q c = omega (arith, qq (c .before))
 
 add-at-q : tie.Need-add-at-q
 add-at-q c = omega (arith, qq (c .before))
 
-mul-read-plane : tie.Need-mul-read-plane
-mul-read-plane c = omega (arith, pq (c .before .before), c .before .before .pre .0 .cells)
+mul-at-q-2 : tie.Need-mul-at-q-2
+mul-at-q-2 c = omega (arith, qq (c .before), c .before .pre .0 .cells)
 
-mul-read-plane-2 : tie.Need-mul-read-plane-2
-mul-read-plane-2 c = omega (arith, pq (c .before .before))
+mul-read-cell : tie.Need-mul-read-cell
+mul-read-cell c = omega (arith, pq (c .before .before))
 
-add-read-plane : tie.Need-add-read-plane
-add-read-plane c = omega (arith, pq (c .before .before))
+add-read-cell : tie.Need-add-read-cell
+add-read-cell c = omega (arith, pq (c .before .before))
 
-read-plane-requires : tie.Need-read-plane-requires
-read-plane-requires c κs = (pq (c .before .before), omega (arith, pq (c .before .before), c .before .before .pre .0 .cells))
+read-cell-requires : tie.Need-read-cell-requires
+read-cell-requires c κs = omega (arith, pq (c .before .before), c .before .before .pre .0 .cells)
 
 mul-decide : tie.Need-mul-decide
 mul-decide c = omega (arith, pp (c .before .before .before), c .before .before .before .pre .0 .cells)
@@ -67,7 +73,12 @@ same-length : tie.Need-same-length
 same-length c = search needs
 
 returns : tie.Need-returns
-returns c = (pair-made _ _ _ _ _ _ _ _ _ (c .before .before .before .before .before .before .before .before .read-plane .ensures) (verdict-one _ _ (c .before .before .before .before .before .decide .ensures)) (c .before .before .before .apply .ensures) (c .count .ensures .0), (c .count .ensures .1, c .count .ensures .2))
+returns c =
+    let z = c .before .before .before .before .before .before .before .before in
+    let start = z .before .before .before in
+    let a = start .args in
+    let xs = now (a .xs) in
+    (pair-made _ _ _ _ _ _ _ _ _ _ _ (z .read-cell .ensures ∙ plane-read _ _ xs (pq start)) (plane-re _ _ xs (pp start)) (plane-re _ _ xs (qq start)) (verdict-one _ _ (c .before .before .before .before .before .decide .ensures)) (c .before .before .before .apply .ensures) (c .count .ensures .0), (c .count .ensures .1, c .count .ensures .2))
 
 pub pair-spec : {M : Type 1} → statement M
 pair-spec =
@@ -75,12 +86,13 @@ pair-spec =
     (tie.spec
     mul-at-p
     add-at-p
+    mul-at-p-2
     mul-at-q
     add-at-q
-    mul-read-plane
-    mul-read-plane-2
-    add-read-plane
-    read-plane-requires
+    mul-at-q-2
+    mul-read-cell
+    add-read-cell
+    read-cell-requires
     mul-decide
     slice-read-decide
     mul-decide-2

@@ -1,15 +1,16 @@
 -- `eigen::row` meets its contract. The loop's invariant: the pairs of p below q are done. Assumes nothing.
 use mathlib.Core.Path.{_≡_, refl, _∙_}
-use Prim.Native.Nat.{_+_, _-_, _≤_, _<_}
+use Prim.Native.Nat.{_+_, _-_, _*_, _≤_, _<_}
 use native.Mathlib.Omega.{arith}
 use lib.ListN.{length}
+use Rattle.eigenpair.specs.CellPlanes.{asPlanes}
 use Rattle.eigen.specs.Sweeping.{state, pairsTo, pairs-none, pairs-more}
 use borrow.Author.Needs.{needs}
 use Rattle.eigen.proofs.row.Statement.{statement}
 use Rattle.eigen.proofs.row.Tie as tie
 
 abbrev Inv-loop : tie.InvT-loop
-Inv-loop xs₀ n largest p t₀ q₀ xs t q = (p < q) × (q ≤ n) × (length xs ≡ length xs₀) × (t .turned + (p + 1) ≤ t₀ .turned + q) × (t .begun ≡ t₀ .begun) × (state xs t ≡ pairsTo n largest p (q - (p + 1)) (state xs₀ t₀))
+Inv-loop xs₀ n largest p t₀ q₀ xs t q = (p < q) × (q ≤ n) × (length xs ≡ length xs₀) × (t .turned + (p + 1) ≤ t₀ .turned + q) × (t .begun ≡ t₀ .begun) × (state (asPlanes (n * n) xs) t ≡ pairsTo n largest p (q - (p + 1)) (state (asPlanes (n * n) xs₀) t₀))
 
 abbrev μ-loop : tie.MeasureT-loop
 μ-loop xs₀ n largest p t₀ q₀ xs t q = n - q

@@ -3,13 +3,14 @@ use mathlib.Core.Path.{_≡_, refl, _∙_}
 use Prim.Native.Nat.{_-_, _*_, _≤_}
 use native.Mathlib.Omega.{arith}
 use lib.ListN.{length}
+use Rattle.eigenpair.specs.CellPlanes.{asPlanes}
 use Rattle.eigen.specs.Sweeping.{state, settled, sweepsTo, settled-start, sweeps-done, sweeps-more, sweeps-quiet}
 use borrow.Author.Needs.{needs}
 use Rattle.eigen.proofs.settle.Statement.{statement}
 use Rattle.eigen.proofs.settle.Tie as tie
 
 abbrev Inv-loop : tie.InvT-loop
-Inv-loop xs₀ n s₀ k₀ xs s k = (k ≤ 60) × (length xs ≡ length xs₀) × (s .begun ≤ k) × (s .turned ≤ k * 4096) × (sweepsTo n (60 - k) (state xs s) ≡ settled n xs₀)
+Inv-loop xs₀ n s₀ k₀ xs s k = (k ≤ 60) × (length xs ≡ length xs₀) × (s .begun ≤ k) × (s .turned ≤ k * 4096) × (sweepsTo n (60 - k) (state (asPlanes (n * n) xs) s) ≡ settled n (asPlanes (n * n) xs₀))
 
 abbrev μ-loop : tie.MeasureT-loop
 μ-loop xs₀ n s₀ k₀ xs s k = 60 - k

@@ -3,13 +3,14 @@ use mathlib.Core.Path.{_≡_, refl, _∙_}
 use Prim.Native.Nat.{_+_, _-_, _*_, _≤_}
 use native.Mathlib.Omega.{arith}
 use lib.ListN.{length}
+use Rattle.eigenpair.specs.CellPlanes.{asPlanes}
 use Rattle.eigen.specs.Sweeping.{state, rowsTo, rows-none, rows-more, sweep-made}
 use borrow.Author.Needs.{needs}
 use Rattle.eigen.proofs.sweep.Statement.{statement}
 use Rattle.eigen.proofs.sweep.Tie as tie
 
 abbrev Inv-loop : tie.InvT-loop
-Inv-loop xs₀ n largest t₀ p₀ xs t p = (p ≤ n) × (length xs ≡ length xs₀) × (t .turned ≤ t₀ .turned + p * 64) × (t .begun ≡ t₀ .begun) × (state xs t ≡ rowsTo n largest p (state xs₀ t₀))
+Inv-loop xs₀ n largest t₀ p₀ xs t p = (p ≤ n) × (length xs ≡ length xs₀) × (t .turned ≤ t₀ .turned + p * 64) × (t .begun ≡ t₀ .begun) × (state (asPlanes (n * n) xs) t ≡ rowsTo n largest p (state (asPlanes (n * n) xs₀) t₀))
 
 abbrev μ-loop : tie.MeasureT-loop
 μ-loop xs₀ n largest t₀ p₀ xs t p = n - p

@@ -4,8 +4,11 @@ use borrow.Author.Needs.{needs}
 use Rattle.eigenpair.proofs.tangent.Statement.{statement}
 use Rattle.eigenpair.proofs.tangent.Tie as tie
 
-sqrt-requires : tie.Need-sqrt-requires
-sqrt-requires c κs = search needs
+sharpened-requires : tie.Need-sharpened-requires
+sharpened-requires c κs = search needs
+
+root-near-requires : tie.Need-root-near-requires
+root-near-requires c κs = search needs
 
 sign-requires : tie.Need-sign-requires
 sign-requires c κs = search needs
@@ -14,7 +17,7 @@ magnitude-requires : tie.Need-magnitude-requires
 magnitude-requires c κs = search needs
 
 returns : tie.Need-returns
-returns c = tangent-made _ _ _ _ (c .before .before .sqrt .ensures .0) (c .before .sign .ensures) (c .magnitude .ensures)
+returns c = tangent-made _ _ _ _ (c .before .before .root-near .ensures) (c .before .sign .ensures) (c .magnitude .ensures)
 
 pub tangent-spec : {M : Type 1} → statement M
-tangent-spec = tie.close (tie.spec sqrt-requires sign-requires magnitude-requires returns)
+tangent-spec = tie.close (tie.spec sharpened-requires root-near-requires sign-requires magnitude-requires returns)

@@ -3,13 +3,14 @@ use mathlib.Core.Path.{_≡_, refl}
 use Prim.Native.Nat.{_*_, _-_, _≤_}
 use native.Mathlib.Omega.{arith}
 use lib.ListN.{length}
+use Rattle.eigenpair.specs.CellPlanes.{asPlanes}
 use Rattle.eigenpair.specs.Turn.{turnLine, line-none, line-more}
 use borrow.Author.Needs.{needs}
 use Rattle.eigenpair.proofs.turn_rows.Statement.{statement}
 use Rattle.eigenpair.proofs.turn_rows.Tie as tie
 
 abbrev Inv-loop : tie.InvT-loop
-Inv-loop xs₀ n i j w c k₀ xs k = (k ≤ n) × (length xs ≡ length xs₀) × (c ≡ n * n) × (xs ≡ turnLine w (n * n) 1 i j k xs₀)
+Inv-loop xs₀ n i j w c k₀ xs k = (k ≤ n) × (length xs ≡ length xs₀) × (c ≡ n * n) × (asPlanes (n * n) xs ≡ turnLine w (n * n) 1 i j k (asPlanes (n * n) xs₀))
 
 abbrev μ-loop : tie.MeasureT-loop
 μ-loop xs₀ n i j w c k₀ xs k = n - k

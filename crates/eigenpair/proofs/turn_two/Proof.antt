@@ -1,43 +1,44 @@
--- `eigenpair::turn_two` meets its contract: both cells are read before either is written. Assumes nothing.
-use Rattle.eigenpair.specs.Turn.{turnTwo}
+-- `eigenpair::turn_two` meets its contract: both cells are read before either is written, and what is done to cells is done to their planes. Assumes nothing.
+use Rattle.eigenpair.specs.Turn.{two-made}
 use borrow.Author.Needs.{needs}
 use Rattle.eigenpair.proofs.turn_two.Statement.{statement}
 use Rattle.eigenpair.proofs.turn_two.Tie as tie
 
-read-plane-requires : tie.Need-read-plane-requires
-read-plane-requires c κs = search needs
+read-cell-requires : tie.Need-read-cell-requires
+read-cell-requires c κs = search needs
 
-read-plane-requires-2 : tie.Need-read-plane-requires-2
-read-plane-requires-2 c κs = search needs
+read-cell-requires-2 : tie.Need-read-cell-requires-2
+read-cell-requires-2 c κs = search needs
 
 new-p-requires : tie.Need-new-p-requires
 new-p-requires c κs = search needs
 
-write-plane-requires : tie.Need-write-plane-requires
-write-plane-requires c κs = search needs
+write-cell-requires : tie.Need-write-cell-requires
+write-cell-requires c κs = search needs
 
 new-q-requires : tie.Need-new-q-requires
 new-q-requires c κs = search needs
 
-write-plane-requires-2 : tie.Need-write-plane-requires-2
-write-plane-requires-2 c κs = search needs
+write-cell-requires-2 : tie.Need-write-cell-requires-2
+write-cell-requires-2 c κs = search needs
 
 same-length : tie.Need-same-length
 same-length c = search needs
 
 returns : tie.Need-returns
-unfolding turnTwo
-returns c = rw (c .before .before .write-plane2 .ensures, c .before .before .before .new-q .ensures, c .before .before .before .before .before .before .before .write-plane .ensures, c .before .before .before .before .before .before .before .before .new-p .ensures, c .before .before .before .before .before .before .before .before .before .before .read-plane2 .ensures, c .before .before .before .before .before .before .before .before .before .before .before .before .read-plane .ensures)
+returns c =
+    let start = c .before .before .before .before .before .before .before .before .before .before .before .before .before .before .before in
+    two-made _ _ _ _ _ (start .pre .1) (start .pre .2) (start .pre .0) (c .before .before .before .before .before .before .before .before .before .before .before .before .read-cell .ensures) (c .before .before .before .before .before .before .before .before .before .before .read-cell2 .ensures) (c .before .before .before .before .before .before .before .before .new-p .ensures) (c .before .before .before .before .before .before .before .write-cell .ensures) (c .before .before .before .new-q .ensures) (c .before .before .write-cell2 .ensures)
 
 pub turn-two-spec : {M : Type 1} → statement M
 turn-two-spec =
     tie.close
     (tie.spec
-    read-plane-requires
-    read-plane-requires-2
+    read-cell-requires
+    read-cell-requires-2
     new-p-requires
-    write-plane-requires
+    write-cell-requires
     new-q-requires
-    write-plane-requires-2
+    write-cell-requires-2
     same-length
     returns)

@@ -6,11 +6,11 @@ use borrow.Author.Needs.{needs}
 use Rattle.spectra.proofs.spectrum.Statement.{statement}
 use Rattle.spectra.proofs.spectrum.Tie as tie
 
-mul-load-tall : tie.Need-mul-load-tall
-mul-load-tall c = search needs
+mul-load-cells : tie.Need-mul-load-cells
+mul-load-cells c = search needs
 
-load-tall-requires : tie.Need-load-tall-requires
-load-tall-requires c κs = search needs
+load-cells-requires : tie.Need-load-cells-requires
+load-cells-requires c κs = search needs
 
 settle-requires : tie.Need-settle-requires
 settle-requires c κs = search needs
@@ -34,14 +34,14 @@ same-length-2 : tie.Need-same-length-2
 same-length-2 c = search needs
 
 returns : tie.Need-returns
-returns c = let z = c .before .before .before .before .before .before .before .before .before .before .before .before .before .before .before .before .before .before .before .before in (spectrum-made _ _ _ (c .before .before .before .before .before .before .before .before .before .before .before .before .before .before .before .load-tall .ensures) (c .before .before .before .before .before .before .before .before .before .before .before .settle .ensures) (c .before .before .before .before .before .before .write-diagonal .ensures), c .before .before .zero-first .ensures ∙ zeroed-other _ _ _ (omega (arith, c .before .before .before .before .before .before .before .before .before .before .before .settle .kept .0, c .before .before .before .before .before .before .before .before .before .before .before .before .before .before .before .load-tall .kept .1 .1 .0, z .pre .1)) (omega (arith, z .pre .1)))
+returns c = let z = c .before .before .before .before .before .before .before .before .before .before .before .before .before .before .before .before .before .before .before .before in (spectrum-made _ _ _ (c .before .before .before .before .before .before .before .before .before .before .before .before .before .before .before .load-cells .ensures) (c .before .before .before .before .before .before .before .before .before .before .before .settle .ensures) (c .before .before .before .before .before .before .write-diagonal .ensures), c .before .before .zero-first .ensures ∙ zeroed-other _ _ _ (omega (arith, c .before .before .before .before .before .before .before .before .before .before .before .settle .kept .0, c .before .before .before .before .before .before .before .before .before .before .before .before .before .before .before .load-cells .kept .1 .1 .0, z .pre .1)) (omega (arith, z .pre .1)))
 
 pub spectrum-spec : {M : Type 1} → statement M
 spectrum-spec =
     tie.close
     (tie.spec
-    mul-load-tall
-    load-tall-requires
+    mul-load-cells
+    load-cells-requires
     settle-requires
     write-diagonal-requires
     mul-zero-first

@@ -4,6 +4,7 @@ use Prim.Native.Nat.{_*_, _+_, _-_, _≤_, _<_}
 use native.Mathlib.Omega.{arith}
 use denote.Ref.{now}
 use lib.ListN.{length, length-set}
+use Rattle.eigenpair.specs.CellPlanes.{asPlanes, plane-re}
 use Rattle.eigenpair.specs.Turn.{cell-fits}
 use Rattle.eigen.specs.Sweeping.{diagonal}
 use Rattle.loading.specs.Numbers.{filled, filled-none, filled-more}
@@ -12,7 +13,7 @@ use Rattle.spectra.proofs.write_diagonal.Statement.{statement}
 use Rattle.spectra.proofs.write_diagonal.Tie as tie
 
 abbrev Inv-loop : tie.InvT-loop
-Inv-loop work n out₀ i₀ out i = (i ≤ n) × (length out ≡ length out₀) × (out ≡ filled i (diagonal work n) out₀)
+Inv-loop work n out₀ i₀ out i = (i ≤ n) × (length out ≡ length out₀) × (out ≡ filled i (diagonal (asPlanes (n * n) work) n) out₀)
 
 abbrev μ-loop : tie.MeasureT-loop
 μ-loop work n out₀ i₀ out i = n - i
@@ -29,6 +30,9 @@ mul-at c = omega (arith, at (c))
 
 add-at : tie.Need-add-at Inv-loop μ-loop
 add-at c = omega (arith, at (c))
+
+mul-at-2 : tie.Need-mul-at-2 Inv-loop μ-loop
+mul-at-2 c = omega (arith, at (c), c .before .before .pre .0 .cells)
 
 mul-out : tie.Need-mul-out Inv-loop μ-loop
 mul-out c = omega (arith, at (c), c .before .before .pre .0 .cells)
@@ -49,7 +53,7 @@ loop-less : tie.Need-loop-less Inv-loop μ-loop
 loop-less c = omega (arith, c .before .loop-test .taken)
 
 loop-again : tie.Need-loop-again Inv-loop μ-loop
-loop-again c = (omega (arith, c .before .loop-test .taken), simp length-set (c .before .before .loop .inv .1), rw (c .before .before .loop .inv .2) (filled-more (c .before .before .loop .i) (diagonal (now (c .before .before .before .args .work)) (c .before .before .before .args .n)) (now (c .before .before .before .args .out)) (omega (arith, c .before .before .before .pre .1, c .before .loop-test .taken))))
+loop-again c = (omega (arith, c .before .loop-test .taken), simp length-set (c .before .before .loop .inv .1), rw (c .before .before .loop .inv .2, plane-re (c .before .before .before .args .n * c .before .before .before .args .n) _ (now (c .before .before .before .args .work)) (at (c .before))) (filled-more (c .before .before .loop .i) (diagonal (asPlanes (c .before .before .before .args .n * c .before .before .before .args .n) (now (c .before .before .before .args .work))) (c .before .before .before .args .n)) (now (c .before .before .before .args .out)) (omega (arith, c .before .before .before .pre .1, c .before .loop-test .taken))))
 
 same-length : tie.Need-same-length Inv-loop μ-loop
 same-length c = search needs
@@ -66,6 +70,7 @@ write-diagonal-spec =
     loop-holds
     mul-at
     add-at
+    mul-at-2
     mul-out
     shared-slice-read-out
     mul-out-2
