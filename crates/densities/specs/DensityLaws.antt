@@ -17,7 +17,7 @@ use Rattle.complex.specs.Cells.{components, written}
 use Rattle.complex.specs.Zeros.{zeroed}
 use Rattle.masks.specs.SubmaskLaws.{others-lt}
 use Rattle.qubits.specs.Lists.{densitySizes, qubitSet}
-use Rattle.qubits.specs.NamedLaws.{not-empty}
+use Rattle.qubits.specs.NamedLaws.{not-empty, pow-small, sizes-product}
 use Rattle.qubits.specs.Spread.{named}
 use Rattle.qubits.specs.SpreadLaws.{spread-lt}
 use Rattle.offsets.specs.Calls.{densityRefusal}
@@ -64,6 +64,10 @@ module _ (s : List Float) (n : ℕ) (l : List ℕ) (o : List Float) (p : Accepte
   -- the matrix has room
   pub density-square : (dim : ℕ) → dim ≡ 2 ^ length l → Square dim o
   density-square dim e = record { small = rw e (side-small (length l) (p .few)); room = rw e (p .room) }
+
+  -- the amplitudes are those of the register
+  pub density-few : (dim groups : ℕ) → dim ≡ 2 ^ length l → groups ≡ 2 ^ (n - length l) → groups * dim ≤ 4096
+  density-few dim groups e eg = rw (e, eg, sizes-product n (length l) (p .listed .short)) (pow-small n (p .listed .small))
 
   pub density-ready : (dim full mask : ℕ) (old table : List ℕ) → dim ≡ 2 ^ length l → OffsetTurns l dim old table dim → dim ≤ length old
       → full ≡ 2 ^ n → mask ≡ named l → Ready n s (full - 1 - mask) table dim
