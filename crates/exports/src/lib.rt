@@ -27,7 +27,7 @@ ghost use Rattle.svd.specs.Svd.{Svd};
 ghost use Rattle.spectra.specs.Outcomes.{Eigenvalues};
 ghost use Rattle.ranks.specs.Ranks.{rankOf, discardsOf, Ranked, cutSizes, cutRankOf, widestSizes, widestOf};
 ghost use Rattle.ranks.specs.declared.CutRank.{CutRank};
-ghost use Rattle.sites.specs.Sources.{siteCell, isometryCell, scaledUCell, vtCell, scaledVtCell};
+ghost use Rattle.fills.specs.Sources.{siteCell, isometryCell, scaledUCell, vtCell, scaledVtCell};
 ghost use Rattle.sites.specs.Calls.{columnSizes, rowSizes, plainReply, scaledUReply, scaledVtReply, Filled};
 ghost use Rattle.spectra.specs.Density.{DensityValues};
 ghost use Rattle.recount.specs.Recount.{DensityFromCut};

@@ -1,3 +1,4 @@
 -- What the contracts of `qr` cite.
 pub mod Call
+pub mod Finite
 pub mod CallLaws

@@ -17,11 +17,25 @@ pub struct Factored {
     pub rank: usize,
 }
 
+// Whether every number of s is finite. The loop has one way out, so that the back end takes several numbers at once.
+fn every_finite(s: &[f64]) -> bool
+    ensures { λ b. ⌜ b ≡ allFinite (now (s .entry)) ⌝ }
+{
+    let mut every = true;
+    let mut i = 0;
+    while i < s.len() {
+        let one = numbers::is_finite(s[i]);
+        every = every & one;
+        i += 1;
+    }
+    every
+}
+
 fn both_finite(q: &[f64], r: &[f64]) -> bool
     ensures { λ b. ⌜ b ≡ allFinite (now (q .entry)) && allFinite (now (r .entry)) ⌝ }
 {
-    if values::all_finite(q) {
-        return values::all_finite(r);
+    if every_finite(q) {
+        return every_finite(r);
     }
     false
 }
@@ -121,7 +135,7 @@ fn check(a: &[f64], rows: usize, cols: usize, q: usize, r: usize, scratch: usize
     let Answer::Done = second else {
         return second;
     };
-    complex::check_components(a)
+    components::check_components(a)
 }
 
 // Thin QR of the column-major matrix a of rows by cols: q gets orthonormal columns, column-major, r is row-major with

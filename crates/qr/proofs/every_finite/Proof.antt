@@ -1,0 +1,44 @@
+-- `qr::every_finite` meets its contract. The loop's invariant: what is left decides with what was seen. Assumes nothing.
+use mathlib.Core.Path.{_≡_, refl}
+use mathlib.Core.Bool.{_&&_}
+use Prim.Native.Nat.{_≤_, _-_}
+use native.Mathlib.Omega.{arith}
+use lib.ListN.{length, drop}
+use Rattle.values.specs.Lists.{allFinite}
+use Rattle.qr.specs.Finite.{finite-more, finite-end}
+use borrow.Author.Needs.{needs}
+use Rattle.qr.proofs.every_finite.Statement.{statement}
+use Rattle.qr.proofs.every_finite.Tie as tie
+
+abbrev Inv-loop : tie.InvT-loop
+Inv-loop s every₀ i₀ every i = (i ≤ length s) × (allFinite s ≡ (every && allFinite (drop i s)))
+
+abbrev μ-loop : tie.MeasureT-loop
+μ-loop s every₀ i₀ every i = length s - i
+
+loop-holds : tie.Need-loop-holds Inv-loop μ-loop
+loop-holds c = (omega arith, refl)
+
+mul-is-finite : tie.Need-mul-is-finite Inv-loop μ-loop
+mul-is-finite c = omega arith
+
+shared-slice-read-is-finite : tie.Need-shared-slice-read-is-finite Inv-loop μ-loop
+shared-slice-read-is-finite c = omega arith
+
+is-finite-requires : tie.Need-is-finite-requires Inv-loop μ-loop
+is-finite-requires c κs = search needs
+
+add-i : tie.Need-add-i Inv-loop μ-loop
+add-i c = omega (arith, c .before .before .loop-test .taken)
+
+loop-less : tie.Need-loop-less Inv-loop μ-loop
+loop-less c = omega (arith, c .before .before .loop-test .taken)
+
+loop-again : tie.Need-loop-again Inv-loop μ-loop
+loop-again c = (omega (arith, c .before .before .loop-test .taken), finite-more _ _ (c .before .before .before .loop .every) (c .before .before .loop-test .taken) (c .before .before .before .loop .inv .1) (c .is-finite .ensures))
+
+returns : tie.Need-returns Inv-loop μ-loop
+returns c = finite-end _ _ (c .before .loop .every) (c .loop-test .left) (c .before .loop .inv .1)
+
+pub every-finite-spec : {M : Type 1} → statement M
+every-finite-spec = tie.close (tie.spec Inv-loop μ-loop loop-holds mul-is-finite shared-slice-read-is-finite is-finite-requires add-i loop-less loop-again returns)
