@@ -307,15 +307,15 @@ join-end zero new cleared rest old h = refl
 join-end (suc x) new cleared rest old h = worked-new (suc x) (cleared ++ rest) old h
 
 -- no refusal before the work has a number from 8 on
-refuse-small : (t : Bool) (k p : ℕ) (b : Reply) → k < 8 → b .0 < 8 → refuse t (k, p) b .0 < 8
+pub refuse-small : (t : Bool) (k p : ℕ) (b : Reply) → k < 8 → b .0 < 8 → refuse t (k, p) b .0 < 8
 refuse-small true k p b h i = h
 refuse-small false k p b h i = i
 
-after-small : (k : ℕ) (x b : Reply) → x .0 < 8 → b .0 < 8 → after k x b .0 < 8
+pub after-small : (k : ℕ) (x b : Reply) → x .0 < 8 → b .0 < 8 → after k x b .0 < 8
 after-small zero x b h i = i
 after-small (suc k) x b h i = h
 
-components-small : (i : ℕ) (l : List Float) → components i l .0 < 8
+pub components-small : (i : ℕ) (l : List Float) → components i l .0 < 8
 unfolding components
 components-small i [] = omega arith
 components-small i (x ∷ l) = refuse-small (not (allowed x)) 7 (i / 2) (components (suc i) l) (omega arith) (components-small (suc i) l)
@@ -352,7 +352,7 @@ tests-small a m n u s vt scratch =
     after-small (sizeTest m n .0) (sizeTest m n) (andThen l (components 0 a)) (size-small m n)
     (after-small (l .0) l (components 0 a) (lengths-small m n (length a) u s vt scratch) (components-small 0 a))
 
-stays : (k : ℕ) (x b : Reply) → (k ≡ 0 → ⊥) → x ≡ after k x b
+pub stays : (k : ℕ) (x b : Reply) → (k ≡ 0 → ⊥) → x ≡ after k x b
 stays zero x b h = absurd (h refl)
 stays (suc k) x b h = refl
 

@@ -1,0 +1,3 @@
+-- What the contracts of `cutplanes` cite.
+pub mod CutPlanes
+pub mod CutPlanesLaws

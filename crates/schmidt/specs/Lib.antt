@@ -1,0 +1,3 @@
+-- What the contracts of `schmidt` cite.
+pub mod Schmidt
+pub mod SchmidtLaws
