@@ -127,6 +127,13 @@ uint32_t zg_hermitian_eigenvalues(const double *a, size_t a_len, size_t dim, dou
 uint32_t zg_schmidt_values_from_density(const double *rho, size_t rho_len, size_t dim, double *out, size_t out_len,
                                         double *scratch, size_t scratch_len, size_t *place, size_t *count);
 
+/* Slices: state 0 (exactly 2*2^n numbers), list 1, out 2 (2^side), scratch 3 (8*2^n + 2*2^side). The Schmidt values of the
+ * cut: the singular values of its matrix, 9 where one is not finite, then the finish. Refused as a cut by 1 to 5, then by
+ * 6 to 9. */
+uint32_t zg_dense_schmidt_values(const double *state, size_t state_len, size_t n, const size_t *list, size_t list_len,
+                                 size_t cap, double *out, size_t out_len, double *scratch, size_t scratch_len,
+                                 size_t *place, size_t *count);
+
 /* ---- ranks and sites */
 
 /* How many values are above epsilon times the first, at least 1, at most max_bond_dim. Any bits; the answer is 0. */

@@ -144,6 +144,20 @@ extern "C" {
         place: &mut usize,
         count: &mut usize,
     ) -> u32;
+    pub fn zg_dense_schmidt_values(
+        state: *const f64,
+        state_len: usize,
+        n: usize,
+        list: *const usize,
+        list_len: usize,
+        cap: usize,
+        out: *mut f64,
+        out_len: usize,
+        scratch: *mut f64,
+        scratch_len: usize,
+        place: &mut usize,
+        count: &mut usize,
+    ) -> u32;
     pub fn zg_truncated_svd_rank(
         values: *const f64,
         values_len: usize,

@@ -1,11 +1,32 @@
 //! Schmidt values and spectra.
-use crate::{area, cut_matrix, ffi, numbers_of, refusal::answered, svd_jacobi, Complex, Refusal};
+use crate::{area, ffi, numbers_of, power, refusal::answered, Complex, Refusal};
 
-/// The Schmidt values of the cut between the listed qubits and the rest, falling, their squares summing to 1:
-/// [`cut_matrix`], the singular values of [`svd_jacobi`], then [`finish_schmidt_values`].
+/// The Schmidt values of the cut between the listed qubits and the rest, falling, their squares summing to 1: the
+/// singular values of [`crate::cut_matrix`], finished as by [`finish_schmidt_values`].
 pub fn dense_schmidt_values(state: &[Complex], n: usize, list: &[usize], cap: usize) -> Result<Vec<f64>, Refusal> {
-    let cut = cut_matrix(state, n, list, cap)?;
-    finish_schmidt_values(&svd_jacobi(&cut.cells, cut.rows, cut.columns)?.s)
+    let side = list.len().min(n.saturating_sub(list.len()));
+    let mut out = vec![0.0; power(side)];
+    let mut scratch = vec![0.0; 8 * power(n) + 2 * power(side)];
+    let (mut place, mut count) = (0, 0);
+    let (s, s_len) = numbers_of(state);
+    let number = unsafe {
+        ffi::zg_dense_schmidt_values(
+            s,
+            s_len,
+            n,
+            list.as_ptr(),
+            list.len(),
+            cap,
+            out.as_mut_ptr(),
+            out.len(),
+            scratch.as_mut_ptr(),
+            scratch.len(),
+            &mut place,
+            &mut count,
+        )
+    };
+    out.truncate(count);
+    answered(number, place, out)
 }
 
 /// Sorted downward, cut at the floor, scaled to unit length.

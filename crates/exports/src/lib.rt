@@ -31,6 +31,7 @@ ghost use Rattle.fills.specs.Sources.{siteCell, isometryCell, scaledUCell, vtCe
 ghost use Rattle.sites.specs.Calls.{columnSizes, rowSizes, plainReply, scaledUReply, scaledVtReply, Filled};
 ghost use Rattle.spectra.specs.Density.{DensityValues};
 ghost use Rattle.recount.specs.Recount.{DensityFromCut};
+ghost use Rattle.schmidt.specs.Schmidt.{Schmidt};
 
 // Inner: a number of the paper's table, as C has it.
 fn small(n: usize) -> u32
@@ -328,6 +329,26 @@ pub extern "C" fn zg_schmidt_values_from_density(
         (λ k. DensityValues (now (rho .entry)) dim (now (out .entry)) (now (scratch .entry)) k (now (out .exit)) (now (scratch .exit))) r (now (place .exit)) (now (count .exit)) ⌝ }
 {
     let k = spectra::schmidt_values_from_density(rho, dim, out, scratch);
+    *count = k.count;
+    let answer = k.answer;
+    told(answer, place)
+}
+
+#[no_mangle]
+pub extern "C" fn zg_dense_schmidt_values(
+    state: &[f64],
+    n: usize,
+    list: &[usize],
+    cap: usize,
+    out: &mut [f64],
+    scratch: &mut [f64],
+    place: &mut usize,
+    count: &mut usize,
+) -> u32
+    ensures { λ r. ⌜ ExportedWith (λ k. k .answer) (λ k. k .count)
+        (λ k. Schmidt (now (state .entry)) n (now (list .entry)) cap (now (out .entry)) (now (scratch .entry)) k (now (out .exit)) (now (scratch .exit))) r (now (place .exit)) (now (count .exit)) ⌝ }
+{
+    let k = schmidt::dense_schmidt_values(state, n, list, cap, out, scratch);
     *count = k.count;
     let answer = k.answer;
     told(answer, place)
