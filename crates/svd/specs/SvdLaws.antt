@@ -259,7 +259,7 @@ pub finite-third : (u s vt : List Float) {t : Bool} → allFinite u ≡ true →
 unfolding finiteFactors
 finite-third u s vt a b c = rw (a, b) c
 
-zeroed-all : (l : List Float) → zeroed (length l) l ≡ zeros (length l)
+pub zeroed-all : (l : List Float) → zeroed (length l) l ≡ zeros (length l)
 unfolding zeroed
 zeroed-all l =
     let e : length l ≤ length l = omega arith in
@@ -302,7 +302,7 @@ end-number u s vt = pick (finiteFactors u s vt)
     pick true = inl refl
     pick false = inr (omega arith)
 
-join-end : (x : ℕ) (new cleared rest old : List Float) → (x ≡ 0) ⊎ (8 ≤ x) → ifDone x new cleared ++ rest ≡ atEnd x (new ++ rest) (cleared ++ rest) old
+pub join-end : (x : ℕ) (new cleared rest old : List Float) → (x ≡ 0) ⊎ (8 ≤ x) → ifDone x new cleared ++ rest ≡ atEnd x (new ++ rest) (cleared ++ rest) old
 join-end zero new cleared rest old h = refl
 join-end (suc x) new cleared rest old h = worked-new (suc x) (cleared ++ rest) old h
 
