@@ -2,12 +2,13 @@
 use mathlib.Core.Path.{_≡_, refl, sym, ap, _∙_}
 use mathlib.Core.Bool.{Bool, true, false, not, _&&_}
 use mathlib.Core.List.{List, [], _∷_}
-use Prim.Native.Nat.{ℕ, suc, _+_, _/_, _≤_, _<_}
+use Prim.Native.Nat.{ℕ, zero, suc, _+_, _/_, _≤_, _<_}
 use native.Mathlib.Numerals.{add-one}
+use native.Mathlib.Omega.{arith}
 use lib.Ieee.{Float, nan}
 use lib.ListN.{length, getD, drop, drop-of-length-le}
 use lib.Seq.{drop-cons}
-use Rattle.answers.specs.Paper.{done, refuse}
+use Rattle.answers.specs.Paper.{Reply, done, refuse}
 use Rattle.numbers.specs.Numbers.{allowed}
 use Rattle.complex.specs.Cells.{components}
 
@@ -50,3 +51,21 @@ every-done [] i e = refl
 every-done (x ∷ l) i e =
     ap (λ (b : Bool). refuse (not b) (7, i / 2) (components (suc i) l)) (left-true (allowed x) (everyAllowed l) e)
     ∙ every-done l (suc i) (right-true (allowed x) (everyAllowed l) e)
+
+done-allowed : (b : Bool) (i : ℕ) (rest : Reply) → refuse (not b) (7, i) rest .0 ≡ 0 → (b ≡ true) × (rest .0 ≡ 0)
+done-allowed true i rest e = (refl, e)
+done-allowed false i rest e = absurd (omega arith)
+
+-- and where nothing is refused every number is allowed
+pub every-from-done : (s : List Float) (i : ℕ) → components i s .0 ≡ 0 → everyAllowed s ≡ true
+unfolding everyAllowed components
+every-from-done [] i e = refl
+every-from-done (x ∷ l) i e =
+    let d = done-allowed (allowed x) (i / 2) (components (suc i) l) e in
+    ap (λ (b : Bool). b && everyAllowed l) (d .0) ∙ every-from-done l (suc i) (d .1)
+
+pub every-at : (s : List Float) (j : ℕ) → everyAllowed s ≡ true → j < length s → allowed (getD s j nan) ≡ true
+unfolding everyAllowed
+every-at [] j e h = absurd (omega arith)
+every-at (x ∷ l) zero e h = left-true (allowed x) (everyAllowed l) e
+every-at (x ∷ l) (suc j) e h = every-at l j (right-true (allowed x) (everyAllowed l) e) (omega arith)

@@ -1,6 +1,6 @@
 -- `dense_reduced_density`: its answer, and what it leaves in the lent slices. Assumes nothing.
 use mathlib.Core.Path.{_≡_}
-use mathlib.Core.Bool.{not}
+use mathlib.Core.Bool.{not, true}
 use mathlib.Core.List.{List}
 use Prim.Native.Nat.{ℕ, _*_, _^_, _≤_}
 use lib.Dec.{ltb, eqb}
@@ -10,6 +10,7 @@ use Rattle.answers.specs.declared.Answer.{Answer}
 use Rattle.answers.specs.Paper.{Reply, paper, done, refuse, andThen, ifDone}
 use Rattle.complex.specs.Cells.{written, components}
 use Rattle.complex.specs.Zeros.{zeroed}
+use Rattle.components.specs.Every.{everyAllowed}
 use Rattle.offsets.specs.Calls.{densityRefusal}
 use Rattle.qubits.specs.Lists.{Listed}
 use Rattle.entries.specs.Entries.{densityCell}
@@ -40,3 +41,4 @@ pub record Accepted (s : List Float) (n : ℕ) (l : List ℕ) (o : ℕ) : Type 0
   pub few : length l ≤ 6
   pub state : length s ≡ 2 * 2 ^ n
   pub room : 2 * (2 ^ length l * 2 ^ length l) ≤ o
+  pub allowed : everyAllowed s ≡ true

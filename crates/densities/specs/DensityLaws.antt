@@ -15,6 +15,7 @@ use Rattle.answers.specs.Paper.{Reply, paper, done, refuse, andThen}
 use Rattle.answers.specs.PaperLaws.{refuse-done, andThen-done, paper-one, done-new, done-old}
 use Rattle.complex.specs.Cells.{components, written}
 use Rattle.complex.specs.Zeros.{zeroed}
+use Rattle.components.specs.Every.{every-from-done}
 use Rattle.masks.specs.SubmaskLaws.{others-lt}
 use Rattle.qubits.specs.Lists.{densitySizes, qubitSet}
 use Rattle.qubits.specs.NamedLaws.{not-empty, pow-small, sizes-product}
@@ -50,7 +51,7 @@ accepted s n l cap o w e =
     let d = lengths-done (2 ^ n) (2 ^ length l) (length s) o w (b .0) in
     let q = density-listed n cap l (a .0) in
     let z : length l ≡ 0 → ⊥ = not-empty n l (andThen-done (densitySizes n (length l) cap) (qubitSet n l) (a .0) .1) in
-    (record { listed = q .0; some = positive (length l) z; few = q .1; state = d .0; room = d .1 }, d .2)
+    (record { listed = q .0; some = positive (length l) z; few = q .1; state = d .0; room = d .1; allowed = every-from-done s 0 (b .1) }, d .2)
 
 -- ---- the stages
 

@@ -91,7 +91,7 @@ fn fill_density(state: &[f64], n: usize, list: &[usize], out: &mut [f64])
     let mask = qubits::mask_of(list, n);
     let mut offsets = [0usize; 64];
     entries::fill_offsets(list, n, dim, &mut offsets);
-    rows::fill_lower(state, n, size - 1 - mask, groups, &offsets, dim, out);
+    diagonals::fill_lower(state, n, size - 1 - mask, groups, &offsets, dim, out);
     entries::mirror(out, dim);
 }
 

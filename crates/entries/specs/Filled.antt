@@ -100,8 +100,16 @@ module _ (dim t : ℕ) (f : ℕ → ℕ → Complex) (s now end : List Float) (u
       subst (λ (x : List Float). PairTurns dim t f s x (u + 1)) (sym ee) whole
 
 -- a loop's last turn
-pub pair-end : (dim t : ℕ) (f : ℕ → ℕ → Complex) (s end : List Float) (u : ℕ) → PairTurns dim t f s end u → t + 1 ≤ u → PairTurns dim t f s end (t + 1)
-pair-end dim t f s end u i h = let e : u ≡ t + 1 = omega (arith, i .within) in subst (λ (x : ℕ). PairTurns dim t f s end x) e i
+pub pair-end : (dim t : ℕ) (f : ℕ → ℕ → Complex) (s end : List Float) (u stop : ℕ) → PairTurns dim t f s end u → stop ≤ u → stop ≤ t + 1
+    → PairTurns dim t f s end stop
+pair-end dim t f s end u stop i h g = record {
+  within = g;
+  long = i .long;
+  surplus = i .surplus;
+  upper = record { at = λ c l. i .upper .at c (omega arith) };
+  lower = record { at = λ c l. i .lower .at c (omega arith) };
+  kept = i .kept;
+}
 
 pub lower-begin : (dim : ℕ) (f : ℕ → ℕ → Complex) (s : List Float) → LowerTurns dim f s s 0
 lower-begin dim f s = record { within = omega arith; long = refl; surplus = refl; rows = λ r c h g. absurd (omega arith) }

@@ -38,11 +38,13 @@ plane-entry : (n : ℕ) (s : List Float) (mask : ℕ) (offsets : List ℕ) (dim 
 plane-entry n s mask offsets dim m planes t u g ht hu =
     total-below m _ _ (λ e h. ap₂ (λ (x y : Complex). product x (conjugate y)) (g .are e t h ht) (g .are e u h hu))
 
-total-more : (m : ℕ) (f : ℕ → Complex) → sum (total m f) (f m) ≡ total (m + 1) f
+-- one more term
+pub total-more : (m : ℕ) (f : ℕ → Complex) → sum (total m f) (f m) ≡ total (m + 1) f
 unfolding total
 total-more m f = ap (λ (x : ℕ). total x f) (sym (add-one m))
 
-total-none : (f : ℕ → Complex) → complexOf zeroFloat zeroFloat ≡ total 0 f
+-- no term yet
+pub total-none : (f : ℕ → Complex) → complexOf zeroFloat zeroFloat ≡ total 0 f
 unfolding total
 total-none f = refl
 

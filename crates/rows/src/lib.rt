@@ -1,4 +1,4 @@
-// The lower half of a density, two rows at a time over amplitudes in planes. Inner: densities stands on it.
+// The lower half of a density, two rows at a time over amplitudes in planes. Inner: diagonals stands on it.
 ghost use mathlib.Core.Path.{_≡_};
 ghost use Prim.Native.Nat.{_+_, _*_, _/_, _%_, _<_, _≤_};
 ghost use lib.ListN.{length, getD};
@@ -132,7 +132,7 @@ fn fill_rows(planes: &[f64], groups: usize, dim: usize, out: &mut [f64])
     }
 }
 
-// The lower half: in blocks where it is small, and otherwise two rows at a time.
+// The lower half, two rows at a time.
 pub fn fill_lower(
     state: &[f64],
     n: usize,
@@ -146,10 +146,6 @@ pub fn fill_lower(
     requires { ⌜ Square dim (now out) × (groups * dim ≤ 4096) ⌝ }
     ensures { λ _. ⌜ LowerTurns dim (tableEntry n (now (state .entry)) mask groups (now (offsets .entry))) (now (out .entry)) (now (out .exit)) (dim / 2) ⌝ }
 {
-    if dim < 16 {
-        entries::fill_lower(state, n, mask, groups, offsets, dim, out);
-        return;
-    }
     let mut planes = [0.0f64; 8192];
     gather(state, n, mask, groups, offsets, dim, &mut planes);
     fill_rows(&planes, groups, dim, out);

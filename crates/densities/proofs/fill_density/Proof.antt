@@ -39,7 +39,7 @@ slice-aggregate-fill-lower : tie.Need-slice-aggregate-fill-lower
 slice-aggregate-fill-lower c = search needs
 
 fill-lower-requires : tie.Need-fill-lower-requires
-fill-lower-requires c κs = let z = c .before .before .before .before .before .before .before .before .before .before .before .before in (density-ready _ _ _ (now (z .args .out)) (z .pre) _ _ _ _ _ (c .before .before .before .before .before .before .before .before .bit .ensures) (c .before .before .before .fill-offsets .ensures) (rw (c .before .before .before .before .before .before .before .before .bit .ensures) (side-small (length (now (z .args .list))) (z .pre .few))) (c .before .before .before .before .before .before .before .bit2 .ensures) (c .before .before .before .before .before .mask-of .ensures .0), (density-square _ _ _ _ (z .pre) _ (c .before .before .before .before .before .before .before .before .bit .ensures), density-few _ _ _ (now (z .args .out)) (z .pre) _ _ (c .before .before .before .before .before .before .before .before .bit .ensures) (c .before .before .before .before .before .before .bit3 .ensures)))
+fill-lower-requires c κs = let z = c .before .before .before .before .before .before .before .before .before .before .before .before in ((density-ready _ _ _ (now (z .args .out)) (z .pre) _ _ _ _ _ (c .before .before .before .before .before .before .before .before .bit .ensures) (c .before .before .before .fill-offsets .ensures) (rw (c .before .before .before .before .before .before .before .before .bit .ensures) (side-small (length (now (z .args .list))) (z .pre .few))) (c .before .before .before .before .before .before .before .bit2 .ensures) (c .before .before .before .before .before .mask-of .ensures .0), z .pre .allowed), (density-square _ _ _ _ (z .pre) _ (c .before .before .before .before .before .before .before .before .bit .ensures), density-few _ _ _ (now (z .args .out)) (z .pre) _ _ (c .before .before .before .before .before .before .before .before .bit .ensures) (c .before .before .before .before .before .before .bit3 .ensures)))
 
 mirror-requires : tie.Need-mirror-requires
 mirror-requires c κs = let z = c .before .before .before .before .before .before .before .before .before .before .before .before .before .before .before .before in let q = density-square (now (z .args .state)) (z .args .n) (now (z .args .list)) (now (z .args .out)) (z .pre) _ (c .before .before .before .before .before .before .before .before .before .before .before .before .bit .ensures) in record { small = q .small; room = omega (arith, q .room, c .before .before .before .fill-lower .ensures .long) }

@@ -1,7 +1,7 @@
 -- `entries::block_sums` meets its contract. The loop's invariant and its turn are those of `Blocks`. Assumes nothing.
 use native.Mathlib.Omega.{arith}
 use mathlib.Core.Path.{refl, _∙_}
-use Prim.Native.Nat.{_-_}
+use Prim.Native.Nat.{_+_, _-_}
 use Rattle.entries.specs.Blocks.{SumTurns, sums-begin, sums-turn, sums-end, reached, turn-same}
 use borrow.Author.Needs.{needs}
 use Rattle.entries.proofs.block_sums.Statement.{statement}
@@ -11,7 +11,7 @@ abbrev Inv-loop : tie.InvT-loop
 Inv-loop state n mask groups a0 a1 b0 b1 block₀ base₀ e₀ block base e = SumTurns n state mask groups a0 a1 b0 b1 block base e
 
 abbrev μ-loop : tie.MeasureT-loop
-μ-loop state n mask groups a0 a1 b0 b1 block₀ base₀ e₀ block base e = groups - e
+μ-loop state n mask groups a0 a1 b0 b1 block₀ base₀ e₀ block base e = groups + 1 - e
 
 new-requires : tie.Need-new-requires Inv-loop μ-loop
 new-requires c κs = search needs
@@ -44,10 +44,10 @@ loop-less : tie.Need-loop-less Inv-loop μ-loop
 loop-less c = search needs
 
 loop-again : tie.Need-loop-again Inv-loop μ-loop
-loop-again c = sums-turn _ _ _ _ _ _ _ _ _ _ _ _ _ (c .before .before .before .before .before .before .before .before .before .before .pre) (c .before .before .before .before .before .before .before .loop .inv) (c .before .before .before .before .before .before .loop-test .taken) (c .before .turn .ensures ∙ turn-same _ (c .before .before .before .before .before .read-cell .ensures) (c .before .before .before .before .read-cell2 .ensures) (c .before .before .before .read-cell3 .ensures) (c .before .before .read-cell4 .ensures)) (c .next-submask .ensures)
+loop-again c = sums-turn _ _ _ _ _ _ _ _ _ _ _ _ _ (c .before .before .before .before .before .before .before .before .before .before .pre) (c .before .before .before .before .before .before .before .loop .inv) (omega arith) (c .before .turn .ensures ∙ turn-same _ (c .before .before .before .before .before .read-cell .ensures) (c .before .before .before .before .read-cell2 .ensures) (c .before .before .before .read-cell3 .ensures) (c .before .before .read-cell4 .ensures)) (c .next-submask .ensures)
 
 returns : tie.Need-returns Inv-loop μ-loop
-returns c = sums-end _ _ _ _ _ _ _ _ _ _ _ (c .before .loop .inv) (c .loop-test .left)
+returns c = sums-end _ _ _ _ _ _ _ _ _ _ _ (c .before .loop .inv) (omega arith)
 
 pub block-sums-spec : {M : Type 1} → statement M
 block-sums-spec =

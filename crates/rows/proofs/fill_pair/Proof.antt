@@ -1,6 +1,5 @@
 -- `rows::fill_pair` meets its contract: the sums of both rows, and each row written. Assumes nothing.
 use mathlib.Core.Path.{refl}
-use Prim.Native.Nat.{_-_}
 use native.Mathlib.Omega.{arith}
 use Rattle.rows.specs.RowSums.{zero-sums, pair-written}
 use borrow.Author.Needs.{needs}

@@ -1,0 +1,89 @@
+-- Two rows of a density from the blocks left of the diagonal and the three entries of the diagonal block. Assumes nothing.
+use mathlib.Core.Path.{_≡_, refl, sym, ap, ap₂, subst, _∙_}
+use mathlib.Core.List.{List}
+use mathlib.Core.Logic.{⊎-elim}
+use Prim.Native.Nat.{ℕ, _+_, _*_, _≤_, _<_}
+use native.Mathlib.Nat.{eq-or-lt-of-le}
+use native.Mathlib.Omega.{arith}
+use lib.Arith.{digits-lt}
+use lib.Ieee.{Float}
+use Rattle.complex.specs.declared.Complex.{Complex}
+use Rattle.complex.specs.Cells.{setCell}
+use Rattle.entries.specs.CellChanges.{length-setCell, cell-same, cell-other, past-cells}
+use Rattle.entries.specs.Squares.{Square, entryAt}
+use Rattle.entries.specs.Mirrored.{cell-in, same-row}
+use Rattle.entries.specs.Pairs.{setPair, RowIs, length-setPair, past-pair, row-more, entry-kept}
+use Rattle.entries.specs.Filled.{PairTurns, LowerTurns}
+
+-- the entries of the diagonal block of the rows 2t and 2t + 1, but for the one above the diagonal
+unfoldable pub cornerSet : (ℕ → ℕ → Complex) → ℕ → ℕ → List Float → List Float
+cornerSet f dim t s =
+    setPair (setCell s (2 * t * dim + 2 * t) (f (2 * t) (2 * t))) dim (2 * t + 1) (2 * t) (f (2 * t + 1) (2 * t)) (f (2 * t + 1) (2 * t + 1))
+
+-- the two writes that set them
+pub corner-written : (f : ℕ → ℕ → Complex) (dim t : ℕ) (old mid end : List Float) (x y z : Complex) → mid ≡ setCell old (2 * t * dim + 2 * t) x
+    → end ≡ setPair mid dim (2 * t + 1) (2 * t) y z → x ≡ f (2 * t) (2 * t) → y ≡ f (2 * t + 1) (2 * t) → z ≡ f (2 * t + 1) (2 * t + 1)
+    → end ≡ cornerSet f dim t old
+unfolding cornerSet
+corner-written f dim t old mid end x y z em ee ex ey ez =
+    ee ∙ ap₂ (λ (s : List Float) (k : Complex). setPair s dim (2 * t + 1) (2 * t) k z) (em ∙ ap (setCell old (2 * t * dim + 2 * t)) ex) ey
+    ∙ ap (setPair (setCell old (2 * t * dim + 2 * t) (f (2 * t) (2 * t))) dim (2 * t + 1) (2 * t) (f (2 * t + 1) (2 * t))) ez
+
+module _ (dim : ℕ) (f : ℕ → ℕ → Complex) (old now mid : List Float) (t : ℕ) (p : Square dim old) (h : 2 * t + 1 < dim)
+    (i : LowerTurns dim f old now t) (j : PairTurns dim t f now mid t) where
+  abbrev one : List Float
+  one = setCell mid (2 * t * dim + 2 * t) (f (2 * t) (2 * t))
+
+  abbrev end : List Float
+  end = setPair one dim (2 * t + 1) (2 * t) (f (2 * t + 1) (2 * t)) (f (2 * t + 1) (2 * t + 1))
+
+  mid-room : Square dim mid
+  mid-room = record { small = p .small; room = omega (arith, p .room, i .long, j .long) }
+
+  one-room : Square dim one
+  one-room = record { small = p .small; room = omega (arith, mid-room .room, length-setCell mid (2 * t * dim + 2 * t) (f (2 * t) (2 * t))) }
+
+  -- an entry of another row
+  one-other : (r c : ℕ) → c < dim → (r ≡ 2 * t → ⊥) → entryAt one dim r c ≡ entryAt mid dim r c
+  one-other r c hc n =
+      cell-other mid (2 * t * dim + 2 * t) (r * dim + c) (f (2 * t) (2 * t)) (λ e. n (same-row dim r c (2 * t) (2 * t) hc (omega arith) e))
+
+  lower : RowIs end dim (2 * t + 1) (2 * t + 2) (f (2 * t + 1))
+  lower =
+      row-more one dim (2 * t + 1) (2 * t) (f (2 * t + 1) (2 * t)) (f (2 * t + 1) (2 * t + 1)) one-room h h (f (2 * t + 1)) refl refl
+      (record { at = λ c g. one-other (2 * t + 1) c (omega arith) (λ e. omega arith) ∙ j .lower .at c g })
+
+  kept : (r c : ℕ) → c < dim → (r ≡ 2 * t + 1 → ⊥) → entryAt end dim r c ≡ entryAt one dim r c
+  kept r c hc n = entry-kept one dim (2 * t + 1) (2 * t) (f (2 * t + 1) (2 * t)) (f (2 * t + 1) (2 * t + 1)) r c h hc n
+
+  upper : (c : ℕ) → c ≤ 2 * t → entryAt end dim (2 * t) c ≡ f (2 * t) c
+  upper c g =
+      kept (2 * t) c (omega arith) (λ e. omega arith)
+      ∙ ⊎-elim
+      (λ (e : c ≡ 2 * t).
+      ap (λ (x : ℕ). entryAt one dim (2 * t) x) e
+      ∙ cell-same mid (2 * t * dim + 2 * t) (f (2 * t) (2 * t)) (cell-in dim mid (2 * t) (2 * t) mid-room (omega arith) (omega arith)) ∙ ap (f (2 * t)) (sym e))
+      (λ (q : c < 2 * t). cell-other mid (2 * t * dim + 2 * t) (2 * t * dim + c) (f (2 * t) (2 * t)) (λ e. omega arith) ∙ j .upper .at c q)
+      (eq-or-lt-of-le g)
+
+  whole : LowerTurns dim f old end (t + 1)
+  whole = record {
+    within = omega arith;
+    long = length-setPair one dim (2 * t + 1) (2 * t) (f (2 * t + 1) (2 * t)) (f (2 * t + 1) (2 * t + 1)) ∙ length-setCell mid (2 * t * dim + 2 * t) (f (2 * t) (2 * t)) ∙ j .long ∙ i .long;
+    surplus = past-pair one dim (2 * t + 1) (2 * t) (f (2 * t + 1) (2 * t)) (f (2 * t + 1) (2 * t + 1)) h h
+        ∙ past-cells mid (dim * dim) (2 * t * dim + 2 * t) (f (2 * t) (2 * t)) (digits-lt (omega arith) (omega arith)) ∙ j .surplus ∙ i .surplus;
+    rows = λ r c hr hc.
+        ⊎-elim
+        (λ (e : r ≡ 2 * t + 1). ap (λ (x : ℕ). entryAt end dim x c) e ∙ lower .at c (omega arith) ∙ ap (λ (x : ℕ). f x c) (sym e))
+        (λ (g : r < 2 * t + 1).
+        ⊎-elim
+        (λ (e : r ≡ 2 * t). ap (λ (x : ℕ). entryAt end dim x c) e ∙ upper c (omega arith) ∙ ap (λ (x : ℕ). f x c) (sym e))
+        (λ (l : r < 2 * t). kept r c (omega arith) (λ e. omega arith) ∙ one-other r c (omega arith) (λ e. omega arith) ∙ j .kept r c l (omega arith) ∙ i .rows r c l hc)
+        (eq-or-lt-of-le (omega arith)))
+        (eq-or-lt-of-le (omega arith));
+  }
+
+  -- TWO MORE ROWS
+  pub corner-lower : (last : List Float) → last ≡ cornerSet f dim t mid → LowerTurns dim f old last (t + 1)
+  unfolding cornerSet
+  corner-lower last e = subst (λ (x : List Float). LowerTurns dim f old x (t + 1)) (sym e) whole
