@@ -16,7 +16,8 @@ use Rattle.complex.specs.CellLaws.{length-cells, cell-written, cells-same}
 use Rattle.complex.specs.Planes.{planeAt, setPlane, length-setPlane}
 use Rattle.columns.specs.Dot.{term}
 use Rattle.columns.specs.Columns.{cellFrom, columnOf, squaresTo, lessCell, lessened, scaledInto}
-use Rattle.columns.specs.ColumnLaws.{written-all, squares-more, scaled-more}
+use Rattle.columns.specs.ColumnLaws.{squares-more, scaled-more}
+use Rattle.basis.specs.Matrix.{cell-of}
 
 unfoldable pub woven : ℕ → List Float → List Float
 unfolding planeAt
@@ -24,10 +25,7 @@ woven rows v = cellsOf rows (planeAt v rows)
 
 pub cell-woven : (rows : ℕ) (v : List Float) (t : ℕ) → t < rows → cellAt (woven rows v) t ≡ planeAt v rows t
 unfolding woven
-cell-woven rows v t h =
-    let f = planeAt v rows in
-    ap (λ (l : List Float). cellAt l t) (sym (written-all rows f (cellsOf rows f) (length-cells rows f)))
-    ∙ cell-written rows t f (cellsOf rows f) h
+cell-woven rows v t h = cell-of rows t (planeAt v rows) h
 
 -- ---- a cell that is set, and the others
 

@@ -1,6 +1,6 @@
 // Columns of complex cells, as modified Gram-Schmidt works on them. Inner: callers keep the lengths.
-// A basis column stands in q as cells; the column v that is worked on is held as planes, all its real
-// parts and then all its imaginary parts, so that two rows at a time are multiplied and added.
+// The basis columns of q (crate basis) and the column v that is worked on are held as planes, all real
+// parts and then all imaginary parts, so that two rows at a time are multiplied and added.
 use complex::Complex;
 ghost use mathlib.Core.Path.{_≡_};
 ghost use Prim.Native.Nat.{_+_, _*_, _<_, _≤_};
@@ -9,6 +9,7 @@ ghost use Rattle.numbers.specs.Root.{sqrtOf};
 ghost use Rattle.columns.specs.Dot.{addFirst, joined, term, quadsTo, tailTo, dotOf};
 ghost use Rattle.columns.specs.DotParts.{realParts, imaginaryParts, sumsOf};
 ghost use Rattle.columns.specs.Woven.{woven};
+ghost use Rattle.basis.specs.Matrix.{matrixOf};
 ghost use Rattle.columns.specs.Columns.{columnOf, normOf, lessened, scaledInto};
 
 // The real parts of the four sums of a dot product, or their imaginary parts.
@@ -61,21 +62,21 @@ impl Sums {
     }
 }
 
-// Row t of the column of q that starts at cell o, conjugated, times row t of v.
-pub fn dot_term(q: &[f64], o: usize, v: &[f64], rows: usize, t: usize) -> Complex
-    requires { ⌜ (2 * (o + t) + 1 < length (now q)) × (t < rows) × (length (now v) ≡ 2 * rows) ⌝ }
-    ensures { λ x. ⌜ x ≡ term (now (q .entry)) o (woven rows (now (v .entry))) t ⌝ }
+// Row t of the basis column i, conjugated, times row t of v.
+pub fn dot_term(q: &[f64], i: usize, v: &[f64], rows: usize, t: usize) -> Complex
+    requires { ⌜ (2 * (i * rows + rows) ≤ length (now q)) × (t < rows) × (length (now v) ≡ 2 * rows) ⌝ }
+    ensures { λ x. ⌜ x ≡ term (matrixOf rows (now (q .entry))) (i * rows) (woven rows (now (v .entry))) t ⌝ }
 {
-    complex::read_cell(q, o + t)
+    basis::read_cell(q, i, rows, t)
         .conj()
         .mul(complex::read_plane(v, rows, t))
 }
 
 // The real parts of the first n quads of rows. They and the imaginary parts have a loop each: in one
 // loop the sums are not kept two to a register.
-pub fn real_quads(q: &[f64], o: usize, v: &[f64], rows: usize, n: usize) -> Parts
-    requires { ⌜ (2 * (o + 4 * n) ≤ length (now q)) × (4 * n ≤ rows) × (length (now v) ≡ 2 * rows) ⌝ }
-    ensures { λ r. ⌜ r ≡ realParts (quadsTo (now (q .entry)) o (woven rows (now (v .entry))) n) ⌝ }
+pub fn real_quads(q: &[f64], i: usize, v: &[f64], rows: usize, n: usize) -> Parts
+    requires { ⌜ (2 * (i * rows + rows) ≤ length (now q)) × (4 * n ≤ rows) × (length (now v) ≡ 2 * rows) ⌝ }
+    ensures { λ r. ⌜ r ≡ realParts (quadsTo (matrixOf rows (now (q .entry))) (i * rows) (woven rows (now (v .entry))) n) ⌝ }
 {
     let mut sums = Parts {
         sum0: 0.0,
@@ -86,19 +87,19 @@ pub fn real_quads(q: &[f64], o: usize, v: &[f64], rows: usize, n: usize) -> Part
     for k in 0..n {
         let t = 4 * k;
         sums = Parts {
-            sum0: sums.sum0 + dot_term(q, o, v, rows, t).re,
-            sum1: sums.sum1 + dot_term(q, o, v, rows, t + 1).re,
-            sum2: sums.sum2 + dot_term(q, o, v, rows, t + 2).re,
-            sum3: sums.sum3 + dot_term(q, o, v, rows, t + 3).re,
+            sum0: sums.sum0 + dot_term(q, i, v, rows, t).re,
+            sum1: sums.sum1 + dot_term(q, i, v, rows, t + 1).re,
+            sum2: sums.sum2 + dot_term(q, i, v, rows, t + 2).re,
+            sum3: sums.sum3 + dot_term(q, i, v, rows, t + 3).re,
         };
     }
     sums
 }
 
 // The imaginary parts of the first n quads of rows.
-pub fn imaginary_quads(q: &[f64], o: usize, v: &[f64], rows: usize, n: usize) -> Parts
-    requires { ⌜ (2 * (o + 4 * n) ≤ length (now q)) × (4 * n ≤ rows) × (length (now v) ≡ 2 * rows) ⌝ }
-    ensures { λ r. ⌜ r ≡ imaginaryParts (quadsTo (now (q .entry)) o (woven rows (now (v .entry))) n) ⌝ }
+pub fn imaginary_quads(q: &[f64], i: usize, v: &[f64], rows: usize, n: usize) -> Parts
+    requires { ⌜ (2 * (i * rows + rows) ≤ length (now q)) × (4 * n ≤ rows) × (length (now v) ≡ 2 * rows) ⌝ }
+    ensures { λ r. ⌜ r ≡ imaginaryParts (quadsTo (matrixOf rows (now (q .entry))) (i * rows) (woven rows (now (v .entry))) n) ⌝ }
 {
     let mut sums = Parts {
         sum0: 0.0,
@@ -109,38 +110,38 @@ pub fn imaginary_quads(q: &[f64], o: usize, v: &[f64], rows: usize, n: usize) ->
     for k in 0..n {
         let t = 4 * k;
         sums = Parts {
-            sum0: sums.sum0 + dot_term(q, o, v, rows, t).im,
-            sum1: sums.sum1 + dot_term(q, o, v, rows, t + 1).im,
-            sum2: sums.sum2 + dot_term(q, o, v, rows, t + 2).im,
-            sum3: sums.sum3 + dot_term(q, o, v, rows, t + 3).im,
+            sum0: sums.sum0 + dot_term(q, i, v, rows, t).im,
+            sum1: sums.sum1 + dot_term(q, i, v, rows, t + 1).im,
+            sum2: sums.sum2 + dot_term(q, i, v, rows, t + 2).im,
+            sum3: sums.sum3 + dot_term(q, i, v, rows, t + 3).im,
         };
     }
     sums
 }
 
 // The n rows from row s on, past the last whole quad.
-pub fn dot_tail(q: &[f64], o: usize, v: &[f64], rows: usize, s: usize, sums: Sums, n: usize) -> Sums
-    requires { ⌜ (2 * (o + (s + n)) ≤ length (now q)) × (s + n ≤ rows) × (length (now v) ≡ 2 * rows) ⌝ }
-    ensures { λ r. ⌜ r ≡ tailTo (now (q .entry)) o (woven rows (now (v .entry))) s sums n ⌝ }
+pub fn dot_tail(q: &[f64], i: usize, v: &[f64], rows: usize, s: usize, sums: Sums, n: usize) -> Sums
+    requires { ⌜ (2 * (i * rows + rows) ≤ length (now q)) × (s + n ≤ rows) × (length (now v) ≡ 2 * rows) ⌝ }
+    ensures { λ r. ⌜ r ≡ tailTo (matrixOf rows (now (q .entry))) (i * rows) (woven rows (now (v .entry))) s sums n ⌝ }
 {
     let mut all = sums;
     for k in 0..n {
-        all = all.add_first(dot_term(q, o, v, rows, s + k));
+        all = all.add_first(dot_term(q, i, v, rows, s + k));
     }
     all
 }
 
-// The dot product of the column of q that starts at cell o with v.
-pub fn dot(q: &[f64], o: usize, v: &[f64], rows: usize) -> Complex
-    requires { ⌜ (2 * (o + rows) ≤ length (now q)) × (length (now v) ≡ 2 * rows) ⌝ }
-    ensures { λ r. ⌜ r ≡ dotOf (now (q .entry)) o (woven rows (now (v .entry))) rows ⌝ }
+// The dot product of the basis column i with v.
+pub fn dot(q: &[f64], i: usize, v: &[f64], rows: usize) -> Complex
+    requires { ⌜ (2 * (i * rows + rows) ≤ length (now q)) × (length (now v) ≡ 2 * rows) ⌝ }
+    ensures { λ r. ⌜ r ≡ dotOf (matrixOf rows (now (q .entry))) (i * rows) (woven rows (now (v .entry))) rows ⌝ }
 {
     let n = rows / 4;
     let done = 4 * n;
-    let re = real_quads(q, o, v, rows, n);
-    let im = imaginary_quads(q, o, v, rows, n);
+    let re = real_quads(q, i, v, rows, n);
+    let im = imaginary_quads(q, i, v, rows, n);
     let whole = Sums::of_parts(re, im);
-    let all = dot_tail(q, o, v, rows, done, whole, rows - done);
+    let all = dot_tail(q, i, v, rows, done, whole, rows - done);
     all.joined()
 }
 
@@ -174,24 +175,24 @@ pub fn load(a: &[f64], o: usize, rows: usize, v: &mut [f64])
     }
 }
 
-// v loses d times the column of q that starts at cell o.
-pub fn subtract(v: &mut [f64], q: &[f64], o: usize, rows: usize, d: Complex)
-    requires { ⌜ (2 * (o + rows) ≤ length (now q)) × (length (now v) ≡ 2 * rows) ⌝ }
-    ensures { λ _. ⌜ woven rows (now (v .exit)) ≡ lessened (woven rows (now (v .entry))) (now (q .entry)) o rows d ⌝ }
+// v loses d times the basis column i.
+pub fn subtract(v: &mut [f64], q: &[f64], i: usize, rows: usize, d: Complex)
+    requires { ⌜ (2 * (i * rows + rows) ≤ length (now q)) × (length (now v) ≡ 2 * rows) ⌝ }
+    ensures { λ _. ⌜ woven rows (now (v .exit)) ≡ lessened (woven rows (now (v .entry))) (matrixOf rows (now (q .entry))) (i * rows) rows d ⌝ }
 {
     for t in 0..rows {
         let x = complex::read_plane(v, rows, t);
-        let part = d.mul(complex::read_cell(q, o + t));
+        let part = d.mul(basis::read_cell(q, i, rows, t));
         complex::write_plane(v, rows, t, x.sub(part));
     }
 }
 
-// The column of q that starts at cell o becomes v times the real number k.
-pub fn store_scaled(v: &[f64], k: f64, rows: usize, q: &mut [f64], o: usize)
-    requires { ⌜ (2 * (o + rows) ≤ length (now q)) × (length (now v) ≡ 2 * rows) ⌝ }
-    ensures { λ _. ⌜ now (q .exit) ≡ scaledInto (woven rows (now (v .entry))) k (now (q .entry)) o rows ⌝ }
+// The basis column i becomes v times the real number k.
+pub fn store_scaled(v: &[f64], k: f64, rows: usize, q: &mut [f64], i: usize)
+    requires { ⌜ (2 * (i * rows + rows) ≤ length (now q)) × (length (now v) ≡ 2 * rows) ⌝ }
+    ensures { λ _. ⌜ matrixOf rows (now (q .exit)) ≡ scaledInto (woven rows (now (v .entry))) k (matrixOf rows (now (q .entry))) (i * rows) rows ⌝ }
 {
     for t in 0..rows {
-        complex::write_cell(q, o + t, complex::read_plane(v, rows, t).scale(k));
+        basis::write_cell(q, i, rows, t, complex::read_plane(v, rows, t).scale(k));
     }
 }

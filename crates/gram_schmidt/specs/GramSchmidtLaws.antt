@@ -169,18 +169,3 @@ basis-kept (suc k) q h = (refl, omega arith)
 pub zeroed-all : (old : List Float) {n : ℕ} → length old ≡ n → zeroed (length old) old ≡ zeros n
 unfolding zeroed
 zeroed-all old h = rw (drop-of-length-le old {i = length old} (omega arith)) (append-nil (zeros (length old)) ∙ ap zeros h)
-
-pub factor-made : (a : List Float) (rows cols : ℕ) (q r : List Float) {la lv cap rank k : ℕ} {q₁ r₁ q₂ r₂ q₃ : List Float}
-    → Room rows cols (min rows cols) la (length q) (length r) lv → cap ≡ min rows cols → q₁ ≡ zeroed (length q) q → r₁ ≡ zeroed (length r) r
-    → factors q₂ r₂ rank ≡ columnsTo a rows cols cap (factors q₁ r₁ 0) cols → (q₃ ≡ basisFor rank q₂) × (k ≡ max 1 rank)
-    → factors q₃ r₂ k ≡ factorsOf a rows cols
-unfolding factorsOf withBasis
-factor-made a rows cols q r {cap = cap} {q₁ = q₁} {r₁ = r₁} {r₂ = r₂} o c e f g b =
-    ap₂ (λ (x : List Float) (n : ℕ). factors x r₂ n) (b .0) (b .1)
-    ∙ ap withBasis
-    (g
-    ∙ ap (λ (n : ℕ). columnsTo a rows cols n (factors q₁ r₁ 0) cols) c
-    ∙ ap₂
-    (λ (x y : List Float). columnsTo a rows cols (min rows cols) (factors x y 0) cols)
-    (e ∙ zeroed-all q (o .q-is))
-    (f ∙ zeroed-all r (o .r-is)))

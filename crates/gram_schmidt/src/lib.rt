@@ -1,15 +1,15 @@
 // Modified Gram-Schmidt, as `factorize_gram_schmidt` of src/backend/mps/svd.rs has it. Inner: callers keep the lengths.
-// The column v that is worked on is held as planes (crate columns).
+// The basis columns of q and the column v that is worked on are held as planes (crates basis and columns).
 use complex::Complex;
 ghost use mathlib.Core.Path.{_≡_};
-ghost use Prim.Native.Nat.{_+_, _*_, _<_, _≤_, min, max};
+ghost use Prim.Native.Nat.{_+_, _*_, _<_, _≤_, min};
 ghost use lib.ListN.{length};
 ghost use Rattle.complex.specs.Arithmetic.{complexOf};
 ghost use Rattle.complex.specs.Cells.{setCell};
 ghost use Rattle.complex.specs.Zeros.{zeroFloat};
+ghost use Rattle.basis.specs.Matrix.{matrixOf};
 ghost use Rattle.columns.specs.Woven.{woven};
-ghost use Rattle.gram_schmidt.specs.Room.{Room};
-ghost use Rattle.gram_schmidt.specs.GramSchmidt.{held, projected, passTo, passed, passes, newBasis, factors, Worked, judged, addColumn, columnsTo, basisFor, factorsOf};
+ghost use Rattle.gram_schmidt.specs.GramSchmidt.{held, projected, passTo, passed, passes, newBasis, factors, Worked, judged};
 
 // Passes that a column gets before it is kept or dropped.
 const MAX_PASSES: usize = 3;
@@ -18,13 +18,13 @@ const PASS_RETAIN: f64 = 0.5;
 // A column of which no more than this part is left adds no direction to q.
 const RANK_FLOOR: f64 = 1e-14;
 
-// v loses its part along the basis column of q that starts at cell o, and cell at of r gains it.
-fn project(q: &[f64], o: usize, rows: usize, v: &mut [f64], r: &mut [f64], at: usize)
-    requires { ⌜ (2 * (o + rows) ≤ length (now q)) × (length (now v) ≡ 2 * rows) × (2 * at + 1 < length (now r)) ⌝ }
-    ensures { λ _. ⌜ held (woven rows (now (v .exit))) (now (r .exit)) ≡ projected (now (q .entry)) o rows at (held (woven rows (now (v .entry))) (now (r .entry))) ⌝ }
+// v loses its part along the basis column i, and cell at of r gains it.
+fn project(q: &[f64], i: usize, rows: usize, v: &mut [f64], r: &mut [f64], at: usize)
+    requires { ⌜ (2 * (i * rows + rows) ≤ length (now q)) × (length (now v) ≡ 2 * rows) × (2 * at + 1 < length (now r)) ⌝ }
+    ensures { λ _. ⌜ held (woven rows (now (v .exit))) (now (r .exit)) ≡ projected (matrixOf rows (now (q .entry))) (i * rows) rows at (held (woven rows (now (v .entry))) (now (r .entry))) ⌝ }
 {
-    let d = columns::dot(q, o, v, rows);
-    columns::subtract(v, q, o, rows, d);
+    let d = columns::dot(q, i, v, rows);
+    columns::subtract(v, q, i, rows, d);
     let total = complex::read_cell(r, at).add(d);
     complex::write_cell(r, at, total);
 }
@@ -32,10 +32,10 @@ fn project(q: &[f64], o: usize, rows: usize, v: &mut [f64], r: &mut [f64], at: u
 // One pass of column j over the first rank basis columns.
 fn pass(q: &[f64], rank: usize, rows: usize, cols: usize, j: usize, v: &mut [f64], r: &mut [f64])
     requires { ⌜ (2 * (rank * rows) ≤ length (now q)) × (2 * (rank * cols) ≤ length (now r)) × (length (now v) ≡ 2 * rows) × (j < cols) ⌝ }
-    ensures { λ _. ⌜ held (woven rows (now (v .exit))) (now (r .exit)) ≡ passTo (now (q .entry)) rows cols j (held (woven rows (now (v .entry))) (now (r .entry))) rank ⌝ }
+    ensures { λ _. ⌜ held (woven rows (now (v .exit))) (now (r .exit)) ≡ passTo (matrixOf rows (now (q .entry))) rows cols j (held (woven rows (now (v .entry))) (now (r .entry))) rank ⌝ }
 {
     for i in 0..rank {
-        project(q, i * rows, rows, v, r, i * cols + j);
+        project(q, i, rows, v, r, i * cols + j);
     }
 }
 
@@ -52,7 +52,7 @@ fn orthogonalize(
 ) -> f64
     requires { ⌜ (2 * (rank * rows) ≤ length (now q)) × (2 * (rank * cols) ≤ length (now r)) × (length (now v) ≡ 2 * rows) × (j < cols) ⌝ }
     ensures { λ x. ⌜ passed (held (woven rows (now (v .exit))) (now (r .exit))) x
-        ≡ passes (now (q .entry)) rank rows cols j 3 norm (held (woven rows (now (v .entry))) (now (r .entry))) ⌝ }
+        ≡ passes (matrixOf rows (now (q .entry))) rank rows cols j 3 norm (held (woven rows (now (v .entry))) (now (r .entry))) ⌝ }
 {
     let mut previous = norm;
     for k in 0..MAX_PASSES {
@@ -66,14 +66,14 @@ fn orthogonalize(
     previous
 }
 
-// v times 1 / residual becomes the basis column that starts at cell o, and the residual goes to cell at of r.
-fn keep(v: &[f64], residual: f64, rows: usize, q: &mut [f64], o: usize, r: &mut [f64], at: usize)
-    requires { ⌜ (length (now v) ≡ 2 * rows) × (2 * (o + rows) ≤ length (now q)) × (2 * at + 1 < length (now r)) ⌝ }
-    ensures basis { λ _. ⌜ now (q .exit) ≡ newBasis (woven rows (now (v .entry))) residual rows o (now (q .entry)) ⌝ }
+// v times 1 / residual becomes the basis column i, and the residual goes to cell at of r.
+fn keep(v: &[f64], residual: f64, rows: usize, q: &mut [f64], i: usize, r: &mut [f64], at: usize)
+    requires { ⌜ (length (now v) ≡ 2 * rows) × (2 * (i * rows + rows) ≤ length (now q)) × (2 * at + 1 < length (now r)) ⌝ }
+    ensures basis { λ _. ⌜ matrixOf rows (now (q .exit)) ≡ newBasis (woven rows (now (v .entry))) residual rows (i * rows) (matrixOf rows (now (q .entry))) ⌝ }
     ensures entry { λ _. ⌜ now (r .exit) ≡ setCell (now (r .entry)) at (complexOf residual zeroFloat) ⌝ }
 {
     let inverse = 1.0 / residual;
-    columns::store_scaled(v, inverse, rows, q, o);
+    columns::store_scaled(v, inverse, rows, q, i);
     let entry = Complex {
         re: residual,
         im: 0.0,
@@ -82,13 +82,13 @@ fn keep(v: &[f64], residual: f64, rows: usize, q: &mut [f64], o: usize, r: &mut 
 }
 
 // A column's norm, and what the passes left of it.
-struct Norms {
-    whole: f64,
-    residual: f64,
+pub struct Norms {
+    pub whole: f64,
+    pub residual: f64,
 }
 
 // v becomes column j of a, less its parts along the basis.
-fn work_column(
+pub fn work_column(
     a: &[f64],
     rows: usize,
     cols: usize,
@@ -100,7 +100,7 @@ fn work_column(
 ) -> Norms
     requires { ⌜ (2 * (j * rows + rows) ≤ length (now a)) × (2 * (rank * rows) ≤ length (now q)) × (2 * (rank * cols) ≤ length (now r))
         × (length (now v) ≡ 2 * rows) × (j < cols) ⌝ }
-    ensures { λ n. ⌜ Worked (now (a .entry)) rows cols j (now (q .entry)) (now (r .entry)) rank (n .whole) (n .residual) (woven rows (now (v .exit))) (now (r .exit)) ⌝ }
+    ensures { λ n. ⌜ Worked (now (a .entry)) rows cols j (matrixOf rows (now (q .entry))) (now (r .entry)) rank (n .whole) (n .residual) (woven rows (now (v .exit))) (now (r .exit)) ⌝ }
 {
     columns::load(a, j * rows, rows, v);
     let whole = columns::norm(v, rows);
@@ -109,7 +109,7 @@ fn work_column(
 }
 
 // Column j, worked, is kept where the rank is below the cap and enough of it is left; the rank after it.
-fn judge(
+pub fn judge(
     v: &[f64],
     norms: Norms,
     rows: usize,
@@ -121,69 +121,16 @@ fn judge(
     r: &mut [f64],
 ) -> usize
     requires { ⌜ (length (now v) ≡ 2 * rows) × (length (now q) ≡ 2 * (cap * rows)) × (length (now r) ≡ 2 * (cap * cols)) × (j < cols) × (rank ≤ cap) ⌝ }
-    ensures is { λ k. ⌜ factors (now (q .exit)) (now (r .exit)) k
-        ≡ judged rows cols cap j (norms .whole) (now (q .entry)) rank (passed (held (woven rows (now (v .entry))) (now (r .entry))) (norms .residual)) ⌝ }
+    ensures is { λ k. ⌜ factors (matrixOf rows (now (q .exit))) (now (r .exit)) k
+        ≡ judged rows cols cap j (norms .whole) (matrixOf rows (now (q .entry))) rank (passed (held (woven rows (now (v .entry))) (now (r .entry))) (norms .residual)) ⌝ }
     ensures within { λ k. ⌜ k ≤ cap ⌝ }
 {
     if cap <= rank {
         return rank;
     }
     if norms.residual > RANK_FLOOR * norms.whole {
-        keep(v, norms.residual, rows, q, rank * rows, r, rank * cols + j);
+        keep(v, norms.residual, rows, q, rank, r, rank * cols + j);
         return rank + 1;
-    }
-    rank
-}
-
-// Column j of a, and the rank after it. q has room for cap columns and r for cap rows.
-fn add_column(
-    a: &[f64],
-    rows: usize,
-    cols: usize,
-    cap: usize,
-    j: usize,
-    rank: usize,
-    q: &mut [f64],
-    r: &mut [f64],
-    v: &mut [f64],
-) -> usize
-    requires { ⌜ Room rows cols cap (length (now a)) (length (now q)) (length (now r)) (length (now v)) ⌝ }
-    requires { ⌜ (j < cols) × (rank ≤ cap) ⌝ }
-    ensures is { λ k. ⌜ factors (now (q .exit)) (now (r .exit)) k ≡ addColumn (now (a .entry)) rows cols cap j (factors (now (q .entry)) (now (r .entry)) rank) ⌝ }
-    ensures within { λ k. ⌜ k ≤ cap ⌝ }
-{
-    let norms = work_column(a, rows, cols, j, q, rank, r, v);
-    judge(v, norms, rows, cols, cap, j, rank, q, r)
-}
-
-// All columns of a, and their rank.
-fn add_columns(
-    a: &[f64],
-    rows: usize,
-    cols: usize,
-    cap: usize,
-    q: &mut [f64],
-    r: &mut [f64],
-    v: &mut [f64],
-) -> usize
-    requires { ⌜ Room rows cols cap (length (now a)) (length (now q)) (length (now r)) (length (now v)) ⌝ }
-    ensures { λ k. ⌜ factors (now (q .exit)) (now (r .exit)) k ≡ columnsTo (now (a .entry)) rows cols cap (factors (now (q .entry)) (now (r .entry)) 0) cols ⌝ }
-{
-    let mut rank = 0;
-    for j in 0..cols {
-        rank = add_column(a, rows, cols, cap, j, rank, q, r, v);
-    }
-    rank
-}
-
-// A matrix with no direction to keep gets the first basis vector, which leaves q an isometry and r zero.
-fn with_basis(q: &mut [f64], rank: usize) -> usize
-    requires { ⌜ 1 < length (now q) ⌝ }
-    ensures { λ k. ⌜ (now (q .exit) ≡ basisFor rank (now (q .entry))) × (k ≡ max 1 rank) ⌝ }
-{
-    if rank == 0 {
-        complex::write_cell(q, 0, Complex::new(1.0, 0.0));
-        return 1;
     }
     rank
 }
@@ -196,26 +143,4 @@ pub fn smaller(a: usize, b: usize) -> usize
         return a;
     }
     b
-}
-
-// The factors of a on slices of the needed lengths, and the rank. What the rank leaves of q and r is +0.0.
-pub fn factor(
-    a: &[f64],
-    rows: usize,
-    cols: usize,
-    q: &mut [f64],
-    r: &mut [f64],
-    v: &mut [f64],
-) -> usize
-    requires { ⌜ Room rows cols (min rows cols) (length (now a)) (length (now q)) (length (now r)) (length (now v)) ⌝ }
-    requires { ⌜ 1 < length (now q) ⌝ }
-    ensures { λ k. ⌜ factors (now (q .exit)) (now (r .exit)) k ≡ factorsOf (now (a .entry)) rows cols ⌝ }
-{
-    let cap = smaller(rows, cols);
-    let in_q = q.len();
-    complex::zero_first(q, in_q);
-    let in_r = r.len();
-    complex::zero_first(r, in_r);
-    let rank = add_columns(a, rows, cols, cap, q, r, v);
-    with_basis(q, rank)
 }

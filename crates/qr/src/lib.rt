@@ -74,7 +74,7 @@ fn factor_parts(
     ensures is { λ x. ⌜ Finished (factorsOf (now (a .entry)) rows cols) (x .answer) (x .rank) (now (q .exit)) (now (r .exit)) ⌝ }
     ensures cleared { λ x. ⌜ now (scratch .exit) ≡ zeros (length (now (scratch .entry))) ⌝ }
 {
-    let rank = gram_schmidt::factor(a, rows, cols, q, r, scratch);
+    let rank = qr_columns::factor(a, rows, cols, q, r, scratch);
     let in_scratch = scratch.len();
     complex::zero_first(scratch, in_scratch);
     settle(q, r, rank)

@@ -1,8 +1,9 @@
 -- `columns::dot_tail` meets its contract. The loop's invariant: the sums have the first k rows of the tail. Assumes nothing.
 use mathlib.Core.Path.{_≡_}
-use Prim.Native.Nat.{_-_, _≤_}
+use Prim.Native.Nat.{_-_, _*_, _≤_}
 use native.Mathlib.Omega.{arith}
 use Rattle.complex.specs.Loops.{stop}
+use Rattle.basis.specs.Matrix.{matrixOf}
 use Rattle.columns.specs.Dot.{tailTo, tailTo-none, tailTo-more}
 use Rattle.columns.specs.Woven.{woven}
 use borrow.Author.Needs.{needs}
@@ -10,10 +11,10 @@ use Rattle.columns.proofs.dot_tail.Statement.{statement}
 use Rattle.columns.proofs.dot_tail.Tie as tie
 
 abbrev Inv-loop : tie.InvT-loop
-Inv-loop q o v rows s n all₀ k₀ all k = (k ≤ n) × (all ≡ tailTo q o (woven rows v) s all₀ k)
+Inv-loop q i v rows s n all₀ k₀ all k = (k ≤ n) × (all ≡ tailTo (matrixOf rows q) (i * rows) (woven rows v) s all₀ k)
 
 abbrev μ-loop : tie.MeasureT-loop
-μ-loop q o v rows s n all₀ k₀ all k = n - k
+μ-loop q i v rows s n all₀ k₀ all k = n - k
 
 loop-holds : tie.Need-loop-holds Inv-loop μ-loop
 loop-holds c = (omega arith, tailTo-none _ _ _ _ _)

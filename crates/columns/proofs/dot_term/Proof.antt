@@ -5,9 +5,6 @@ use borrow.Author.Needs.{needs}
 use Rattle.columns.proofs.dot_term.Statement.{statement}
 use Rattle.columns.proofs.dot_term.Tie as tie
 
-add-read-cell : tie.Need-add-read-cell
-add-read-cell c = omega arith
-
 read-cell-requires : tie.Need-read-cell-requires
 read-cell-requires c κs = omega arith
 
@@ -24,4 +21,4 @@ returns : tie.Need-returns
 returns c = term-woven _ _ _ _ _ (c .before .before .before .before .before .before .pre .1) (c .before .before .before .read-cell .ensures) (c .before .before .conj .ensures) (c .before .read-plane .ensures) (c .mul .ensures)
 
 pub dot-term-spec : {M : Type 1} → statement M
-dot-term-spec = tie.close (tie.spec add-read-cell read-cell-requires conj-requires read-plane-requires mul-requires returns)
+dot-term-spec = tie.close (tie.spec read-cell-requires conj-requires read-plane-requires mul-requires returns)

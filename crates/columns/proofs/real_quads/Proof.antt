@@ -1,7 +1,8 @@
 -- `columns::real_quads` meets its contract. The loop's invariant: the sums are these parts of the first k quads. Assumes nothing.
 use mathlib.Core.Path.{_≡_}
-use Prim.Native.Nat.{_-_, _≤_}
+use Prim.Native.Nat.{_-_, _*_, _≤_}
 use native.Mathlib.Omega.{arith}
+use Rattle.basis.specs.Matrix.{matrixOf}
 use Rattle.columns.specs.Dot.{quadsTo}
 use Rattle.columns.specs.DotParts.{realParts, real-none, real-more, real-end}
 use Rattle.columns.specs.Woven.{woven}
@@ -9,10 +10,10 @@ use Rattle.columns.proofs.real_quads.Statement.{statement}
 use Rattle.columns.proofs.real_quads.Tie as tie
 
 abbrev Inv-loop : tie.InvT-loop
-Inv-loop q o v rows n sums₀ k₀ sums k = (k ≤ n) × (sums ≡ realParts (quadsTo q o (woven rows v) k))
+Inv-loop q i v rows n sums₀ k₀ sums k = (k ≤ n) × (sums ≡ realParts (quadsTo (matrixOf rows q) (i * rows) (woven rows v) k))
 
 abbrev μ-loop : tie.MeasureT-loop
-μ-loop q o v rows n sums₀ k₀ sums k = n - k
+μ-loop q i v rows n sums₀ k₀ sums k = n - k
 
 loop-holds : tie.Need-loop-holds Inv-loop μ-loop
 loop-holds c = (omega arith, real-none _ _ _)

@@ -1,7 +1,8 @@
 -- `columns::store_scaled` meets its contract. The loop's invariant: the first t cells of the column are stored. Assumes nothing.
-use Prim.Native.Nat.{_-_, _≤_}
+use Prim.Native.Nat.{_-_, _*_, _≤_}
 use mathlib.Core.Path.{_≡_, refl}
 use native.Mathlib.Omega.{arith}
+use Rattle.basis.specs.Matrix.{matrixOf}
 use lib.ListN.{length}
 use Rattle.complex.specs.Loops.{stop}
 use Rattle.columns.specs.Columns.{scaledInto}
@@ -12,16 +13,13 @@ use Rattle.columns.proofs.store_scaled.Statement.{statement}
 use Rattle.columns.proofs.store_scaled.Tie as tie
 
 abbrev Inv-loop : tie.InvT-loop
-Inv-loop v k rows q₀ o t₀ q t = (t ≤ rows) × (length q ≡ length q₀) × (q ≡ scaledInto (woven rows v) k q₀ o t)
+Inv-loop v k rows q₀ i t₀ q t = (t ≤ rows) × (length q ≡ length q₀) × (matrixOf rows q ≡ scaledInto (woven rows v) k (matrixOf rows q₀) (i * rows) t)
 
 abbrev μ-loop : tie.MeasureT-loop
-μ-loop v k rows q₀ o t₀ q t = rows - t
+μ-loop v k rows q₀ i t₀ q t = rows - t
 
 loop-holds : tie.Need-loop-holds Inv-loop μ-loop
 loop-holds c = (omega arith, refl, scaled-none _ _ _ _)
-
-add-write-cell : tie.Need-add-write-cell Inv-loop μ-loop
-add-write-cell c = omega (arith, c .before .loop-test .taken, c .before .before .before .before .before .pre)
 
 read-plane-requires : tie.Need-read-plane-requires Inv-loop μ-loop
 read-plane-requires c κs = omega (arith, c .before .loop-test .taken, c .before .before .before .before .before .pre)
@@ -48,4 +46,4 @@ returns : tie.Need-returns Inv-loop μ-loop
 returns c = stop (scaledInto _ _ _ _) (c .before .loop .inv .2) (c .before .loop .inv .0) (c .loop-test .left)
 
 pub store-scaled-spec : {M : Type 1} → statement M
-store-scaled-spec = tie.close (tie.spec Inv-loop μ-loop loop-holds add-write-cell read-plane-requires scale-requires write-cell-requires add-t loop-less loop-again same-length returns)
+store-scaled-spec = tie.close (tie.spec Inv-loop μ-loop loop-holds read-plane-requires scale-requires write-cell-requires add-t loop-less loop-again same-length returns)

@@ -1,6 +1,7 @@
 -- `columns::subtract` meets its contract. The loop's invariant: the first t cells of v are lessened, and the others are as they came. Assumes nothing.
-use Prim.Native.Nat.{_-_}
+use Prim.Native.Nat.{_-_, _*_}
 use native.Mathlib.Omega.{arith}
+use Rattle.basis.specs.Matrix.{matrixOf}
 use Rattle.columns.specs.Columns.{lessCell}
 use Rattle.columns.specs.Woven.{woven, Filled, fill-begin, fill-turn, less-cell, less-end}
 use borrow.Author.Needs.{needs}
@@ -8,19 +9,16 @@ use Rattle.columns.proofs.subtract.Statement.{statement}
 use Rattle.columns.proofs.subtract.Tie as tie
 
 abbrev Inv-loop : tie.InvT-loop
-Inv-loop v₀ q o rows d t₀ v t = Filled (lessCell (woven rows v₀) q o d) rows v₀ v t
+Inv-loop v₀ q i rows d t₀ v t = Filled (lessCell (woven rows v₀) (matrixOf rows q) (i * rows) d) rows v₀ v t
 
 abbrev μ-loop : tie.MeasureT-loop
-μ-loop v₀ q o rows d t₀ v t = rows - t
+μ-loop v₀ q i rows d t₀ v t = rows - t
 
 loop-holds : tie.Need-loop-holds Inv-loop μ-loop
 loop-holds c = fill-begin _ _ _
 
 read-plane-requires : tie.Need-read-plane-requires Inv-loop μ-loop
 read-plane-requires c κs = omega (arith, c .before .loop-test .taken, c .before .before .loop .inv .size, c .before .before .before .before .before .pre)
-
-add-read-cell : tie.Need-add-read-cell Inv-loop μ-loop
-add-read-cell c = omega (arith, c .before .before .loop-test .taken, c .before .before .before .before .before .before .pre)
 
 read-cell-requires : tie.Need-read-cell-requires Inv-loop μ-loop
 read-cell-requires c κs = omega (arith, c .before .before .loop-test .taken, c .before .before .before .before .before .before .pre)
@@ -50,4 +48,4 @@ returns : tie.Need-returns Inv-loop μ-loop
 returns c = less-end _ _ _ _ _ _ (c .before .loop .inv) (c .loop-test .left)
 
 pub subtract-spec : {M : Type 1} → statement M
-subtract-spec = tie.close (tie.spec Inv-loop μ-loop loop-holds read-plane-requires add-read-cell read-cell-requires mul-requires sub-requires write-plane-requires add-t loop-less loop-again same-length returns)
+subtract-spec = tie.close (tie.spec Inv-loop μ-loop loop-holds read-plane-requires read-cell-requires mul-requires sub-requires write-plane-requires add-t loop-less loop-again same-length returns)

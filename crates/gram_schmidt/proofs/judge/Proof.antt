@@ -10,10 +10,7 @@ returns : tie.Need-returns
 returns c = (judge-full _ _ _ _ _ _ _ _ _ _ (c .if1 .taken), search needs)
 
 mul-keep : tie.Need-mul-keep
-mul-keep c = omega (arith, line-fits (c .before .before .before .before .before .before .before .before .args .rank) (c .before .before .before .before .before .before .before .before .args .cap) (c .before .before .before .before .before .before .before .before .args .rows) (c .before .before .before .before .if1 .left))
-
-mul-keep-2 : tie.Need-mul-keep-2
-mul-keep-2 c = omega (arith, line-fits (c .before .before .before .before .before .before .before .before .before .args .rank) (c .before .before .before .before .before .before .before .before .before .args .cap) (c .before .before .before .before .before .before .before .before .before .args .cols) (c .before .before .before .before .before .if1 .left))
+mul-keep c = omega (arith, line-fits (c .before .before .before .before .before .before .before .before .before .args .rank) (c .before .before .before .before .before .before .before .before .before .args .cap) (c .before .before .before .before .before .before .before .before .before .args .cols) (c .before .before .before .before .before .if1 .left))
 
 add-keep : tie.Need-add-keep
 add-keep c = omega (arith, line-fits (c .before .before .before .before .before .before .before .before .before .args .rank) (c .before .before .before .before .before .before .before .before .before .args .cap) (c .before .before .before .before .before .before .before .before .before .args .cols) (c .before .before .before .before .before .if1 .left))
@@ -42,7 +39,6 @@ judge-spec =
     (tie.spec
     returns
     mul-keep
-    mul-keep-2
     add-keep
     keep-requires
     add-result

@@ -2,6 +2,7 @@
 use mathlib.Core.Path.{_≡_, refl}
 use Prim.Native.Nat.{_-_, _≤_}
 use lib.ListN.{length}
+use Rattle.basis.specs.Matrix.{matrixOf}
 use Rattle.columns.specs.Woven.{woven}
 use Rattle.gram_schmidt.specs.GramSchmidt.{held, passes}
 use Rattle.gram_schmidt.specs.GramSchmidtLaws.{turn-stop, turn-go, turn-spent}
@@ -10,7 +11,7 @@ use Rattle.gram_schmidt.proofs.orthogonalize.Statement.{statement}
 use Rattle.gram_schmidt.proofs.orthogonalize.Tie as tie
 
 abbrev Inv-loop : tie.InvT-loop
-Inv-loop q rank rows cols j norm v₀ r₀ previous₀ k₀ v r previous k = (k ≤ 3) × (length v ≡ length v₀) × (length r ≡ length r₀) × (passes q rank rows cols j (3 - k) previous (held (woven rows v) r) ≡ passes q rank rows cols j 3 norm (held (woven rows v₀) r₀))
+Inv-loop q rank rows cols j norm v₀ r₀ previous₀ k₀ v r previous k = (k ≤ 3) × (length v ≡ length v₀) × (length r ≡ length r₀) × (passes (matrixOf rows q) rank rows cols j (3 - k) previous (held (woven rows v) r) ≡ passes (matrixOf rows q) rank rows cols j 3 norm (held (woven rows v₀) r₀))
 
 abbrev μ-loop : tie.MeasureT-loop
 μ-loop q rank rows cols j norm v₀ r₀ previous₀ k₀ v r previous k = 3 - k

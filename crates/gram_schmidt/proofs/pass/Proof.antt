@@ -4,6 +4,7 @@ use Prim.Native.Nat.{_-_, _≤_}
 use lib.ListN.{length}
 use native.Mathlib.Omega.{arith}
 use Rattle.complex.specs.Loops.{stop}
+use Rattle.basis.specs.Matrix.{matrixOf}
 use Rattle.columns.specs.Woven.{woven}
 use Rattle.gram_schmidt.specs.GramSchmidt.{held, passTo}
 use Rattle.gram_schmidt.specs.GramSchmidtLaws.{pass-none, pass-more}
@@ -13,7 +14,7 @@ use Rattle.gram_schmidt.proofs.pass.Statement.{statement}
 use Rattle.gram_schmidt.proofs.pass.Tie as tie
 
 abbrev Inv-loop : tie.InvT-loop
-Inv-loop q rank rows cols j v₀ r₀ i₀ v r i = (i ≤ rank) × (length v ≡ length v₀) × (length r ≡ length r₀) × (held (woven rows v) r ≡ passTo q rows cols j (held (woven rows v₀) r₀) i)
+Inv-loop q rank rows cols j v₀ r₀ i₀ v r i = (i ≤ rank) × (length v ≡ length v₀) × (length r ≡ length r₀) × (held (woven rows v) r ≡ passTo (matrixOf rows q) rows cols j (held (woven rows v₀) r₀) i)
 
 abbrev μ-loop : tie.MeasureT-loop
 μ-loop q rank rows cols j v₀ r₀ i₀ v r i = rank - i
@@ -22,10 +23,7 @@ loop-holds : tie.Need-loop-holds Inv-loop μ-loop
 loop-holds c = (search needs, refl, refl, pass-none _ _ _ _ _)
 
 mul-project : tie.Need-mul-project Inv-loop μ-loop
-mul-project c = omega (arith, line-fits (c .before .loop .i) (c .before .before .before .before .before .args .rank) (c .before .before .before .before .before .args .rows) (c .loop-test .taken))
-
-mul-project-2 : tie.Need-mul-project-2 Inv-loop μ-loop
-mul-project-2 c = omega (arith, line-fits (c .before .before .before .loop .i) (c .before .before .before .before .before .before .before .args .rank) (c .before .before .before .before .before .before .before .args .cols) (c .before .before .loop-test .taken))
+mul-project c = omega (arith, line-fits (c .before .before .before .loop .i) (c .before .before .before .before .before .before .before .args .rank) (c .before .before .before .before .before .before .before .args .cols) (c .before .before .loop-test .taken))
 
 add-project : tie.Need-add-project Inv-loop μ-loop
 add-project c = omega (arith, line-fits (c .before .before .before .loop .i) (c .before .before .before .before .before .before .before .args .rank) (c .before .before .before .before .before .before .before .args .cols) (c .before .before .loop-test .taken))
@@ -59,7 +57,6 @@ pass-spec =
     μ-loop
     loop-holds
     mul-project
-    mul-project-2
     add-project
     project-requires
     add-i

@@ -1,11 +1,11 @@
--- `gram_schmidt::add_column` meets its contract: a column worked and then judged is `addColumn`. Assumes nothing.
+-- `qr_columns::add_column` meets its contract: a column worked and then judged is `addColumn`. Assumes nothing.
 use native.Mathlib.Omega.{arith}
 use Rattle.gram_schmidt.specs.Room.{line-fits}
 use Rattle.gram_schmidt.specs.GramSchmidtLaws.{column-added}
 use native.Mathlib.Nat.{mul-le-mul-right}
 use borrow.Author.Needs.{needs}
-use Rattle.gram_schmidt.proofs.add_column.Statement.{statement}
-use Rattle.gram_schmidt.proofs.add_column.Tie as tie
+use Rattle.qr_columns.proofs.add_column.Statement.{statement}
+use Rattle.qr_columns.proofs.add_column.Tie as tie
 
 work-column-requires : tie.Need-work-column-requires
 work-column-requires c κs = omega (arith, line-fits (c .before .before .before .before .before .before .before .args .j) (c .before .before .before .before .before .before .before .args .cols) (c .before .before .before .before .before .before .before .args .rows) (c .before .before .before .before .before .before .before .pre .1 .0), mul-le-mul-right (c .before .before .before .before .before .before .before .args .rows) (c .before .before .before .before .before .before .before .pre .1 .1), mul-le-mul-right (c .before .before .before .before .before .before .before .args .cols) (c .before .before .before .before .before .before .before .pre .1 .1))

@@ -1,17 +1,18 @@
--- `gram_schmidt::add_columns` meets its contract. The loop's invariant: q, r and the rank are those of the first j columns. Assumes nothing.
+-- `qr_columns::add_columns` meets its contract. The loop's invariant: q, r and the rank are those of the first j columns. Assumes nothing.
 use native.Mathlib.Omega.{arith}
 use mathlib.Core.Path.{_≡_, refl}
 use Prim.Native.Nat.{_-_, _≤_}
 use lib.ListN.{length}
 use Rattle.complex.specs.Loops.{stop}
+use Rattle.basis.specs.Matrix.{matrixOf}
 use Rattle.gram_schmidt.specs.GramSchmidt.{factors, columnsTo}
 use Rattle.gram_schmidt.specs.GramSchmidtLaws.{columns-none, columns-more}
 use borrow.Author.Needs.{needs}
-use Rattle.gram_schmidt.proofs.add_columns.Statement.{statement}
-use Rattle.gram_schmidt.proofs.add_columns.Tie as tie
+use Rattle.qr_columns.proofs.add_columns.Statement.{statement}
+use Rattle.qr_columns.proofs.add_columns.Tie as tie
 
 abbrev Inv-loop : tie.InvT-loop
-Inv-loop a rows cols cap q₀ r₀ v₀ rank₀ j₀ q r v rank j = (j ≤ cols) × (rank ≤ cap) × (length q ≡ length q₀) × (length r ≡ length r₀) × (length v ≡ length v₀) × (factors q r rank ≡ columnsTo a rows cols cap (factors q₀ r₀ 0) j)
+Inv-loop a rows cols cap q₀ r₀ v₀ rank₀ j₀ q r v rank j = (j ≤ cols) × (rank ≤ cap) × (length q ≡ length q₀) × (length r ≡ length r₀) × (length v ≡ length v₀) × (factors (matrixOf rows q) r rank ≡ columnsTo a rows cols cap (factors (matrixOf rows q₀) r₀ 0) j)
 
 abbrev μ-loop : tie.MeasureT-loop
 μ-loop a rows cols cap q₀ r₀ v₀ rank₀ j₀ q r v rank j = cols - j

@@ -1,8 +1,8 @@
--- `gram_schmidt::with_basis` meets its contract: the two ways are the two cases of `basisFor`. Assumes nothing.
+-- `qr_columns::with_basis` meets its contract: the two ways are the two cases of `basisFor`. Assumes nothing.
 use Rattle.gram_schmidt.specs.GramSchmidtLaws.{basis-first, basis-kept}
 use borrow.Author.Needs.{needs}
-use Rattle.gram_schmidt.proofs.with_basis.Statement.{statement}
-use Rattle.gram_schmidt.proofs.with_basis.Tie as tie
+use Rattle.qr_columns.proofs.with_basis.Statement.{statement}
+use Rattle.qr_columns.proofs.with_basis.Tie as tie
 
 new-requires : tie.Need-new-requires
 new-requires c κs = search needs

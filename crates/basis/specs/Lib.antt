@@ -1,0 +1,2 @@
+-- What the contracts of `basis` cite.
+pub mod Matrix

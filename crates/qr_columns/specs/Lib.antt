@@ -1,0 +1,2 @@
+-- What the proofs of `qr_columns` cite.
+pub mod Whole
