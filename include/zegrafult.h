@@ -82,6 +82,10 @@ uint32_t zg_dense_reduced_density(const double *state, size_t state_len, size_t 
  * matrix, bit for bit, from the cut matrix alone. Refused by 1 (as a cut and as a density) to 7. */
 uint32_t zg_density_from_cut(const double *matrix, size_t matrix_len, size_t n, const size_t *list, size_t list_len,
                              size_t cap, double *out, size_t out_len, size_t *place);
+/* Slices: state 0 (exactly 2*2^n numbers), list 1. Whether the two densities above have the same bits; always yes where the
+ * answer is 0, and no on a refusal. Refused by 1 (as a cut and as a density) to 7. */
+uint32_t zg_pages_agree(const double *state, size_t state_len, size_t n, const size_t *list, size_t list_len, size_t cap,
+                        size_t *place, bool *yes);
 /* rho is dim by dim, row-major, exactly 2*dim*dim numbers (slice 0); dim 1 to 64. The upper half becomes the
  * conjugate of the lower, the diagonal stays. Refused by 1, 6, 7. */
 uint32_t zg_mirror_lower_triangle(double *rho, size_t rho_len, size_t dim, size_t *place);
@@ -126,6 +130,13 @@ uint32_t zg_hermitian_eigenvalues(const double *a, size_t a_len, size_t dim, dou
  * the finish. Refused by 1, 6 to 9. */
 uint32_t zg_schmidt_values_from_density(const double *rho, size_t rho_len, size_t dim, double *out, size_t out_len,
                                         double *scratch, size_t scratch_len, size_t *place, size_t *count);
+
+/* Slices: matrix 0 (dim by dim, column-major, exactly 2*dim*dim numbers; dim 1 to 64), values 1 (dim, rising), vectors 2
+ * (2*dim*dim, one to a column), scratch 3 (6*dim*dim + 2*dim). Eigenvalues and eigenvectors: the singular values and U of
+ * the matrix with peak*dim + 1 on its diagonal, peak the largest modulus, that shift taken off the values again. Refused by
+ * 1, 6, 7, 9. */
+uint32_t zg_hermitian_eigen(const double *matrix, size_t matrix_len, size_t dim, double *values, size_t values_len,
+                            double *vectors, size_t vectors_len, double *scratch, size_t scratch_len, size_t *place);
 
 /* Slices: state 0 (exactly 2*2^n numbers), list 1, out 2 (2^side), scratch 3 (8*2^n + 2*2^side). The Schmidt values of the
  * cut: the singular values of its matrix, 9 where one is not finite, then the finish. Refused as a cut by 1 to 5, then by

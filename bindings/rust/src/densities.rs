@@ -62,6 +62,21 @@ pub fn density_from_cut(matrix: &[Complex], n: usize, list: &[usize], cap: usize
     answered(number, place, out)
 }
 
+/// Whether the density and the one from the cut matrix alone have the same bits: yes for every state that is not refused.
+///
+/// ```
+/// use zegrafult::{pages_agree, Complex};
+///
+/// let state: Vec<Complex> = (0..8).map(|i| Complex::new(i as f64, -1.0)).collect();
+/// assert_eq!(pages_agree(&state, 3, &[2, 0], 13), Ok(true));
+/// ```
+pub fn pages_agree(state: &[Complex], n: usize, list: &[usize], cap: usize) -> Result<bool, Refusal> {
+    let (mut place, mut yes) = (0, false);
+    let (s, s_len) = numbers_of(state);
+    let number = unsafe { ffi::zg_pages_agree(s, s_len, n, list.as_ptr(), list.len(), cap, &mut place, &mut yes) };
+    answered(number, place, yes)
+}
+
 /// The upper half becomes the conjugate of the lower.
 pub fn mirror_lower_triangle(rho: &mut [Complex], dim: usize) -> Result<(), Refusal> {
     let mut place = 0;

@@ -73,6 +73,16 @@ extern "C" {
         out_len: usize,
         place: &mut usize,
     ) -> u32;
+    pub fn zg_pages_agree(
+        state: *const f64,
+        state_len: usize,
+        n: usize,
+        list: *const usize,
+        list_len: usize,
+        cap: usize,
+        place: &mut usize,
+        yes: &mut bool,
+    ) -> u32;
     pub fn zg_mirror_lower_triangle(rho: *mut f64, rho_len: usize, dim: usize, place: &mut usize) -> u32;
     pub fn zg_normalize_trace(rho: *mut f64, rho_len: usize, dim: usize, place: &mut usize) -> u32;
     pub fn zg_multiply_block_factor(
@@ -121,6 +131,18 @@ extern "C" {
         dim: usize,
         out: *mut f64,
         out_len: usize,
+        scratch: *mut f64,
+        scratch_len: usize,
+        place: &mut usize,
+    ) -> u32;
+    pub fn zg_hermitian_eigen(
+        matrix: *const f64,
+        matrix_len: usize,
+        dim: usize,
+        values: *mut f64,
+        values_len: usize,
+        vectors: *mut f64,
+        vectors_len: usize,
         scratch: *mut f64,
         scratch_len: usize,
         place: &mut usize,

@@ -1,5 +1,5 @@
 //! Schmidt values and spectra.
-use crate::{area, ffi, numbers_of, power, refusal::answered, Complex, Refusal};
+use crate::{area, ffi, numbers_of, numbers_of_mut, power, refusal::answered, Complex, Refusal};
 
 /// The Schmidt values of the cut between the listed qubits and the rest, falling, their squares summing to 1: the
 /// singular values of [`crate::cut_matrix`], finished as by [`finish_schmidt_values`].
@@ -79,6 +79,48 @@ pub fn hermitian_eigenvalues(a: &[Complex], dim: usize) -> Result<Vec<f64>, Refu
         )
     };
     answered(number, place, out)
+}
+
+/// A's eigenvalues, rising, and its eigenvectors, one to a column of `dim` cells, column after column.
+#[derive(Clone, Debug, PartialEq)]
+pub struct Eigen {
+    pub values: Vec<f64>,
+    pub vectors: Vec<Complex>,
+}
+
+/// The eigenvalues and eigenvectors of a Hermitian matrix of side 1 to 64, column-major.
+///
+/// ```
+/// use zegrafult::{hermitian_eigen, Complex};
+///
+/// let eigen = hermitian_eigen(&[2.0, 0.0, 0.0, -5.0].map(Complex::real), 2)?;
+/// assert_eq!(eigen.values, [-5.0, 2.0]);
+/// assert_eq!(eigen.vectors, [0.0, 1.0, 1.0, 0.0].map(Complex::real));
+/// # Ok::<(), zegrafult::Refusal>(())
+/// ```
+pub fn hermitian_eigen(matrix: &[Complex], dim: usize) -> Result<Eigen, Refusal> {
+    let cells = area(dim, dim);
+    let mut values = vec![0.0; if cells == 0 { 0 } else { dim }];
+    let mut vectors = vec![Complex::default(); cells];
+    let mut scratch = vec![0.0; 6 * cells + 2 * values.len()];
+    let mut place = 0;
+    let (m, m_len) = numbers_of(matrix);
+    let (v, v_len) = numbers_of_mut(&mut vectors);
+    let number = unsafe {
+        ffi::zg_hermitian_eigen(
+            m,
+            m_len,
+            dim,
+            values.as_mut_ptr(),
+            values.len(),
+            v,
+            v_len,
+            scratch.as_mut_ptr(),
+            scratch.len(),
+            &mut place,
+        )
+    };
+    answered(number, place, Eigen { values, vectors })
 }
 
 /// The Schmidt values that a density matrix gives.

@@ -40,6 +40,8 @@ fn a_nan() {
     assert_eq!(refused(dense_reduced_density(&bad, 2, &[0], 13)), (7, 2));
     assert_eq!(refused(svd_jacobi(&bad, 2, 2)), (7, 2));
     assert_eq!(refused(hermitian_eigenvalues(&bad, 2)), (7, 2));
+    assert_eq!(refused(hermitian_eigen(&bad, 2)), (7, 2));
+    assert_eq!(refused(pages_agree(&bad, 2, &[0], 13)), (7, 2));
     assert_eq!(refused(finish_schmidt_values(&[1.0, f64::INFINITY])), (7, 1));
 }
 
@@ -67,6 +69,9 @@ fn sizes() {
     assert_eq!(refused(dense_schmidt_values(&[], 13, &[0], 13)), (1, 0));
     assert_eq!(refused(dense_schmidt_values(&[], usize::MAX, &[0], 13)), (1, 0));
     assert_eq!(refused(hermitian_eigenvalues(&[], 65)), (1, 0));
+    assert_eq!(refused(hermitian_eigen(&[], 65)), (1, 0));
+    assert_eq!(refused(hermitian_eigen(&[], 0)), (1, 0));
+    assert_eq!(refused(pages_agree(&[], 12, &[0; 7], 13)), (1, 0));
     assert_eq!(refused(cut_rank(4097, 1, 1)), (1, 0));
     assert_eq!(refused(fill_isometry_site_data(&[], 1, 1, 1)), (1, 0));
 }

@@ -31,6 +31,9 @@ ghost use Rattle.fills.specs.Sources.{siteCell, isometryCell, scaledUCell, vtCe
 ghost use Rattle.sites.specs.Calls.{columnSizes, rowSizes, plainReply, scaledUReply, scaledVtReply, Filled};
 ghost use Rattle.spectra.specs.Density.{DensityValues};
 ghost use Rattle.recount.specs.Recount.{DensityFromCut};
+ghost use Rattle.pages.specs.Agree.{Says, pagesAnswer};
+ghost use Rattle.pages.specs.declared.Agreement.{Agreement};
+ghost use Rattle.hermitian.specs.Hermitian.{Eigen};
 ghost use Rattle.schmidt.specs.Schmidt.{Schmidt};
 
 // Inner: a number of the paper's table, as C has it.
@@ -248,6 +251,23 @@ pub extern "C" fn zg_density_from_cut(
     told(recount::density_from_cut(matrix, n, list, cap, out), place)
 }
 
+#[no_mangle]
+pub extern "C" fn zg_pages_agree(
+    state: &[f64],
+    n: usize,
+    list: &[usize],
+    cap: usize,
+    place: &mut usize,
+    yes: &mut bool,
+) -> u32
+    ensures { λ r. ⌜ ExportedWith {R = Agreement} (λ k. k .answer) (λ k. k .yes) (λ k. Says (pagesAnswer (now (state .entry)) n (now (list .entry)) cap) k) r (now (place .exit)) (now (yes .exit)) ⌝ }
+{
+    let k = pages::pages_agree(state, n, list, cap);
+    *yes = k.yes;
+    let answer = k.answer;
+    told(answer, place)
+}
+
 // ---- factors
 
 #[no_mangle]
@@ -332,6 +352,24 @@ pub extern "C" fn zg_schmidt_values_from_density(
     *count = k.count;
     let answer = k.answer;
     told(answer, place)
+}
+
+#[no_mangle]
+pub extern "C" fn zg_hermitian_eigen(
+    matrix: &[f64],
+    dim: usize,
+    values: &mut [f64],
+    vectors: &mut [f64],
+    scratch: &mut [f64],
+    place: &mut usize,
+) -> u32
+    ensures { λ r. ⌜ Exported (λ x. Eigen (now (matrix .entry)) dim (now (values .entry)) (now (vectors .entry)) (now (scratch .entry)) x
+        (now (values .exit)) (now (vectors .exit)) (now (scratch .exit))) r (now (place .exit)) ⌝ }
+{
+    told(
+        hermitian::hermitian_eigen(matrix, dim, values, vectors, scratch),
+        place,
+    )
 }
 
 #[no_mangle]
