@@ -3,7 +3,7 @@
 //!     compare SEED COUNT         every small shape, then COUNT drawn calls of each entry point
 //!     compare replay FILE        the calls of FILE, one to a line, as a mismatch prints them
 //!
-//! It ends with status 1 on a mismatch. The last line has the count of calls and the seed.
+//! It ends with status 1 on a mismatch and where the library lacks an entry point. The last line has the count of calls and the seed.
 
 use std::collections::BTreeMap;
 use std::process::exit;
@@ -51,12 +51,12 @@ impl Tally {
         for (entry, answers) in by_entry {
             println!("{:<28} {answers}", entry.name());
         }
-        let missing: Vec<String> =
-            ENTRIES.iter().filter(|&&entry| !port::has(entry)).map(|entry| entry.name()).collect();
-        if !missing.is_empty() {
-            println!("not in the library, so not compared: {}", missing.join(" "));
-        }
     }
+}
+
+/// The entry points that the library lacks.
+fn missing() -> Vec<String> {
+    ENTRIES.iter().filter(|&&entry| !port::has(entry)).map(|entry| entry.name()).collect()
 }
 
 fn show(ours: &Outcome, theirs: &Outcome) {
@@ -122,7 +122,11 @@ fn main() {
         _ => panic!("usage: compare SEED COUNT, or compare replay FILE"),
     };
     tally.print();
+    let missing = missing();
+    if !missing.is_empty() {
+        println!("not in the library, so not compared: {}", missing.join(" "));
+    }
     let seconds = start.elapsed().as_secs_f64();
     println!("compared {} calls, {} mismatches, {how}, {seconds:.1} s", tally.calls, tally.wrong);
-    exit(if tally.wrong > 0 || tally.calls == 0 { 1 } else { 0 });
+    exit(if tally.wrong > 0 || tally.calls == 0 || !missing.is_empty() { 1 } else { 0 });
 }
