@@ -3,12 +3,13 @@
 use mathlib.Core.List.{List}
 use Prim.Native.Nat.{ℕ, _*_, _^_}
 use lib.Ieee.{Float}
-use Rattle.answers.specs.Paper.{ifDone}
+use Rattle.answers.specs.Paper.{Reply, ifDone}
 use Rattle.cutfile.specs.Bytes.{word32}
 use Rattle.cutfile.specs.Layout.{headerAnswer, entryAt, componentAt}
 use Rattle.decode.specs.Tables.{table}
 use Rattle.lines.specs.Lines.{refusedLine}
-use Rattle.cutvalues.specs.CutValues.{valuesReply, valuesOf}
+use Rattle.finish.specs.Finish.{finishOf}
+use Rattle.schmidt.specs.Schmidt.{singularValues, answerOf}
 use Rattle.certificates.specs.Accepted.{acceptedText}
 
 -- the list and the state that a file of k entries and n qubits holds
@@ -18,10 +19,15 @@ listOf file k = table k (entryAt file)
 abbrev pub stateOf : List ℕ → ℕ → ℕ → List Float
 stateOf file n k = table (2 * 2 ^ n) (componentAt file k)
 
--- the lines of a cut, accepted or refused by the library, with export cap 10
+-- the library's answer with export cap 10, room for 16 values and 4,128 numbers of scratch
+unfoldable pub cutReply : List Float → ℕ → List ℕ → Reply
+cutReply state n list = answerOf state n list 10 16 4128
+
+-- the lines of a cut, accepted or refused by the library
 unfoldable pub cutText : List Float → ℕ → List ℕ → List ℕ
-unfolding acceptedText
-cutText state n list = ifDone (valuesReply state n list .0) (acceptedText n list (valuesOf state n list)) (refusedLine (valuesReply state n list))
+unfolding acceptedText cutReply
+cutText state n list =
+    ifDone (cutReply state n list .0) (acceptedText n list (finishOf (singularValues state n list))) (refusedLine (cutReply state n list))
 
 -- the lines of a file whose header was answered 0
 unfoldable pub fileText : List ℕ → ℕ → ℕ → List ℕ

@@ -3,3 +3,4 @@ pub mod AcceptedLaws
 pub mod Certificate
 pub mod CertificateLaws
 pub mod Answered
+pub mod Lengths

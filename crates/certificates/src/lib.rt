@@ -1,5 +1,5 @@
 // What the program `cutprint` prints of a cut file. Its number buffers are filled arrays, lent to the library: a file has at
-// most 9 qubits, so 1,024 numbers of state, 1,024 of the cut matrix and of the sweeps each, and 16 values.
+// most 9 qubits, so 1,024 numbers of state, 4,128 of scratch and 16 values.
 use answers::Answer;
 ghost use mathlib.Core.Path.{_≡_};
 ghost use Prim.Native.Nat.{_*_, _^_, _≤_};
@@ -21,19 +21,35 @@ pub fn put_accepted(list: &[usize], n: usize, values: &[f64], out: &mut [u8]) ->
     lines::put_listing(out, n, list.len(), cut.rows, cut.columns, side, values)
 }
 
-// Puts the cut values of a state, or the library's refusal.
+// Puts the cut values of a state, or the library's refusal, over the program's buffers.
+fn put_values_with(
+    state: &[f64],
+    n: usize,
+    list: &[usize],
+    values: &mut [f64],
+    scratch: &mut [f64],
+    out: &mut [u8],
+) -> usize
+    requires { ⌜ (n ≤ 9) × (length (now values) ≡ 16) × (length (now scratch) ≡ 4128) × (2048 ≤ length (now out)) ⌝ }
+    ensures { λ r. ⌜ Printed (cutText (now (state .entry)) n (now (list .entry))) (now (out .entry)) r (now (out .exit)) ⌝ }
+{
+    let kept = schmidt::dense_schmidt_values(state, n, list, 10, values, scratch);
+    let answer = kept.answer;
+    let count = kept.count;
+    let Answer::Done = answer else {
+        return lines::put_refused(out, answer);
+    };
+    put_accepted(list, n, &values[..count], out)
+}
+
+// The same, with the buffers.
 fn put_values(state: &[f64], n: usize, list: &[usize], out: &mut [u8]) -> usize
     requires { ⌜ (n ≤ 9) × (2048 ≤ length (now out)) ⌝ }
     ensures { λ r. ⌜ Printed (cutText (now (state .entry)) n (now (list .entry))) (now (out .entry)) r (now (out .exit)) ⌝ }
 {
     let mut values = [0.0f64; 16];
-    let cut = cutvalues::cut_values(state, n, list, &mut values);
-    let answer = cut.answer;
-    let count = cut.count;
-    let Answer::Done = answer else {
-        return lines::put_refused(out, answer);
-    };
-    put_accepted(list, n, &values[..count], out)
+    let mut scratch = [0.0f64; 4128];
+    put_values_with(state, n, list, &mut values, &mut scratch, out)
 }
 
 // Puts what a file whose header was answered 0 is answered by.

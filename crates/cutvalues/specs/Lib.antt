@@ -1,2 +1,0 @@
-pub mod CutValues
-pub mod CutValuesLaws
