@@ -5,6 +5,7 @@
 //   1 a dim out scratch      hermitian_eigenvalues
 //   2 values out             finish_schmidt_values
 //   3 rho dim out scratch    schmidt_values_from_density
+//   4 matrix dim values vectors scratch    hermitian_eigen
 ghost use Prim.Native.Nat.{_≤_};
 
 fn least(a: usize, b: usize) -> usize
@@ -46,6 +47,13 @@ fn from_density(rho: &[f64], dim: usize, out: &mut [f64], scratch: &mut [f64]) {
     replay::print_floats(scratch);
 }
 
+fn eigen(matrix: &[f64], dim: usize, values: &mut [f64], vectors: &mut [f64], scratch: &mut [f64]) {
+    replay::print_answer(hermitian::hermitian_eigen(matrix, dim, values, vectors, scratch));
+    replay::print_floats(values);
+    replay::print_floats(vectors);
+    replay::print_floats(scratch);
+}
+
 fn finished(values: &[f64], out: &mut [f64]) {
     print_kept(finish::finish_schmidt_values(values, out));
     replay::print_floats(out);
@@ -66,6 +74,26 @@ fn lend(text: &[u8], at: usize, a: &[f64], dim: usize, kind: u64) -> usize {
     past(text, last)
 }
 
+// The same to the call that gives vectors too.
+fn lend_vectors(text: &[u8], at: usize, a: &[f64], dim: usize) -> usize {
+    let mut values = [3.0; 512];
+    let mut vectors = [3.0; 512];
+    let mut scratch = [3.0; 512];
+    let second = past(text, at);
+    let last = past(text, second);
+    let in_values = room_at(text, at);
+    let in_vectors = room_at(text, second);
+    let in_scratch = room_at(text, last);
+    eigen(
+        a,
+        dim,
+        &mut values[..in_values],
+        &mut vectors[..in_vectors],
+        &mut scratch[..in_scratch],
+    );
+    past(text, last)
+}
+
 // The same to a call on a list of values.
 fn lend_list(text: &[u8], at: usize, values: &[f64]) -> usize {
     let mut out = [3.0; 512];
@@ -81,13 +109,12 @@ fn case(text: &[u8], at: usize, kind: u64) -> usize {
     if kind == 2 {
         return lend_list(text, next, &numbers[..count]);
     }
-    lend(
-        text,
-        past(text, next),
-        &numbers[..count],
-        size_at(text, next),
-        kind,
-    )
+    let lent = past(text, next);
+    let dim = size_at(text, next);
+    if kind == 4 {
+        return lend_vectors(text, lent, &numbers[..count], dim);
+    }
+    lend(text, lent, &numbers[..count], dim, kind)
 }
 
 fn run(text: &[u8]) {

@@ -15,7 +15,9 @@ pub fn entries(kind: &str) -> &'static [Entry] {
     match kind {
         "svd_cases" => &[svd_jacobi],
         "qr_cases" => &[factorize_gram_schmidt],
-        "spectra_cases" => &[hermitian_eigenvalues, finish_schmidt_values, schmidt_values_from_density],
+        "spectra_cases" => {
+            &[hermitian_eigenvalues, finish_schmidt_values, schmidt_values_from_density, hermitian_eigen]
+        }
         "sites_cases" => &[
             truncated_svd_rank,
             discards_resolvable_weight,
@@ -168,6 +170,9 @@ fn squares(rng: &mut Random, entry: Entry, calls: &mut Vec<Call>) {
         let cells = cases::square_of(rng, dim, Style::Unit, 3);
         calls.push(on_square(rng, entry, &cells, dim));
     }
+    if entry == hermitian_eigen {
+        larger_squares(rng, calls);
+    }
     let zero = [(0.0, 0.0); 4];
     calls.push(on_square(rng, entry, &zero, 2));
     // Diagonal +0.0 and -0.0 with 1 off it.
@@ -179,6 +184,17 @@ fn squares(rng: &mut Random, entry: Entry, calls: &mut Vec<Call>) {
         calls.push(on_square(rng, entry, &zero, dim));
     }
     damaged(rng, entry, 12, calls);
+}
+
+/// Hermitian and not, up to a side at which the order of the columns matters; zeros of both signs.
+fn larger_squares(rng: &mut Random, calls: &mut Vec<Call>) {
+    for dim in [5, 7, 8] {
+        for kind in [0, 7] {
+            let cells = cases::square_of(rng, dim, Style::Whole, kind);
+            calls.push(on_square(rng, hermitian_eigen, &cells, dim));
+        }
+    }
+    calls.push(on_square(rng, hermitian_eigen, &[(-0.0, -0.0); 9], 3));
 }
 
 fn finishes(rng: &mut Random, calls: &mut Vec<Call>) {

@@ -33,20 +33,32 @@ returns c = search needs
 past-requires-2 : tie.Need-past-requires-2
 past-requires-2 c κs = search needs
 
+size-at-requires : tie.Need-size-at-requires
+size-at-requires c κs = search needs
+
 array-share-prefix-numbers-2 : tie.Need-array-share-prefix-numbers-2
 array-share-prefix-numbers-2 c = search needs
+
+slice-aggregate-lend-vectors : tie.Need-slice-aggregate-lend-vectors
+slice-aggregate-lend-vectors c = sym (length-take-le _ _ (omega arith))
+
+lend-vectors-requires : tie.Need-lend-vectors-requires
+lend-vectors-requires c κs = search needs
+
+returns-2 : tie.Need-returns-2
+returns-2 c = search needs
+
+array-share-prefix-numbers-3 : tie.Need-array-share-prefix-numbers-3
+array-share-prefix-numbers-3 c = search needs
 
 slice-aggregate-lend : tie.Need-slice-aggregate-lend
 slice-aggregate-lend c = sym (length-take-le _ _ (omega arith))
 
-size-at-requires : tie.Need-size-at-requires
-size-at-requires c κs = search needs
-
 lend-requires : tie.Need-lend-requires
 lend-requires c κs = search needs
 
-returns-2 : tie.Need-returns-2
-returns-2 c = search needs
+returns-3 : tie.Need-returns-3
+returns-3 c = search needs
 
 pub case-spec : {M : Type 1} → statement M
 case-spec =
@@ -61,8 +73,12 @@ case-spec =
     lend-list-requires
     returns
     past-requires-2
-    array-share-prefix-numbers-2
-    slice-aggregate-lend
     size-at-requires
+    array-share-prefix-numbers-2
+    slice-aggregate-lend-vectors
+    lend-vectors-requires
+    returns-2
+    array-share-prefix-numbers-3
+    slice-aggregate-lend
     lend-requires
-    returns-2)
+    returns-3)
