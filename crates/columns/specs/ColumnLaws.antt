@@ -1,20 +1,20 @@
 -- Laws of the columns. Assumes nothing.
-use mathlib.Core.Path.{_≡_, refl, ap, ap₂, _∙_}
-use mathlib.Core.List.{List, _++_, append-nil}
-use Prim.Native.Nat.{ℕ, zero, suc, _+_, _-_, _*_, _≤_, _<_}
+use mathlib.Core.Path.{_≡_, refl, ap, _∙_}
+use mathlib.Core.List.{List, _++_}
+use Prim.Native.Nat.{ℕ, zero, suc, _+_, _-_, _*_, _≤_}
 use native.Mathlib.Numerals.{add-one}
 use native.Mathlib.Omega.{arith}
 use lib.Ieee as Ieee
 use lib.Ieee.{Float, binary64, nan}
-use lib.ListN.{length, getD, drop, drop-of-length-le, length-set}
+use lib.ListN.{length, getD, drop, length-set}
 use lib.Seq.{getD-append-add, getD-drop}
 use Rattle.numbers.specs.Root.{sqrtOf}
 use Rattle.complex.specs.declared.Complex.{Complex}
-use Rattle.complex.specs.Arithmetic.{product, difference, normSqr, scaled}
+use Rattle.complex.specs.Arithmetic.{normSqr, scaled}
 use Rattle.complex.specs.Cells.{cellAt, setCell, cellsOf, written}
-use Rattle.complex.specs.CellLaws.{length-cells, length-written, written-none, written-more}
+use Rattle.complex.specs.CellLaws.{length-cells}
 use Rattle.complex.specs.Zeros.{zeroFloat}
-use Rattle.columns.specs.Columns.{cellFrom, columnOf, squaresTo, normOf, lessCell, lessened, scaledInto}
+use Rattle.columns.specs.Columns.{cellFrom, squaresTo, normOf, scaledInto}
 
 -- a number past the written cells is as it was
 pub number-kept : (m i : ℕ) (f : ℕ → Complex) (old : List Float) → 2 * m ≤ i → getD (written m f old) i nan ≡ getD old i nan

@@ -1,5 +1,5 @@
 -- The real and the imaginary parts of the four sums of a dot product, each added up by itself. Assumes nothing.
-use mathlib.Core.Path.{_≡_, refl}
+use mathlib.Core.Path.{_≡_, refl, ap, ap₂, _∙_}
 use mathlib.Core.List.{List}
 use Prim.Native.Nat.{ℕ, _+_, _*_, _≤_}
 use native.Mathlib.Numerals.{add-one}
@@ -11,7 +11,7 @@ use Rattle.complex.specs.Loops.{stop}
 use Rattle.complex.specs.Zeros.{zeroFloat}
 use Rattle.columns.specs.declared.Parts.{Parts}
 use Rattle.columns.specs.declared.Sums.{Sums}
-use Rattle.columns.specs.Dot.{noSums, addQuad, term, quadsTo}
+use Rattle.columns.specs.Dot.{noSums, addQuad, addFirst, joined, term, quadsTo}
 
 abbrev pub partsOf : Float → Float → Float → Float → Parts
 partsOf a b c d = record { sum0 = a; sum1 = b; sum2 = c; sum3 = d }
@@ -31,6 +31,15 @@ sumsOf x y =
       sum2 = complexOf (x .sum2) (y .sum2);
       sum3 = complexOf (x .sum3) (y .sum3);
     }
+
+pub first-made : (s : Sums) (x : Complex) {z : Complex} → z ≡ sum (s .sum0) x
+    → record { sum0 = z; sum1 = s .sum1; sum2 = s .sum2; sum3 = s .sum3 } ≡ addFirst s x
+unfolding addFirst
+first-made s x e = ap (λ (y : Complex). record { sum0 = y; sum1 = s .sum1; sum2 = s .sum2; sum3 = s .sum3 }) e
+
+pub joined-made : (s : Sums) {x y z : Complex} → x ≡ sum (s .sum0) (s .sum1) → y ≡ sum (s .sum2) (s .sum3) → z ≡ sum x y → z ≡ joined s
+unfolding joined
+joined-made s e f g = g ∙ ap₂ sum e f
 
 -- the parts put together again
 pub parts-joined : (s : Sums) {x y : Parts} {z : Sums} → x ≡ realParts s → y ≡ imaginaryParts s → z ≡ sumsOf x y → z ≡ s

@@ -12,7 +12,7 @@ use lib.Seq.{getD-set-same, getD-set-other}
 use Rattle.complex.specs.declared.Complex.{Complex}
 use Rattle.complex.specs.Arithmetic.{complexOf, conjugate, product, difference, normSqr, scaled}
 use Rattle.complex.specs.Cells.{cellAt, setCell, cellsOf}
-use Rattle.complex.specs.CellLaws.{length-cells, cell-written, cells-same}
+use Rattle.complex.specs.CellLaws.{cells-same}
 use Rattle.complex.specs.Planes.{planeAt, setPlane, length-setPlane}
 use Rattle.columns.specs.Dot.{term}
 use Rattle.columns.specs.Columns.{cellFrom, columnOf, squaresTo, lessCell, lessened, scaledInto}

@@ -32,11 +32,27 @@ impl Sums {
     pub fn of_parts(re: Parts, im: Parts) -> Sums
         ensures { λ r. ⌜ r ≡ sumsOf re im ⌝ }
     {
+        let x = Complex {
+            re: re.sum0,
+            im: im.sum0,
+        };
+        let y = Complex {
+            re: re.sum1,
+            im: im.sum1,
+        };
+        let z = Complex {
+            re: re.sum2,
+            im: im.sum2,
+        };
+        let w = Complex {
+            re: re.sum3,
+            im: im.sum3,
+        };
         Sums {
-            sum0: Complex::new(re.sum0, im.sum0),
-            sum1: Complex::new(re.sum1, im.sum1),
-            sum2: Complex::new(re.sum2, im.sum2),
-            sum3: Complex::new(re.sum3, im.sum3),
+            sum0: x,
+            sum1: y,
+            sum2: z,
+            sum3: w,
         }
     }
 

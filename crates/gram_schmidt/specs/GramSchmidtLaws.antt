@@ -2,7 +2,7 @@
 use mathlib.Core.Path.{_≡_, refl, sym, ap, ap₂, _∙_}
 use mathlib.Core.Bool.{Bool, true, false, _&&_}
 use mathlib.Core.List.{List, append-nil}
-use Prim.Native.Nat.{ℕ, zero, suc, _+_, _-_, _*_, _≤_, _<_, min, max}
+use Prim.Native.Nat.{ℕ, zero, suc, _+_, _-_, _*_, _≤_, _<_, max}
 use native.Mathlib.Numerals.{add-one}
 use native.Mathlib.Omega.{arith}
 use lib.Dec.{ltb}
@@ -17,8 +17,7 @@ use Rattle.complex.specs.Loops.{cond-yes, cond-no}
 use Rattle.complex.specs.Zeros.{zeroFloat, zeros, zeroed}
 use Rattle.columns.specs.Dot.{dotOf}
 use Rattle.columns.specs.Columns.{columnOf, normOf, lessened}
-use Rattle.gram_schmidt.specs.Room.{Room}
-use Rattle.gram_schmidt.specs.GramSchmidt.{oneFloat, retain, rankFloor, Held, held, projectedBy, projected, passTo, Passed, passed, passes, newBasis, kept, judged, Factors, factors, Worked, addColumn, columnsTo, basisFor, withBasis, factorsOf}
+use Rattle.gram_schmidt.specs.GramSchmidt.{oneFloat, retain, rankFloor, Held, held, projectedBy, projected, passTo, Passed, passed, passes, newBasis, kept, judged, Factors, factors, Worked, addColumn, columnsTo, basisFor}
 
 -- ---- one column against the basis
 

@@ -7,7 +7,7 @@ use lib.ListN.{length}
 use Rattle.complex.specs.Zeros.{zeros, zeroed}
 use Rattle.basis.specs.Matrix.{matrixOf, matrix-zeros}
 use Rattle.gram_schmidt.specs.Room.{Room}
-use Rattle.gram_schmidt.specs.GramSchmidt.{Factors, factors, columnsTo, basisFor, withBasis, factorsOf}
+use Rattle.gram_schmidt.specs.GramSchmidt.{factors, columnsTo, basisFor, withBasis, factorsOf}
 use Rattle.gram_schmidt.specs.GramSchmidtLaws.{zeroed-all}
 
 pub built : (a : List Float) (rows cols cap : ℕ) (q r : List Float) {la lv k : ℕ} {q₁ r₁ m r₂ : List Float} → Room rows cols cap la (length q) (length r) lv

@@ -1,5 +1,5 @@
--- `columns::Sums::joined` meets its contract: the three sums are the callees', in this order. Assumes nothing.
-use Rattle.columns.specs.Dot.{joined}
+-- `columns::Sums::joined` meets its contract: each sum is the callee's. Assumes nothing.
+use Rattle.columns.specs.DotParts.{joined-made}
 use borrow.Author.Needs.{needs}
 use Rattle.columns.proofs.Sums.joined.Statement.{statement}
 use Rattle.columns.proofs.Sums.joined.Tie as tie
@@ -14,8 +14,7 @@ add-requires-3 : tie.Need-add-requires-3
 add-requires-3 c κs = search needs
 
 returns : tie.Need-returns
-unfolding joined
-returns c = cc
+returns c = joined-made _ (c .before .before .add .ensures) (c .before .add2 .ensures) (c .add3 .ensures)
 
 pub joined-spec : {M : Type 1} → statement M
 joined-spec = tie.close (tie.spec add-requires add-requires-2 add-requires-3 returns)
