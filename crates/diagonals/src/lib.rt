@@ -102,7 +102,8 @@ fn fill_blocks(
     }
 }
 
-// The lower half: in blocks where it is small, and otherwise two rows at a time.
+// The lower half: in blocks where it or the register is small, so that filling planes would cost more than it gains, and
+// otherwise two rows at a time.
 pub fn fill_lower(
     state: &[f64],
     n: usize,
@@ -116,6 +117,10 @@ pub fn fill_lower(
     requires { ⌜ Square dim (now out) × (groups * dim ≤ 4096) ⌝ }
     ensures { λ _. ⌜ LowerTurns dim (tableEntry n (now (state .entry)) mask groups (now (offsets .entry))) (now (out .entry)) (now (out .exit)) (dim / 2) ⌝ }
 {
+    if n < 10 {
+        fill_blocks(state, n, mask, groups, offsets, dim, out);
+        return;
+    }
     if dim < 16 {
         fill_blocks(state, n, mask, groups, offsets, dim, out);
         return;
