@@ -35,7 +35,7 @@ fn check(state: &[f64], n: usize, rows: usize, out: usize, scratch: usize) -> An
     let Answer::Done = first else {
         return first;
     };
-    complex::check_components(state)
+    components::check_components(state)
 }
 
 // The norms of the work matrix's columns after the sweeps, which need no V.
