@@ -18,6 +18,7 @@ pub fn entries(kind: &str) -> &'static [Entry] {
         "spectra_cases" => {
             &[hermitian_eigenvalues, finish_schmidt_values, schmidt_values_from_density, hermitian_eigen]
         }
+        "schmidt_cases" => &[dense_schmidt_values],
         "sites_cases" => &[
             truncated_svd_rank,
             discards_resolvable_weight,
@@ -226,6 +227,40 @@ fn finishes(rng: &mut Random, calls: &mut Vec<Call>) {
     damaged(rng, finish_schmidt_values, 12, calls);
 }
 
+/// Cuts of up to four qubits in states of every kind, the paper's cases on the bench, then damaged calls.
+fn cuts(rng: &mut Random, calls: &mut Vec<Call>) {
+    let cut = |rng: &mut Random, cells: &[(f64, f64)], n: usize, list: Vec<u64>, cap: usize| {
+        lend(rng, dense_schmidt_values, vec![Arg::Many(numbers(cells)), one(n), Arg::Many(list), one(cap)])
+    };
+    for (n, k) in [(2, 1), (3, 1), (3, 2), (4, 1), (4, 2), (4, 3)] {
+        for kind in 0..12 {
+            let (cells, list) = (cases::state_of(rng, n, kind), cases::list(rng, n, k));
+            calls.push(cut(rng, &cells, n, list, 13));
+        }
+    }
+    let real = |values: &[f64]| values.iter().map(|&value| (value, 0.0)).collect::<Vec<_>>();
+    let above = f64::from_bits(LARGEST.to_bits() + 1);
+    for x in [power(-537), power(-538), LARGEST, above] {
+        calls.push(cut(rng, &real(&[x, 0.0, 0.0, 0.0]), 2, vec![0], 13));
+    }
+    calls.push(cut(rng, &real(&[3.0, 4.0, 0.0, 0.0]), 2, vec![0], 13));
+    calls.push(cut(rng, &real(&[0.0, -3.0 * power(-269), 0.0, -power(-269)]), 2, vec![0], 13));
+    calls.push(cut(rng, &real(&[power(-280); 4]), 2, vec![0], 13));
+    for (n, list, cap) in [
+        (2, vec![1, 1], 13),
+        (2, vec![5, 1], 13),
+        (2, vec![0, 1], 13),
+        (2, vec![], 13),
+        (12, vec![0], 12),
+        (0, vec![0], 13),
+        (13, vec![0], 14),
+        (2, vec![0], 2),
+    ] {
+        calls.push(cut(rng, &real(&[1.0; 4]), n, list, cap));
+    }
+    damaged(rng, dense_schmidt_values, 40, calls);
+}
+
 fn damaged(rng: &mut Random, entry: Entry, count: usize, calls: &mut Vec<Call>) {
     for at in 0..count {
         let mut call = cases::accepted(rng, entry, Bounds { qubits: 2, side: 2 });
@@ -253,6 +288,7 @@ pub fn cases_of(kind: &str, seed: u64) -> Vec<Call> {
             svd_jacobi | factorize_gram_schmidt => matrices(rng, entry, &mut calls),
             finish_schmidt_values => finishes(rng, &mut calls),
             hermitian_eigenvalues | schmidt_values_from_density | hermitian_eigen => squares(rng, entry, &mut calls),
+            dense_schmidt_values => cuts(rng, &mut calls),
             _ => sites_sample::cases_of(rng, entry, &mut calls),
         }
     }
