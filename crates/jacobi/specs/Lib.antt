@@ -2,3 +2,5 @@
 pub mod Sweeping
 pub mod Counts
 pub mod Values
+pub mod Untouched
+pub mod Marks

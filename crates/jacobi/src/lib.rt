@@ -2,10 +2,12 @@
 // Row r of column p of a matrix of m rows is its cell p * m + r.
 use pairs::Decision;
 ghost use mathlib.Core.Path.{_≡_};
+ghost use mathlib.Core.Bool.{true};
 ghost use mathlib.Core.List.{[]};
-ghost use Prim.Native.Nat.{_+_, _-_, _<_};
-ghost use lib.ListN.{length};
+ghost use Prim.Native.Nat.{_+_, _-_, _<_, _≤_};
+ghost use lib.ListN.{length, getD};
 ghost use Rattle.jacobi.specs.Sweeping.{Room, ValueRoom, state, counted, pairStep, pairsTo, sweepOf, settled};
+ghost use Rattle.jacobi.specs.Marks.{look, Marked, Seen};
 
 const MAX_SVD_SWEEPS: usize = 100;
 
@@ -56,22 +58,80 @@ fn pair(
     count(d, s)
 }
 
+// Whether neither column was turned since the look with the number `last`.
+fn unchanged(marks: &[usize], p: usize, q: usize, last: usize) -> bool
+    requires { ⌜ (p < length (now marks)) × (q < length (now marks)) ⌝ }
+    ensures { λ r. ⌜ (r ≡ true → (getD (now (marks .entry)) p 0 < last) × (getD (now (marks .entry)) q 0 < last)) ⌝ }
+{
+    if marks[p] < last {
+        return marks[q] < last;
+    }
+    false
+}
+
+// The pair p, q, which is passed over where neither column was turned since it was left: it would be left again.
+fn visit(
+    work: &mut [f64],
+    v: &mut [f64],
+    marks: &mut [usize],
+    m: usize,
+    n: usize,
+    p: usize,
+    q: usize,
+    s: Sweeps,
+) -> Sweeps
+    requires { ⌜ Room m n (length (now work)) (length (now v)) × Marked n p q s (length (now marks)) × Seen m n (look (s .begun) p q) (now marks) (now work) ⌝ }
+    ensures done { λ r. ⌜ state (now (work .exit)) (now (v .exit)) r ≡ pairStep m n p q (state (now (work .entry)) (now (v .entry)) s) ⌝ }
+    ensures seen { λ _. ⌜ Seen m n (look (s .begun) p q + 1) (now (marks .exit)) (now (work .exit)) ⌝ }
+{
+    let now = s.begun * 4096 + p * 64 + q;
+    if unchanged(marks, p, q, now - 4096) {
+        return s;
+    }
+    let t = pair(work, v, m, n, p, q, s);
+    if t.turned == s.turned {
+        return t;
+    }
+    marks[p] = now;
+    marks[q] = now;
+    t
+}
+
 // The pairs of the column p with each later one.
-fn column(work: &mut [f64], v: &mut [f64], m: usize, n: usize, p: usize, s: Sweeps) -> Sweeps
-    requires { ⌜ Room m n (length (now work)) (length (now v)) × (p < n) × (s .turned + n < 1000000) ⌝ }
-    ensures { λ r. ⌜ state (now (work .exit)) (now (v .exit)) r ≡ pairsTo m n p (n - (p + 1)) (state (now (work .entry)) (now (v .entry)) s) ⌝ }
+fn column(
+    work: &mut [f64],
+    v: &mut [f64],
+    marks: &mut [usize],
+    m: usize,
+    n: usize,
+    p: usize,
+    s: Sweeps,
+) -> Sweeps
+    requires { ⌜ Room m n (length (now work)) (length (now v)) × (p < n) × (s .turned + n < 1000000) × (1 ≤ s .begun) × (s .begun ≤ 1000)
+        × (length (now marks) ≡ 64) × Seen m n (look (s .begun) p 0) (now marks) (now work) ⌝ }
+    ensures done { λ r. ⌜ state (now (work .exit)) (now (v .exit)) r ≡ pairsTo m n p (n - (p + 1)) (state (now (work .entry)) (now (v .entry)) s) ⌝ }
+    ensures seen { λ _. ⌜ Seen m n (look (s .begun) (p + 1) 0) (now (marks .exit)) (now (work .exit)) ⌝ }
 {
     let mut t = s;
     for q in (p + 1)..n {
-        t = pair(work, v, m, n, p, q, t);
+        t = visit(work, v, marks, m, n, p, q, t);
     }
     t
 }
 
 // One sweep: all pairs p < q, rising.
-fn sweep(work: &mut [f64], v: &mut [f64], m: usize, n: usize, s: Sweeps) -> Sweeps
-    requires { ⌜ Room m n (length (now work)) (length (now v)) × (s .begun < 1000) × (s .turned < 900000) ⌝ }
-    ensures { λ r. ⌜ state (now (work .exit)) (now (v .exit)) r ≡ sweepOf m n (state (now (work .entry)) (now (v .entry)) s) ⌝ }
+fn sweep(
+    work: &mut [f64],
+    v: &mut [f64],
+    marks: &mut [usize],
+    m: usize,
+    n: usize,
+    s: Sweeps,
+) -> Sweeps
+    requires { ⌜ Room m n (length (now work)) (length (now v)) × (s .begun < 1000) × (s .turned < 900000)
+        × (length (now marks) ≡ 64) × Seen m n (look (s .begun + 1) 0 0) (now marks) (now work) ⌝ }
+    ensures done { λ r. ⌜ state (now (work .exit)) (now (v .exit)) r ≡ sweepOf m n (state (now (work .entry)) (now (v .entry)) s) ⌝ }
+    ensures seen { λ _. ⌜ Seen m n (look (s .begun + 2) 0 0) (now (marks .exit)) (now (work .exit)) ⌝ }
 {
     let mut t = Sweeps {
         begun: s.begun + 1,
@@ -79,7 +139,7 @@ fn sweep(work: &mut [f64], v: &mut [f64], m: usize, n: usize, s: Sweeps) -> Swee
         turned: s.turned,
     };
     for p in 0..n {
-        t = column(work, v, m, n, p, t);
+        t = column(work, v, marks, m, n, p, t);
     }
     t
 }
@@ -89,13 +149,14 @@ pub fn settle(work: &mut [f64], v: &mut [f64], m: usize, n: usize) -> Sweeps
     requires { ⌜ Room m n (length (now work)) (length (now v)) ⌝ }
     ensures { λ r. ⌜ state (now (work .exit)) (now (v .exit)) r ≡ settled m n (now (work .entry)) (now (v .entry)) ⌝ }
 {
+    let mut marks = [4096usize; 64];
     let mut s = Sweeps {
         begun: 0,
         quiet: false,
         turned: 0,
     };
     for k in 0..MAX_SVD_SWEEPS {
-        s = sweep(work, v, m, n, s);
+        s = sweep(work, v, &mut marks, m, n, s);
         if s.quiet {
             break;
         }
@@ -117,22 +178,60 @@ fn pair_values(work: &mut [f64], m: usize, n: usize, p: usize, q: usize, s: Swee
     count(d, s)
 }
 
+// The pair p, q, which is passed over where neither column was turned since it was left.
+fn visit_values(
+    work: &mut [f64],
+    marks: &mut [usize],
+    m: usize,
+    n: usize,
+    p: usize,
+    q: usize,
+    s: Sweeps,
+) -> Sweeps
+    requires { ⌜ ValueRoom m n (length (now work)) × Marked n p q s (length (now marks)) × Seen m n (look (s .begun) p q) (now marks) (now work) ⌝ }
+    ensures done { λ r. ⌜ state (now (work .exit)) [] r ≡ pairStep m n p q (state (now (work .entry)) [] s) ⌝ }
+    ensures seen { λ _. ⌜ Seen m n (look (s .begun) p q + 1) (now (marks .exit)) (now (work .exit)) ⌝ }
+{
+    let now = s.begun * 4096 + p * 64 + q;
+    if unchanged(marks, p, q, now - 4096) {
+        return s;
+    }
+    let t = pair_values(work, m, n, p, q, s);
+    if t.turned == s.turned {
+        return t;
+    }
+    marks[p] = now;
+    marks[q] = now;
+    t
+}
+
 // The pairs of the column p with each later one.
-fn column_values(work: &mut [f64], m: usize, n: usize, p: usize, s: Sweeps) -> Sweeps
-    requires { ⌜ ValueRoom m n (length (now work)) × (p < n) × (s .turned + n < 1000000) ⌝ }
-    ensures { λ r. ⌜ state (now (work .exit)) [] r ≡ pairsTo m n p (n - (p + 1)) (state (now (work .entry)) [] s) ⌝ }
+fn column_values(
+    work: &mut [f64],
+    marks: &mut [usize],
+    m: usize,
+    n: usize,
+    p: usize,
+    s: Sweeps,
+) -> Sweeps
+    requires { ⌜ ValueRoom m n (length (now work)) × (p < n) × (s .turned + n < 1000000) × (1 ≤ s .begun) × (s .begun ≤ 1000)
+        × (length (now marks) ≡ 64) × Seen m n (look (s .begun) p 0) (now marks) (now work) ⌝ }
+    ensures done { λ r. ⌜ state (now (work .exit)) [] r ≡ pairsTo m n p (n - (p + 1)) (state (now (work .entry)) [] s) ⌝ }
+    ensures seen { λ _. ⌜ Seen m n (look (s .begun) (p + 1) 0) (now (marks .exit)) (now (work .exit)) ⌝ }
 {
     let mut t = s;
     for other in (p + 1)..n {
-        t = pair_values(work, m, n, p, other, t);
+        t = visit_values(work, marks, m, n, p, other, t);
     }
     t
 }
 
 // One sweep: all pairs p < q, rising.
-fn sweep_values(work: &mut [f64], m: usize, n: usize, s: Sweeps) -> Sweeps
-    requires { ⌜ ValueRoom m n (length (now work)) × (s .begun < 1000) × (s .turned < 900000) ⌝ }
-    ensures { λ r. ⌜ state (now (work .exit)) [] r ≡ sweepOf m n (state (now (work .entry)) [] s) ⌝ }
+fn sweep_values(work: &mut [f64], marks: &mut [usize], m: usize, n: usize, s: Sweeps) -> Sweeps
+    requires { ⌜ ValueRoom m n (length (now work)) × (s .begun < 1000) × (s .turned < 900000)
+        × (length (now marks) ≡ 64) × Seen m n (look (s .begun + 1) 0 0) (now marks) (now work) ⌝ }
+    ensures done { λ r. ⌜ state (now (work .exit)) [] r ≡ sweepOf m n (state (now (work .entry)) [] s) ⌝ }
+    ensures seen { λ _. ⌜ Seen m n (look (s .begun + 2) 0 0) (now (marks .exit)) (now (work .exit)) ⌝ }
 {
     let mut t = Sweeps {
         begun: s.begun + 1,
@@ -140,7 +239,7 @@ fn sweep_values(work: &mut [f64], m: usize, n: usize, s: Sweeps) -> Sweeps
         turned: s.turned,
     };
     for p in 0..n {
-        t = column_values(work, m, n, p, t);
+        t = column_values(work, marks, m, n, p, t);
     }
     t
 }
@@ -151,13 +250,14 @@ pub fn settle_values(work: &mut [f64], m: usize, n: usize) -> Sweeps
     requires { ⌜ ValueRoom m n (length (now work)) ⌝ }
     ensures { λ r. ⌜ state (now (work .exit)) [] r ≡ settled m n (now (work .entry)) [] ⌝ }
 {
+    let mut marks = [4096usize; 64];
     let mut s = Sweeps {
         begun: 0,
         quiet: false,
         turned: 0,
     };
     for k in 0..MAX_SVD_SWEEPS {
-        s = sweep_values(work, m, n, s);
+        s = sweep_values(work, &mut marks, m, n, s);
         if s.quiet {
             break;
         }

@@ -1,49 +1,81 @@
--- `jacobi::settle_values` meets its contract. The loop's invariant is that of `settle`, with an empty V. Assumes nothing.
-use borrow.Author.Needs.{needs}
-use mathlib.Core.Path.{_≡_, refl}
+-- `jacobi::settle_values` meets its contract. The loop's invariant: the sweeps that are left lead to the same end, and the marks tell of the turns. Assumes nothing.
+use mathlib.Core.Path.{_≡_, refl, sym, _∙_}
 use mathlib.Core.List.{[]}
-use Prim.Native.Nat.{_-_, _*_, _≤_}
+use Prim.Native.Nat.{_+_, _-_, _*_, _≤_}
 use lib.ListN.{length}
 use native.Mathlib.Omega.{arith}
 use Rattle.jacobi.specs.Counts.{sweep-after, pairs-few}
 use Rattle.jacobi.specs.Sweeping.{state, settled, sweepsTo, settled-start, sweeps-done, sweeps-more, sweeps-quiet}
+use Rattle.jacobi.specs.Marks.{look, Seen, seen-first, seen-at}
 use Rattle.jacobi.proofs.settle_values.Statement.{statement}
 use Rattle.jacobi.proofs.settle_values.Tie as tie
 
 abbrev Inv-loop : tie.InvT-loop
-Inv-loop work₀ m n s₀ k₀ work s k = (k ≤ 100) × (length work ≡ length work₀) × (sweepsTo m n (100 - k) (state work [] s) ≡ settled m n work₀ []) × (s .begun ≤ k) × (s .turned ≤ k * 4096)
+Inv-loop work₀ m n marks₀ s₀ k₀ work marks s k = (k ≤ 100) × (length work ≡ length work₀) × (length marks ≡ 64) × (sweepsTo m n (100 - k) (state work [] s) ≡ settled m n work₀ []) × (s .begun ≤ k) × (s .turned ≤ k * 4096) × Seen m n (look (s .begun + 1) 0 0) marks work
 
 abbrev μ-loop : tie.MeasureT-loop
-μ-loop work₀ m n s₀ k₀ work s k = 100 - k
+μ-loop work₀ m n marks₀ s₀ k₀ work marks s k = 100 - k
 
 loop-holds : tie.Need-loop-holds Inv-loop μ-loop
-loop-holds c = (search needs, refl, settled-start _ _ _ _, search needs, search needs)
+loop-holds c = (omega arith, refl, refl, settled-start _ _ _ _, omega arith, omega arith, seen-first _ _ _ (c .before .pre .columns))
+
+slice-aggregate-sweep-values : tie.Need-slice-aggregate-sweep-values Inv-loop μ-loop
+slice-aggregate-sweep-values c = sym (c .before .before .before .loop .inv .2)
 
 sweep-values-requires : tie.Need-sweep-values-requires Inv-loop μ-loop
-sweep-values-requires c κs = search needs
+sweep-values-requires c κs =
+    let s = c .before .before .before .before .before .pre in
+    let i = c .before .before .before .loop .inv in
+    let l = c .before .before .loop-test .taken in
+    (record { work = i .1 ∙ s .work; columns = s .columns; cells = s .cells }, omega (arith, i .4, l), omega (arith, i .5, l), i .2, i .6)
 
 add-k : tie.Need-add-k Inv-loop μ-loop
-add-k c = search needs
+add-k c = omega (arith, c .before .before .before .before .before .before .before .loop-test .taken)
 
 loop-less : tie.Need-loop-less Inv-loop μ-loop
-loop-less c = search needs
+loop-less c = omega (arith, c .before .before .before .before .before .before .before .loop-test .taken)
 
 loop-again : tie.Need-loop-again Inv-loop μ-loop
 loop-again c =
-    let start = c .before .before .before .before .before .before .before .before in
-    (search needs, search needs, sweeps-more _ _ 100 _ _ (c .before .before .before .before .before .loop-test .taken) (c .before .before .before .before .before .before .loop .inv .2) (c .before .before .before .sweep-values .ensures) (c .if1 .left), omega (arith, sweep-after _ _ _ (c .before .before .before .sweep-values .ensures)), omega (arith, sweep-after _ _ _ (c .before .before .before .sweep-values .ensures), pairs-few _ (start .args .n) (start .pre .columns)))
+    let i = c .before .before .before .before .before .before .before .before .loop .inv in
+    let l = c .before .before .before .before .before .before .before .loop-test .taken in
+    let r = c .before .before .before .before .sweep-values in
+    let s = c .before .before .before .before .before .before .before .before .before .before in
+    let w = sweep-after _ _ _ (r .ensures .0) in (
+      omega (arith, l),
+      r .kept .0 ∙ i .1,
+      r .kept .1 .0 ∙ i .2,
+      sweeps-more _ _ 100 _ _ l (i .3) (r .ensures .0) (c .if1 .left),
+      omega (arith, w .begun, i .4),
+      omega (arith, w .turned, i .5, pairs-few _ (s .args .n) (s .pre .columns), s .pre .columns),
+      seen-at (omega (arith, w .begun)) (r .ensures .1),
+    )
 
 same-length : tie.Need-same-length Inv-loop μ-loop
-same-length c = search needs
+same-length c = c .before .loop .inv .1
 
 returns : tie.Need-returns Inv-loop μ-loop
-returns c = sweeps-done _ _ 100 _ (c .loop-test .left) (c .before .loop .inv .2)
+returns c = sweeps-done _ _ 100 _ (c .loop-test .left) (c .before .loop .inv .3)
 
 same-length-2 : tie.Need-same-length-2 Inv-loop μ-loop
-same-length-2 c = search needs
+same-length-2 c = c .before .before .before .before .sweep-values .kept .0 ∙ c .before .before .before .before .before .before .before .before .loop .inv .1
 
 returns-2 : tie.Need-returns-2 Inv-loop μ-loop
-returns-2 c = sweeps-quiet _ _ 100 _ _ (c .before .before .before .before .before .loop-test .taken) (c .before .before .before .before .before .before .loop .inv .2) (c .before .before .before .sweep-values .ensures) (c .if1 .taken)
+returns-2 c = sweeps-quiet _ _ 100 _ _ (c .before .before .before .before .before .before .before .loop-test .taken) (c .before .before .before .before .before .before .before .before .loop .inv .3) (c .before .before .before .before .sweep-values .ensures .0) (c .if1 .taken)
 
 pub settle-values-spec : {M : Type 1} → statement M
-settle-values-spec = tie.close (tie.spec Inv-loop μ-loop loop-holds sweep-values-requires add-k loop-less loop-again same-length returns same-length-2 returns-2)
+settle-values-spec =
+    tie.close
+    (tie.spec
+    Inv-loop
+    μ-loop
+    loop-holds
+    slice-aggregate-sweep-values
+    sweep-values-requires
+    add-k
+    loop-less
+    loop-again
+    same-length
+    returns
+    same-length-2
+    returns-2)

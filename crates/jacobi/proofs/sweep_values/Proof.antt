@@ -1,46 +1,91 @@
--- `jacobi::sweep_values` meets its contract. The loop's invariant is that of `sweep`, with an empty V. Assumes nothing.
-use borrow.Author.Needs.{needs}
-use mathlib.Core.Path.{_≡_, refl}
+-- `jacobi::sweep_values` meets its contract. The loop's invariant: the state is that after the columns below p, and the marks tell of the turns. Assumes nothing.
+use mathlib.Core.Path.{_≡_, refl, _∙_}
 use mathlib.Core.List.{[]}
 use Prim.Native.Nat.{_+_, _-_, _≤_}
 use lib.ListN.{length}
 use native.Mathlib.Omega.{arith}
 use Rattle.jacobi.specs.Counts.{pairsBelow, pairs-few, pairs-after, turned-more}
 use Rattle.jacobi.specs.Sweeping.{state, sweep-made, columnsTo, columns-none, columns-more}
+use Rattle.jacobi.specs.Marks.{look, Seen, seen-sweep, seen-at}
+use borrow.Author.Needs.{needs}
 use Rattle.jacobi.proofs.sweep_values.Statement.{statement}
 use Rattle.jacobi.proofs.sweep_values.Tie as tie
 
 abbrev Inv-loop : tie.InvT-loop
-Inv-loop work₀ m n t₀ p₀ work t p = (p ≤ n) × (length work ≡ length work₀) × (state work [] t ≡ columnsTo m n p (state work₀ [] t₀)) × (t .turned ≤ t₀ .turned + pairsBelow n p)
+Inv-loop work₀ marks₀ m n t₀ p₀ work marks t p = (p ≤ n) × (length work ≡ length work₀) × (length marks ≡ length marks₀) × (state work [] t ≡ columnsTo m n p (state work₀ [] t₀)) × (t .turned ≤ t₀ .turned + pairsBelow n p) × (t .begun ≡ t₀ .begun) × Seen m n (look (t₀ .begun) p 0) marks work
 
 abbrev μ-loop : tie.MeasureT-loop
-μ-loop work₀ m n t₀ p₀ work t p = n - p
+μ-loop work₀ marks₀ m n t₀ p₀ work marks t p = n - p
 
-add-t7 : tie.Need-add-t7 Inv-loop μ-loop
-add-t7 c = search needs
+add-t8 : tie.Need-add-t8 Inv-loop μ-loop
+add-t8 c = search needs
 
 loop-holds : tie.Need-loop-holds Inv-loop μ-loop
-loop-holds c = (search needs, refl, columns-none _ _ _, search needs)
+loop-holds c =
+    let s = c .before .before .before in
+    (omega arith, refl, refl, columns-none _ _ _, omega arith, refl, s .pre .4)
 
 column-values-requires : tie.Need-column-values-requires Inv-loop μ-loop
-column-values-requires c κs = omega (arith, pairs-few _ (c .before .before .loop .p) (c .before .before .before .before .before .pre .0 .columns))
+column-values-requires c κs =
+    let s = c .before .before .before .before .before .before .before .pre in
+    let i = c .before .before .before .loop .inv in
+    let l = c .before .before .loop-test .taken in
+    let f = pairs-few _ (c .before .before .before .loop .p) (s .0 .columns) in (
+      record { work = i .1 ∙ s .0 .work; columns = s .0 .columns; cells = s .0 .cells },
+      l,
+      omega (arith, i .4, f, s .2, s .0 .columns, l),
+      omega (arith, i .5),
+      omega (arith, i .5, s .1),
+      i .2 ∙ s .3,
+      seen-at (omega (arith, i .5)) (i .6),
+    )
 
 add-p : tie.Need-add-p Inv-loop μ-loop
-add-p c = search needs
+add-p c = omega (arith, c .before .before .before .before .before .before .before .loop-test .taken, c .before .before .before .before .before .before .before .before .before .before .before .before .pre .0 .columns)
 
 loop-less : tie.Need-loop-less Inv-loop μ-loop
-loop-less c = search needs
+loop-less c = omega (arith, c .before .before .before .before .before .before .before .loop-test .taken)
 
 loop-again : tie.Need-loop-again Inv-loop μ-loop
-loop-again c = (search needs, search needs, columns-more _ _ _ _ (c .before .before .before .before .before .loop .inv .2) (c .before .before .column-values .ensures), turned-more _ _ _ (c .before .before .before .before .before .loop .inv .3) (pairs-after _ _ _ _ _ (c .before .before .column-values .ensures)))
+loop-again c =
+    let i = c .before .before .before .before .before .before .before .before .loop .inv in
+    let l = c .before .before .before .before .before .before .before .loop-test .taken in
+    let r = c .before .before .before .before .column-values in
+    let w = pairs-after _ _ _ _ _ (r .ensures .0) in (
+      omega (arith, l),
+      r .kept .0 ∙ i .1,
+      r .kept .1 .0 ∙ i .2,
+      columns-more _ _ _ _ (i .3) (r .ensures .0),
+      turned-more _ _ _ (i .4) w,
+      w .begun ∙ i .5,
+      seen-at (omega (arith, i .5)) (r .ensures .1),
+    )
 
 same-length : tie.Need-same-length Inv-loop μ-loop
-same-length c = search needs
+same-length c = c .before .loop .inv .1
+
+same-length-2 : tie.Need-same-length-2 Inv-loop μ-loop
+same-length-2 c = c .before .loop .inv .2
 
 returns : tie.Need-returns Inv-loop μ-loop
 returns c =
-    let e : c .before .loop .p ≡ c .before .before .before .before .args .n = omega arith in
-    sweep-made _ _ _ (rw e at (c .before .loop .inv .2))
+    let s = c .before .before .before .before .before in
+    let i = c .before .loop .inv in
+    let e : c .before .loop .p ≡ s .args .n = omega (arith, i .0, c .loop-test .left) in
+    (sweep-made _ _ _ (rw e at (i .3)), seen-at (omega arith) (seen-sweep _ _ (s .args .s .begun + 1) _ _ (s .pre .0 .columns) (seen-at (omega (arith, e)) (i .6))))
 
 pub sweep-values-spec : {M : Type 1} → statement M
-sweep-values-spec = tie.close (tie.spec Inv-loop μ-loop add-t7 loop-holds column-values-requires add-p loop-less loop-again same-length returns)
+sweep-values-spec =
+    tie.close
+    (tie.spec
+    Inv-loop
+    μ-loop
+    add-t8
+    loop-holds
+    column-values-requires
+    add-p
+    loop-less
+    loop-again
+    same-length
+    same-length-2
+    returns)
