@@ -35,7 +35,7 @@ fn square_refusal(a: &[f64], dim: usize, out: usize, scratch: usize) -> Answer
     if scratch < need {
         return Answer::Length(2);
     }
-    complex::check_components(a)
+    components::check_components(a)
 }
 
 // The matrix itself, as it came: its cells side by side.

@@ -83,7 +83,7 @@ fn check(a: &[f64], m: usize, n: usize, u: usize, s: usize, vt: usize, scratch: 
     let Answer::Done = second else {
         return second;
     };
-    complex::check_components(a)
+    components::check_components(a)
 }
 
 // The factors, over slices of exactly the needed lengths. Where the matrix is wider than tall the work is
