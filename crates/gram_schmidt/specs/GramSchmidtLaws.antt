@@ -65,6 +65,12 @@ module _ (q : List Float) (rank rows cols j : ℕ) where
   unfolding passes
   passes-end previous s = refl
 
+-- where there is no basis column yet a pass leaves the column as it is, and its norm is the one before the pass
+pub first-stop : (q : List Float) (rank rows cols j : ℕ) (norm : Float) (s : Held) → rank ≡ 0 → norm ≡ normOf (s .v) rows
+    → Ieee.lt (Ieee.mul binary64 retain norm) norm ≡ true → passed s norm ≡ passes q rank rows cols j 3 norm s
+first-stop q zero rows cols j norm s e f h = passes-stop q 0 rows cols j 2 norm s (pass-none q rows cols j s) f h
+first-stop q (suc k) rows cols j norm s e f h = absurd (omega arith)
+
 -- the same by the loop's counter: k of n passes are done
 module _ (q : List Float) (rank rows cols j n k : ℕ) (previous : Float) (s : Held) {e : Passed} (i : passes q rank rows cols j (n - k) previous s ≡ e) where
   next : k < n → passes q rank rows cols j (suc (n - (k + 1))) previous s ≡ e

@@ -8,6 +8,7 @@ ghost use Rattle.complex.specs.Arithmetic.{complexOf};
 ghost use Rattle.complex.specs.Cells.{setCell};
 ghost use Rattle.complex.specs.Zeros.{zeroFloat};
 ghost use Rattle.basis.specs.Matrix.{matrixOf};
+ghost use Rattle.columns.specs.Columns.{normOf};
 ghost use Rattle.columns.specs.Woven.{woven};
 ghost use Rattle.gram_schmidt.specs.GramSchmidt.{held, projected, passTo, passed, passes, newBasis, factors, Worked, judged};
 
@@ -66,6 +67,31 @@ fn orthogonalize(
     previous
 }
 
+// The same, where norm is that of v. Where there is no basis column yet a pass leaves v as it is, and its norm is known.
+fn residual_of(
+    q: &[f64],
+    rank: usize,
+    rows: usize,
+    cols: usize,
+    j: usize,
+    norm: f64,
+    v: &mut [f64],
+    r: &mut [f64],
+) -> f64
+    requires { ⌜ (2 * (rank * rows) ≤ length (now q)) × (2 * (rank * cols) ≤ length (now r)) × (length (now v) ≡ 2 * rows) × (j < cols) ⌝ }
+    requires { ⌜ norm ≡ normOf (woven rows (now v)) rows ⌝ }
+    ensures { λ x. ⌜ passed (held (woven rows (now (v .exit))) (now (r .exit))) x
+        ≡ passes (matrixOf rows (now (q .entry))) rank rows cols j 3 norm (held (woven rows (now (v .entry))) (now (r .entry))) ⌝ }
+{
+    if 0 < rank {
+        return orthogonalize(q, rank, rows, cols, j, norm, v, r);
+    }
+    if norm > PASS_RETAIN * norm {
+        return norm;
+    }
+    orthogonalize(q, rank, rows, cols, j, norm, v, r)
+}
+
 // v times 1 / residual becomes the basis column i, and the residual goes to cell at of r.
 fn keep(v: &[f64], residual: f64, rows: usize, q: &mut [f64], i: usize, r: &mut [f64], at: usize)
     requires { ⌜ (length (now v) ≡ 2 * rows) × (2 * (i * rows + rows) ≤ length (now q)) × (2 * at + 1 < length (now r)) ⌝ }
@@ -104,7 +130,7 @@ pub fn work_column(
 {
     columns::load(a, j * rows, rows, v);
     let whole = columns::norm(v, rows);
-    let residual = orthogonalize(q, rank, rows, cols, j, whole, v, r);
+    let residual = residual_of(q, rank, rows, cols, j, whole, v, r);
     Norms { whole, residual }
 }
 

@@ -13,8 +13,8 @@ load-requires c κs = search needs
 norm-requires : tie.Need-norm-requires
 norm-requires c κs = search needs
 
-orthogonalize-requires : tie.Need-orthogonalize-requires
-orthogonalize-requires c κs = search needs
+residual-of-requires : tie.Need-residual-of-requires
+residual-of-requires c κs = (search needs, c .before .before .norm .ensures)
 
 same-length : tie.Need-same-length
 same-length c = search needs
@@ -23,7 +23,7 @@ same-length-2 : tie.Need-same-length-2
 same-length-2 c = search needs
 
 returns : tie.Need-returns
-returns c = column-worked _ _ _ _ _ _ _ (c .before .before .before .before .before .before .before .before .before .before .before .load .ensures) (c .before .before .before .before .before .before .before .norm .ensures) (c .before .before .before .before .orthogonalize .ensures)
+returns c = column-worked _ _ _ _ _ _ _ (c .before .before .before .before .before .before .before .before .before .before .before .load .ensures) (c .before .before .before .before .before .before .before .norm .ensures) (c .before .before .before .before .residual-of .ensures)
 
 pub work-column-spec : {M : Type 1} → statement M
 work-column-spec =
@@ -32,7 +32,7 @@ work-column-spec =
     mul-load
     load-requires
     norm-requires
-    orthogonalize-requires
+    residual-of-requires
     same-length
     same-length-2
     returns)
