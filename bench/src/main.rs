@@ -1,9 +1,8 @@
 //! Times the port's entry points and the published Rust on the same inputs, in one process: rounds interleaved, buffers
-//! warm, both built for release. A row is a call at a size: the medians in microseconds and the port's time as a part of
-//! the Rust's. An entry point that the library lacks is left out.
+//! warm, both built for release, the thread's own processor time. A row is a call at a size: the medians in microseconds
+//! and the port's time as a part of the Rust's. An entry point that the library lacks is left out.
 
 use std::hint::black_box;
-use std::time::Instant;
 
 use harness::call::{Arg, Call, Entry, Entry::*};
 use harness::oracle::cells;
@@ -139,11 +138,33 @@ fn rows() -> Vec<Row> {
     rows
 }
 
+/// C's `struct timespec`.
+#[repr(C)]
+struct Timespec {
+    seconds: i64,
+    nanoseconds: i64,
+}
+
+unsafe extern "C" {
+    fn clock_gettime(clock: i32, time: *mut Timespec) -> i32;
+}
+
+/// Linux's number of the clock of a thread's own processor time.
+const CLOCK_THREAD_CPUTIME_ID: i32 = 3;
+
+/// The processor time that this thread has had, in seconds: what else runs on the machine is not counted.
+fn processor_time() -> f64 {
+    let mut time = Timespec { seconds: 0, nanoseconds: 0 };
+    // SAFETY: the clock exists on Linux, and `time` is the C structure that it fills.
+    assert_eq!(unsafe { clock_gettime(CLOCK_THREAD_CPUTIME_ID, &mut time) }, 0);
+    time.seconds as f64 + 1e-9 * time.nanoseconds as f64
+}
+
 /// The seconds that `turns` calls take.
 fn timed(turns: usize, mut work: impl FnMut()) -> f64 {
-    let start = Instant::now();
+    let start = processor_time();
     (0..turns).for_each(|_| work());
-    start.elapsed().as_secs_f64()
+    processor_time() - start
 }
 
 fn median(mut times: Vec<f64>) -> f64 {
@@ -173,10 +194,11 @@ fn medians(row: &Row, rounds: usize) -> Option<(f64, f64)> {
 
 fn main() {
     let rounds = std::env::args().nth(1).and_then(|word| word.parse().ok()).unwrap_or(41);
+    let wanted = std::env::args().nth(2).unwrap_or_default();
     println!("| call | size | port, µs | Rust, µs | ratio |");
     println!("|---|---|---|---|---|");
-    for row in rows() {
-        if let Some((ours, theirs)) = medians(&row, rounds) {
+    for row in rows().iter().filter(|row| row.name.contains(&wanted)) {
+        if let Some((ours, theirs)) = medians(row, rounds) {
             println!("| {} | {} | {ours:.3} | {theirs:.3} | {:.2} |", row.name, row.size, ours / theirs);
         }
     }
