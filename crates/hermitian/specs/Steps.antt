@@ -114,7 +114,7 @@ module _ (work s : List Float) (o : List ℕ) (dim : ℕ) (ls : length s ≡ dim
       let q = split dim k r hr in
       let es : getD (backward s) j nan ≡ getD s k nan = backward-at nan s j (omega arith) ∙ ap (λ (n : ℕ). getD s (n - 1 - j) nan) ls in
       let eo : getD (backward o) j 0 ≡ getD o k 0 = backward-at 0 o j (omega arith) ∙ ap (λ (n : ℕ). getD o (n - 1 - j) 0) lo in
-      rw (es, eo) (sym (cell-of (dim * dim) (k * dim + r) (λ x. scaledAt work s o dim (x / dim) (x % dim)) inside ∙ rw (q .0, q .1)))
+      rw (es, eo, cell-of (dim * dim) (k * dim + r) (λ x. scaledAt work s o dim (x / dim) (x % dim)) inside, q .0, q .1)
 
   directions-backward : directionsOf work (backward s) (backward o) dim dim false
       ≡ cellsOf (dim * dim) (inColumns dim (λ j r. cellAt (directionsOf work s o dim dim false) ((dim - 1 - j) * dim + r)))
