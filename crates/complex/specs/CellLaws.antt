@@ -1,6 +1,6 @@
 -- Laws of the cells. Assumes nothing.
 use mathlib.Core.Path.{_≡_, refl, ap₂, _∙_}
-use mathlib.Core.Bool.{true, false}
+use mathlib.Core.Bool.{true, false, not}
 use mathlib.Core.List.{List, [], _∷_, _++_, append-assoc}
 use Prim.Native.Nat.{ℕ, zero, suc, _+_, _*_, _/_, _≤_, _<_}
 use native.Mathlib.Numerals.{add-one}
@@ -11,6 +11,7 @@ use mathlib.Core.Logic.{⊎-elim}
 use native.Mathlib.Nat.{eq-or-lt-of-le}
 use lib.Seq.{set-at, drop-cons, getD-at, append-snoc}
 use Rattle.answers.specs.Paper.{done}
+use Rattle.answers.specs.PaperLaws.{refuse-small}
 use Rattle.numbers.specs.Numbers.{allowed}
 use Rattle.complex.specs.declared.Complex.{Complex}
 use Rattle.complex.specs.Cells.{cellAt, setCell, cellsOf, written, components}
@@ -101,3 +102,9 @@ components-good l i h e = rw (add-one, drop-cons l i nan, e)
 pub components-end : (l : List Float) (i : ℕ) → length l ≤ i → components i (drop i l) ≡ done
 unfolding components
 components-end l i h = rw (drop-of-length-le l h)
+
+-- 0 or 7
+pub components-small : (i : ℕ) (l : List Float) → components i l .0 < 8
+unfolding components
+components-small i [] = omega arith
+components-small i (x ∷ l) = refuse-small (not (allowed x)) 7 (i / 2) (components (suc i) l) (omega arith) (components-small (suc i) l)

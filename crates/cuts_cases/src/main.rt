@@ -164,7 +164,7 @@ fn digest(s: &[f64]) -> u64 {
     let mut sum = 0u64;
     let mut i = 0;
     while i < s.len() {
-        sum = (sum * 31 + replay::bits_of(s[i]) % 0x7fff_ffff) % 0x7fff_ffff;
+        sum = (sum * 31 + bits::bits_of(s[i]) % 0x7fff_ffff) % 0x7fff_ffff;
         i += 1;
     }
     sum

@@ -13,8 +13,8 @@ use lib.ListN.{length, getD, take, drop, length-append, length-drop, drop-of-len
 use lib.Seq.{take-at, drop-at, drop-length}
 use Rattle.answers.specs.declared.Answer.{Answer}
 use Rattle.answers.specs.declared.Answer.the-variants.{Done, NoWeight, NotFinite}
-use Rattle.answers.specs.Paper.{Reply, paper, done, refuse, andThen, ifDone, atEnd}
-use Rattle.answers.specs.PaperLaws.{refuse-done, paper-one, worked-new, done-old, end-old}
+use Rattle.answers.specs.Paper.{Reply, paper, done, refuse, ifDone}
+use Rattle.answers.specs.PaperLaws.{refuse-done, stays, paper-one, done-old, end-old, end-worked}
 use Rattle.numbers.specs.Numbers.{oneFloat, allowed}
 use Rattle.numbers.specs.Root.{sqrtOf}
 use Rattle.complex.specs.Zeros.{zeroFloat, zeros, zeroed}
@@ -214,25 +214,17 @@ refusal-room values room e =
     let a = refuse-done (ltb 64 (length values)) 0 0 (refuse (ltb room (length values)) (6, 1) (valuesAllowed 0 values)) e in
     ltb-false room (length values) (refuse-done (ltb room (length values)) 5 1 (valuesAllowed 0 values) (a .1) .0)
 
-stopped-same : (x b : Reply) → (x .0 ≡ 0 → ⊥) → andThen x b ≡ x
-stopped-same (zero, p) b h = absurd (h refl)
-stopped-same (suc k, p) b h = refl
-
 -- refused: nothing lent changes
 pub outcome-refused : (values old : List Float) (r : Answer) → paper r ≡ refusal values (length old) → (paper r .0 ≡ 0 → ⊥)
     → Outcome values old (record { answer = r; count = 0 }) old
 outcome-refused values old r e h =
     let n : refusal values (length old) .0 ≡ 0 → ⊥ = λ z. h (ap (λ (x : Reply). x .0) e ∙ z) in
-    let s = stopped-same (refusal values (length old)) (finishReply values) n in
+    let s = sym (stays (refusal values (length old)) (finishReply values) n) in
     record {
       answer = e ∙ sym s;
       count = rw s (done-old _ _ _ n);
       out = rw s (end-old _ _ _ _ n (refusal-small values (length old)));
     }
-
-worked : (x : ℕ) (new cleared old : List Float) → (x ≡ 0) ⊎ (8 ≤ x) → ifDone x new cleared ≡ atEnd x new cleared old
-worked zero new cleared old h = refl
-worked (suc x) new cleared old h = worked-new (suc x) cleared old h
 
 pub outcome-finished : (values old : List Float) (r : Kept) (end : List Float) → answerOf values old ≡ finishReply values
     → FinishedOutcome values old r end → Outcome values old r end
@@ -240,11 +232,11 @@ outcome-finished values old r end e o =
     record {
       answer = o .answer ∙ sym e;
       count = rw e (o .count);
-      out = rw e (o .out ∙ worked _ _ _ old (reply-worked (sortedDown values)));
+      out = rw e (o .out ∙ end-worked _ _ _ old (reply-worked (sortedDown values)));
     }
 
 -- ONE OUTCOME: two ends of a call that both meet the contract are the same
-kept-same : (r r' : Kept) → r .answer ≡ r' .answer → r .count ≡ r' .count → r ≡ r'
+pub kept-same : (r r' : Kept) → r .answer ≡ r' .answer → r .count ≡ r' .count → r ≡ r'
 kept-same r r' a b = ap₂ (λ (x : Answer) (y : ℕ). record { answer = x; count = y }) a b
 
 pub finish-schmidt-values-one : (values old : List Float) (r r' : Kept) (end end' : List Float)

@@ -11,11 +11,12 @@ use lib.ListN.{length, drop, drop-of-length-le}
 use lib.Ieee.{Float}
 use Rattle.answers.specs.declared.Answer.{Answer}
 use Rattle.answers.specs.Paper.{Reply, paper, done, refuse, andThen, ifDone}
-use Rattle.answers.specs.PaperLaws.{refuse-done, paper-one, worked-new, worked-old, end-old}
+use Rattle.answers.specs.PaperLaws.{refuse-done, stays, paper-one, worked-new, worked-old, end-old}
 use Rattle.complex.specs.Cells.{components}
+use Rattle.complex.specs.CellLaws.{components-small}
 use Rattle.complex.specs.Zeros.{zeros, zeroed}
 use Rattle.values.specs.Lists.{allFinite}
-use Rattle.svd.specs.SvdLaws.{zeroed-all, components-small, join-end, stays}
+use Rattle.svd.specs.SvdLaws.{zeroed-all, join-end}
 use Rattle.hermitian.specs.Hermitian.{needVectors, needScratch, tests, eigenvaluesOf, eigenvectorsOf, finiteResults, endTest, answerOf, Eigen, Exact, Finished, Worked}
 
 -- ---- the refusals
@@ -165,7 +166,7 @@ eigen-refused a dim values vectors scratch r e h =
     let b : paper r .0 < 8 = rw e (tests-small a dim (length values) (length vectors) (length scratch)) in
     let end = endTest (eigenvaluesOf a dim) (eigenvectorsOf a dim) in
     record {
-      answer = stays (paper r .0) (paper r) end h ∙ ap (λ (x : Reply). andThen x end) e;
+      answer = stays (paper r) end h ∙ ap (λ (x : Reply). andThen x end) e;
       values-are = end-old (paper r .0) _ _ values h b;
       vectors-are = end-old (paper r .0) _ _ vectors h b;
       scratch-is = worked-old (paper r .0) _ scratch h b;

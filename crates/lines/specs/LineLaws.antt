@@ -1,14 +1,11 @@
--- Laws of the lines: how long each is, a turn of each loop, the bits of a float. Assumes nothing.
-use mathlib.Core.Path.{_≡_, refl, sym, ap, subst, _∙_}
-use mathlib.Core.Bool.{true, false, not, true≢false}
+-- Laws of the lines: how long each is, a turn of each loop. Assumes nothing.
+use mathlib.Core.Path.{_≡_, ap}
 use mathlib.Core.List.{List, [], _∷_, _++_}
 use Prim.Native.Nat.{ℕ, zero, suc, _+_, _-_, _*_, _≤_, _<_}
 use native.Mathlib.Numerals.{add-one}
 use native.Mathlib.Omega.{arith}
-use lib.Dec.{T}
-use lib.Ieee.Compare.{differs-from-itself}
 use lib.ListN.{length, getD, length-append}
-use lib.Ieee.{Float, nan, inf, fin, binary64, toBits, ne, eq, isNan}
+use lib.Ieee.{Float, nan, binary64, toBits}
 use Rattle.answers.specs.Paper.{Reply}
 use Rattle.texts.specs.Text.{Puts, hex, itemText, line, pairLine}
 use Rattle.texts.specs.TextLaws.{puts-then, puts-as, puts-none, length-puts, length-hex, length-item, length-line, length-pair}
@@ -67,19 +64,6 @@ pub values-room : (at m r : ℕ) (l : List Float) (old out : List ℕ) → at + 
 values-room at m r l old out room h p =
     let i = length-values m l in
     (length-puts at r (valueLines m l) old out (omega arith) p, omega (arith, p .next))
-
-nan-bits : 0x7ff8_0000_0000_0000 ≡ toBits binary64 nan
-unfolding toBits
-nan-bits = refl
-
-pub of-nan : (x : Float) → ne x x ≡ true → 0x7ff8_0000_0000_0000 ≡ toBits binary64 x
-of-nan x h = nan-bits ∙ ap (toBits binary64) (sym (differs-from-itself x (subst T (sym h) tt)))
-
-pub no-nan : (x : Float) → ne x x ≡ false → T (not (isNan x))
-unfolding ne eq isNan
-no-nan nan h = absurd (true≢false h)
-no-nan (inf s) h = tt
-no-nan (fin s m e) h = tt
 
 pub length-cut : (n k rows cols : ℕ) → length (cutLine n k rows cols) ≤ 88
 unfolding cutLine

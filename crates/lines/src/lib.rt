@@ -3,7 +3,6 @@
 use answers::Answer;
 ghost use mathlib.Core.Path.{_≡_};
 ghost use Prim.Native.Nat.{_+_, _*_, _≤_};
-ghost use lib.Ieee.{binary64, toBits};
 ghost use lib.ListN.{length};
 ghost use Rattle.answers.specs.Paper.{paper};
 ghost use Rattle.texts.specs.Text.{Puts};
@@ -39,16 +38,6 @@ pub fn put_value(out: &mut [u8], at: usize, rank: usize, bits: u64) -> usize
     texts::put_text(out, end, b"\n")
 }
 
-// The bits of a float; of a NaN those of the one that the logic writes.
-pub fn bits_of(x: f64) -> u64
-    ensures { λ r. ⌜ r ≡ toBits binary64 x ⌝ }
-{
-    if x != x {
-        return 0x7ff8_0000_0000_0000;
-    }
-    f64::to_bits(x)
-}
-
 // Puts the line of the smaller side's list.
 pub fn put_side(out: &mut [u8], at: usize, list: &[usize]) -> usize
     requires { ⌜ at + 5 + 21 * length (now list) ≤ length (now out) ⌝ }
@@ -80,7 +69,7 @@ pub fn put_values(out: &mut [u8], at: usize, values: &[f64]) -> usize
     let mut next = at;
     let mut i = 0;
     while i < values.len() {
-        let bits = bits_of(values[i]);
+        let bits = bits::bits_of(values[i]);
         next = put_value(out, next, i, bits);
         i += 1;
     }

@@ -8,8 +8,8 @@
 use complex::Complex;
 
 fn print_complex(z: Complex) {
-    replay::print_word(replay::bits_of(z.re));
-    replay::print_word(replay::bits_of(z.im));
+    replay::print_word(bits::bits_of(z.re));
+    replay::print_word(bits::bits_of(z.im));
 }
 
 fn print_yes(b: bool) {
@@ -23,15 +23,15 @@ fn print_yes(b: bool) {
 fn roots(text: &[u8], at: usize) -> usize {
     let word = replay::next_word(text, at);
     replay::print_word(numbers::sqrt_bits(word.value));
-    replay::print_word(replay::bits_of(numbers::sqrt(replay::float_of(word.value))));
+    replay::print_word(bits::bits_of(numbers::sqrt(replay::float_of(word.value))));
     word.next
 }
 
 fn helpers(text: &[u8], at: usize) -> usize {
     let word = replay::next_word(text, at);
     let x = replay::float_of(word.value);
-    replay::print_word(replay::bits_of(numbers::magnitude(x)));
-    replay::print_word(replay::bits_of(numbers::sign(x)));
+    replay::print_word(bits::bits_of(numbers::magnitude(x)));
+    replay::print_word(bits::bits_of(numbers::sign(x)));
     print_yes(numbers::is_finite(x));
     print_yes(numbers::component_allowed(x));
     word.next
@@ -76,8 +76,8 @@ fn arithmetic(text: &[u8], at: usize) -> usize {
     print_complex(a.sub(b));
     print_complex(a.neg());
     print_complex(a.conj());
-    replay::print_word(replay::bits_of(a.norm_sqr()));
-    replay::print_word(replay::bits_of(a.modulus()));
+    replay::print_word(bits::bits_of(a.norm_sqr()));
+    replay::print_word(bits::bits_of(a.modulus()));
     print_complex(a.scale(b.re));
     print_complex(a.div_real(b.re));
     past(text, next)

@@ -15,8 +15,8 @@ pub fn read_place(xs: &[f64], k: usize, n: usize) -> usize
     xs[k] as usize
 }
 
-// x is put at `at`, and what stood from there on moves up by one.
-fn insert(l: &mut [f64], at: usize, x: f64)
+// x is put at `at`, what stood from there on moves up by one, and the last one falls off.
+pub fn insert_at(l: &mut [f64], at: usize, x: f64)
     requires { ⌜ at ≤ length (now l) ⌝ }
     ensures { λ _. ⌜ now (l .exit) ≡ pushAt (now (l .entry)) at x ⌝ }
 {
@@ -53,6 +53,6 @@ pub fn order_of(values: &[f64], order: &mut [f64])
     for k in 0..values.len() {
         let next = k + 1;
         let at = seat(values, &order[..k], k);
-        insert(&mut order[..next], at, k as f64);
+        insert_at(&mut order[..next], at, k as f64);
     }
 }

@@ -1,22 +1,21 @@
--- Laws of the check: the bits of a float, a turn of the comparing loop, the ways out of each stage, that the two densities are the same
+-- Laws of the check: a turn of the comparing loop, the ways out of each stage, that the two densities are the same
 -- list, and that only one outcome meets the contract. Assumes nothing.
-use mathlib.Core.Bool.{Bool, true, false, not, _&&_, true≢false}
-use mathlib.Core.Path.{_≡_, refl, sym, ap, ap₂, subst, _∙_}
+use mathlib.Core.Bool.{Bool, true, false, _&&_, true≢false}
+use mathlib.Core.Path.{_≡_, refl, sym, ap, ap₂, _∙_}
 use mathlib.Core.List.{List, [], _∷_}
-use Prim.Native.Nat.{ℕ, zero, suc, _+_, _*_, _^_, _≤_, _<_}
+use Prim.Native.Nat.{ℕ, suc, _+_, _*_, _^_, _≤_, _<_}
 use native.Mathlib.Omega.{arith}
 use native.Mathlib.Numerals.{add-one}
 use borrow.Author.Tests.{eq-eqb, ne-eqb, eqb-true}
 use lib.Dec.{T, eqb}
-use lib.Ieee.{Float, nan, inf, fin, binary64, toBits, ne, eq, isNan, fits, ofBits}
+use lib.Ieee.{Float, nan, binary64, toBits, fits, ofBits}
 use lib.Ieee.Bits.{ofBits-toBits}
-use lib.Ieee.Compare.{differs-from-itself}
 use lib.ListN.{length, getD, take, drop, drop-of-length-le}
 use lib.Seq.{drop-cons}
 use Rattle.answers.specs.declared.Answer.{Answer}
 use Rattle.answers.specs.declared.Answer.the-variants.{Done}
-use Rattle.answers.specs.Paper.{Reply, paper, after, andThen, ifDone}
-use Rattle.answers.specs.PaperLaws.{andThen-done, paper-one, done-new, done-old}
+use Rattle.answers.specs.Paper.{Reply, paper, andThen, ifDone}
+use Rattle.answers.specs.PaperLaws.{andThen-done, stays, paper-one, done-new, done-old}
 use Rattle.complex.specs.Cells.{written, components}
 use Rattle.sides.specs.Sides.{cutRefusal}
 use Rattle.cuts.specs.Cut.{cutCell, cutLengths, cutAnswer, CutMatrix}
@@ -31,21 +30,6 @@ use Rattle.recount.specs.Pages.{front}
 use Rattle.pages.specs.declared.Agreement.{Agreement}
 use Rattle.pages.specs.Both.{goes, adds-nothing, density-done, recount-done, sizes-done}
 use Rattle.pages.specs.Agree.{sameFloats, Again, comparedAnswer, Compared, bothAnswer, pagesAnswer, Says}
-
--- ---- the bits of a float
-
-nan-bits : 0x7ff8_0000_0000_0000 ≡ toBits binary64 nan
-unfolding toBits
-nan-bits = refl
-
-pub of-nan : (x : Float) → ne x x ≡ true → 0x7ff8_0000_0000_0000 ≡ toBits binary64 x
-of-nan x h = nan-bits ∙ ap (toBits binary64) (sym (differs-from-itself x (subst T (sym h) tt)))
-
-pub no-nan : (x : Float) → ne x x ≡ false → T (not (isNan x))
-unfolding ne eq isNan
-no-nan nan h = absurd (true≢false h)
-no-nan (inf s) h = tt
-no-nan (fin s m e) h = tt
 
 -- ---- two lists
 
@@ -104,13 +88,6 @@ unfolding sameFloats
 same-end a b i h g = ap₂ sameFloats (drop-of-length-le a h) (drop-of-length-le b g)
 
 -- ---- answers
-
-after-stays : (k : ℕ) (x b : Reply) → (k ≡ 0 → ⊥) → x ≡ after k x b
-after-stays zero x b h = absurd (h refl)
-after-stays (suc k) x b h = refl
-
-stays : (x b : Reply) → (x .0 ≡ 0 → ⊥) → x ≡ andThen x b
-stays x b h = after-stays (x .0) x b h
 
 number : (a : Answer) (x : Reply) → paper a ≡ x → a ≡ Done → x .0 ≡ 0
 number a x e d = ap (λ (r : Reply). r .0) (sym e ∙ ap paper d)

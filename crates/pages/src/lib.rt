@@ -1,18 +1,7 @@
 // The two pages of one state, worked out and held against each other.
 use answers::Answer;
 ghost use mathlib.Core.Path.{_≡_};
-ghost use lib.Ieee.{binary64, toBits};
 ghost use Rattle.pages.specs.Agree.{sameFloats, Again, Compared, Says, bothAnswer, pagesAnswer};
-
-// The bits of a float; of a NaN those of the one that the logic writes.
-fn bits_of(x: f64) -> u64
-    ensures { λ r. ⌜ r ≡ toBits binary64 x ⌝ }
-{
-    if x != x {
-        return 0x7ff8_0000_0000_0000;
-    }
-    f64::to_bits(x)
-}
 
 // Whether two lists have the same length and the same bits throughout.
 fn same_floats(a: &[f64], b: &[f64]) -> bool
@@ -23,7 +12,7 @@ fn same_floats(a: &[f64], b: &[f64]) -> bool
     }
     let mut i = 0;
     while i < a.len() {
-        if bits_of(a[i]) != bits_of(b[i]) {
+        if bits::bits_of(a[i]) != bits::bits_of(b[i]) {
             return false;
         }
         i += 1;

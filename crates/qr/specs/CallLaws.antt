@@ -1,9 +1,9 @@
 -- What each way out of a call makes of its contract, and that the contract leaves one outcome. Assumes nothing.
 use mathlib.Core.Path.{_≡_, refl, sym, ap, subst, _∙_}
 use mathlib.Core.Bool.{Bool, true, false, not, _&&_}
-use mathlib.Core.List.{List, [], _∷_, _++_}
+use mathlib.Core.List.{List, _++_}
 use mathlib.Core.Logic.{_⊎_, inl, inr, ⊎-elim}
-use Prim.Native.Nat.{ℕ, zero, suc, _+_, _*_, _/_, _≤_, _<_, min}
+use Prim.Native.Nat.{ℕ, zero, suc, _+_, _*_, _≤_, _<_, min}
 use native.Mathlib.Nat.{mul-comm, mul-le-mul-right, le-mul-of-pos-right, mul-pos, le-min, min-le-left, min-le-right}
 use native.Mathlib.Omega.{arith}
 use borrow.Author.Tests.{eq-eqb, ne-eqb, lt-ltb, le-ltb, ltb-false, eqb-true, not-false}
@@ -13,11 +13,11 @@ use lib.ListN.{length, take, drop}
 use lib.Seq.{length-take-le}
 use Rattle.answers.specs.declared.Answer.{Answer}
 use Rattle.answers.specs.declared.Answer.the-variants.{Done, NotFinite}
-use Rattle.numbers.specs.Numbers.{allowed}
 use Rattle.answers.specs.Paper.{Reply, paper, done, refuse, after, andThen, ifDone, ifWorked, atEnd}
-use Rattle.answers.specs.PaperLaws.{refuse-done, andThen-done, paper-one, worked-new, worked-old, done-new, done-old, end-old}
+use Rattle.answers.specs.PaperLaws.{refuse-done, andThen-done, stays, refuse-small, after-small, paper-one, worked-new, worked-old, done-new, done-old, end-old}
 use Rattle.values.specs.Lists.{allFinite}
 use Rattle.complex.specs.Cells.{components}
+use Rattle.complex.specs.CellLaws.{components-small}
 use Rattle.complex.specs.Zeros.{zeros, zeroed, length-zeros}
 use Rattle.gram_schmidt.specs.Room.{Room}
 use Rattle.gram_schmidt.specs.GramSchmidtLaws.{zeroed-all}
@@ -223,19 +223,6 @@ scratch-end n m old part h e =
     ap (λ (x : List Float). x ++ drop m old) e ∙ worked-new n (zeros m ++ drop m old) old (⊎-elim (λ (x : n ≡ 0). inl x) (λ (x : n ≡ 9). inr (omega arith)) h)
 
 -- a refusal's number is at most 7
-refuse-small : (t : Bool) (k p : ℕ) (b : Reply) → k < 8 → b .0 < 8 → refuse t (k, p) b .0 < 8
-refuse-small true k p b h g = h
-refuse-small false k p b h g = g
-
-after-small : (n : ℕ) (x b : Reply) → x .0 < 8 → b .0 < 8 → after n x b .0 < 8
-after-small zero x b h g = g
-after-small (suc n) x b h g = h
-
-components-small : (i : ℕ) (l : List Float) → components i l .0 < 8
-unfolding components
-components-small i [] = omega arith
-components-small i (x ∷ l) = refuse-small (not (allowed x)) 7 (i / 2) (components (suc i) l) (omega arith) (components-small (suc i) l)
-
 refusal-small : (a : List Float) (rows cols q r s : ℕ) → refusal a rows cols q r s .0 < 8
 unfolding refusal sizes lengths
 refusal-small a rows cols q r s =
@@ -255,10 +242,6 @@ refusal-small a rows cols q r s =
     let y = sizes rows cols in
     after-small (y .0) y (andThen x (components 0 a)) e₀ (after-small (x .0) x (components 0 a) d₀ (components-small 0 a))
 
-after-stopped : (n : ℕ) (x b : Reply) → (n ≡ 0 → ⊥) → after n x b ≡ x
-after-stopped zero x b h = absurd (h refl)
-after-stopped (suc n) x b h = refl
-
 module _ (a : List Float) (rows cols : ℕ) (q r s : List Float) where
   pub call-refused : (x : Answer) → paper x ≡ refusal a rows cols (length q) (length r) (length s) → (paper x .0 ≡ 0 → ⊥)
       → Factorized a rows cols q r s x 0 q r s
@@ -268,7 +251,7 @@ module _ (a : List Float) (rows cols : ℕ) (q r s : List Float) where
       let m : y .0 ≡ 0 → ⊥ = λ z. n (ap (λ (u : Reply). u .0) e ∙ z) in
       let l : paper x .0 < 8 = rw e (refusal-small a rows cols (length q) (length r) (length s)) in
       record {
-        answer-is = e ∙ sym (after-stopped (y .0) y (finiteness (factorsOf a rows cols)) m);
+        answer-is = e ∙ stays y (finiteness (factorsOf a rows cols)) m;
         rank-is = done-old _ (factorsOf a rows cols .rank) 0 n;
         q-is = end-old _ (factorsOf a rows cols .q ++ drop (qNeed rows cols) q) (zeroed (qNeed rows cols) q) q n l;
         r-is = end-old _ (factorsOf a rows cols .r ++ drop (rNeed rows cols) r) (zeroed (rNeed rows cols) r) r n l;

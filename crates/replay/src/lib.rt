@@ -97,14 +97,6 @@ pub fn float_of(bits: u64) -> f64 {
     f64::from_bits(bits)
 }
 
-// The bits of the float, those of a NaN as 7FF8000000000000.
-pub fn bits_of(x: f64) -> u64 {
-    if x != x {
-        return 0x7ff8_0000_0000_0000;
-    }
-    f64::to_bits(x)
-}
-
 fn least(a: usize, b: usize) -> usize
     ensures { λ r. ⌜ (r ≤ a) × (r ≤ b) ⌝ }
 {
@@ -178,7 +170,7 @@ pub fn print_word(value: u64) {
 pub fn print_floats(s: &[f64]) {
     let mut i = 0;
     while i < s.len() {
-        print_word(bits_of(s[i]));
+        print_word(bits::bits_of(s[i]));
         i += 1;
     }
 }

@@ -16,9 +16,10 @@ use lib.Pow.{pow-mono}
 use Rattle.answers.specs.declared.Answer.{Answer}
 use Rattle.answers.specs.declared.Answer.the-variants.{NotFinite}
 use Rattle.answers.specs.Paper.{Reply, paper, done, refuse, after, andThen, ifDone, atEnd}
-use Rattle.answers.specs.PaperLaws.{refuse-done, andThen-done, paper-one, done-old, worked-new, worked-old, end-old}
+use Rattle.answers.specs.PaperLaws.{refuse-done, andThen-done, stays, refuse-small, after-small, paper-one, done-old, worked-new, worked-old, end-old}
 use Rattle.qubits.specs.Lists.{stands, placesFrom, places, qubitSet, subsystem}
 use Rattle.complex.specs.Cells.{components}
+use Rattle.complex.specs.CellLaws.{components-small}
 use Rattle.complex.specs.Zeros.{zeros, zeroed}
 use Rattle.sides.specs.declared.Sides.{Sides}
 use Rattle.sides.specs.Sides.{cutSizes, cutRefusal, Parted, side, sidesOf}
@@ -35,11 +36,11 @@ use Rattle.values.specs.Sort.{sortedDown}
 use Rattle.finish.specs.declared.Kept.{Kept}
 use Rattle.finish.specs.Finish.{finishOf, finishReply, padded}
 use Rattle.finish.specs.Outcome.{FinishedOutcome}
-use Rattle.finish.specs.OutcomeLaws.{reply-worked}
+use Rattle.finish.specs.OutcomeLaws.{reply-worked, kept-same}
 use Rattle.thin.specs.Thin.{swept, orderOf, valuesOf}
 use Rattle.svd.specs.Svd.{sideOf, workOf, sOf}
 use Rattle.svd.specs.Svd as svd
-use Rattle.svd.specs.SvdLaws.{side-wide, side-tall, refuse-small, after-small, components-small, stays}
+use Rattle.svd.specs.SvdLaws.{side-wide, side-tall}
 use Rattle.schmidt.specs.Schmidt.{rowsOf, singularValues, needScratch, lengthTests, rest, tests, valuesReply, answerOf, Schmidt, Sized, matrixOf, normsAfter, singularOf, Finished, Worked}
 
 -- ---- the lengths
@@ -263,7 +264,7 @@ unfolding answerOf
 schmidt-refused s n l cap out scratch r e h =
     let b : paper r .0 < 8 = rw e (tests-small s n l cap (length out) (length scratch)) in
     record {
-      answer = stays (paper r .0) (paper r) (valuesReply (singularValues s n l)) h ∙ ap (λ (x : Reply). andThen x (valuesReply (singularValues s n l))) e;
+      answer = stays (paper r) (valuesReply (singularValues s n l)) h ∙ ap (λ (x : Reply). andThen x (valuesReply (singularValues s n l))) e;
       count = done-old (paper r .0) _ 0 h;
       out-is = end-old (paper r .0) _ _ out h b;
       scratch-is = worked-old (paper r .0) _ scratch h b;
@@ -311,9 +312,6 @@ module _ (s : List Float) (n : ℕ) (l : List ℕ) (cap : ℕ) (out scratch : Li
       }
 
 -- ---- only one outcome
-
-kept-same : (r q : Kept) → r .answer ≡ q .answer → r .count ≡ q .count → r ≡ q
-kept-same r q a b = ap₂ (λ (x : Answer) (y : ℕ). record { answer = x; count = y }) a b
 
 pub dense-schmidt-values-one : (s : List Float) (n : ℕ) (l : List ℕ) (cap : ℕ) (out scratch : List Float) (r q : Kept) (out' scratch' out″ scratch″ : List Float)
     → Schmidt s n l cap out scratch r out' scratch' → Schmidt s n l cap out scratch q out″ scratch″

@@ -1,7 +1,7 @@
 -- The fills at each way out, and that each has one outcome. Assumes nothing.
-use mathlib.Core.Path.{_≡_, refl, sym, ap, _∙_}
+use mathlib.Core.Path.{_≡_, sym, ap, _∙_}
 use mathlib.Core.List.{List}
-use Prim.Native.Nat.{ℕ, zero, suc, _*_, _≤_}
+use Prim.Native.Nat.{ℕ, _*_, _≤_}
 use native.Mathlib.Nat.{mul-le-mul}
 use borrow.Author.Tests.{ltb-false}
 use lib.Dec.{ltb}
@@ -9,8 +9,8 @@ use lib.Ieee.{Float}
 use lib.ListN.{length, take}
 use Rattle.answers.specs.declared.Answer.{Answer}
 use Rattle.answers.specs.declared.Answer.the-variants.{Done}
-use Rattle.answers.specs.Paper.{Reply, paper, done, refuse, after, andThen, ifDone}
-use Rattle.answers.specs.PaperLaws.{refuse-done, paper-one, done-old}
+use Rattle.answers.specs.Paper.{Reply, paper, done, refuse, andThen, ifDone}
+use Rattle.answers.specs.PaperLaws.{refuse-done, stays, paper-one, done-old}
 use Rattle.values.specs.Lists.{valuesAllowed}
 use Rattle.complex.specs.declared.Complex.{Complex}
 use Rattle.complex.specs.Cells.{written}
@@ -114,15 +114,11 @@ scaled-vt-ready values source stride width chi room s e =
 
 -- ---- the calls: refused by the sizes, refused after them, or filled
 
-after-stopped : (n : ℕ) (x b : Reply) → (n ≡ 0 → ⊥) → after n x b ≡ x
-after-stopped zero x b h = absurd (h refl)
-after-stopped (suc n) x b h = refl
-
 pub size-refused : (first rest : Reply) (cells : ℕ) (f : ℕ → Complex) (old : List Float) (x : Answer) → paper x ≡ first → (paper x .0 ≡ 0 → ⊥)
     → Filled (andThen first rest) cells f old x old
 size-refused first rest cells f old x e n =
     let m : first .0 ≡ 0 → ⊥ = λ z. n (ap (λ (u : Reply). u .0) e ∙ z) in
-    record { answer-is = e ∙ sym (after-stopped (first .0) first rest m); out-is = done-old (paper x .0) (written cells f old) old n }
+    record { answer-is = e ∙ stays first rest m; out-is = done-old (paper x .0) (written cells f old) old n }
 
 -- the sizes passed
 passed-on : (first rest : Reply) (a : Answer) → paper a ≡ first → a ≡ Done → andThen first rest ≡ rest

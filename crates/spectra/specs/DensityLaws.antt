@@ -1,5 +1,5 @@
 -- Schmidt values from a density at each way out, and that the contract leaves one outcome. Assumes nothing.
-use mathlib.Core.Path.{_≡_, sym, ap, ap₂, _∙_}
+use mathlib.Core.Path.{_≡_, sym, ap, _∙_}
 use mathlib.Core.List.{List, _++_}
 use Prim.Native.Nat.{ℕ, _*_, _≤_}
 use native.Mathlib.Omega.{arith}
@@ -8,17 +8,17 @@ use lib.Ieee.{Float}
 use lib.ListN.{length, take, drop}
 use Rattle.answers.specs.declared.Answer.{Answer}
 use Rattle.answers.specs.Paper.{Reply, paper, ifDone}
-use Rattle.answers.specs.PaperLaws.{paper-one, worked-new, worked-old, done-old, end-old}
+use Rattle.answers.specs.PaperLaws.{paper-one, stays, worked-new, worked-old, done-old, end-old, end-worked}
 use Rattle.complex.specs.Zeros.{zeroed}
 use Rattle.loading.specs.Numbers.{filled}
 use Rattle.finish.specs.declared.Kept.{Kept}
 use Rattle.finish.specs.Finish.{padded}
-use Rattle.finish.specs.OutcomeLaws.{reply-worked}
+use Rattle.finish.specs.OutcomeLaws.{reply-worked, kept-same}
 use Rattle.values.specs.Sort.{sortedDown}
 use Rattle.weights.specs.Weights.{rootsOf}
 use Rattle.weights.specs.WeightOutcome.{WeightOutcome}
 use Rattle.spectra.specs.Eigenvalues.{eigenvalue, eigenvaluesOf, squareRefusal}
-use Rattle.spectra.specs.OutcomeLaws.{front-is, past-is, square-small, stopped-same, worked, zeroed-part}
+use Rattle.spectra.specs.OutcomeLaws.{front-is, past-is, square-small, zeroed-part}
 use Rattle.spectra.specs.Density.{densityValues, densityReply, densityAnswer, DensityWorked, DensityValues}
 
 -- there is room for the roots beside the matrix
@@ -57,7 +57,7 @@ pub density-refused : (rho : List Float) (n : ℕ) (out scratch : List Float) (r
 density-refused rho n out scratch r e h =
     let x = squareRefusal rho n (length out) (length scratch) in
     let m : x .0 ≡ 0 → ⊥ = λ z. h (ap (λ (y : Reply). y .0) e ∙ z) in
-    let s = stopped-same x (densityReply rho n) m in
+    let s = sym (stays x (densityReply rho n) m) in
     let l = square-small rho n (length out) (length scratch) in
     record { answer = e ∙ sym s; count = rw s (done-old _ _ _ m); values = rw s (end-old _ _ _ _ m l); cleared = rw s (worked-old _ _ _ m l) }
 
@@ -71,12 +71,9 @@ density-worked rho n out scratch work r out′ work′ e g h w =
     record {
       answer = w .answer ∙ sym e;
       count = rw e (w .count);
-      values = rw e (w .values ∙ worked _ _ _ out k);
+      values = rw e (w .values ∙ end-worked _ _ _ out k);
       cleared = rw e (c ∙ worked-new _ _ scratch k);
     }
-
-kept-same : (r r' : Kept) → r .answer ≡ r' .answer → r .count ≡ r' .count → r ≡ r'
-kept-same r r' a b = ap₂ (λ (x : Answer) (y : ℕ). record { answer = x; count = y }) a b
 
 -- ONE OUTCOME: two ends of a call that both meet the contract are the same
 pub schmidt-values-from-density-one : (rho : List Float) (n : ℕ) (out scratch : List Float) (r r' : Kept) (o o' s s' : List Float)

@@ -3,7 +3,7 @@ use mathlib.Core.Path.{_≡_, refl, sym, ap, _∙_}
 use mathlib.Core.Bool.{Bool, true, false, not}
 use mathlib.Core.List.{List, [], _∷_, _++_, append-nil}
 use mathlib.Core.Logic.{_⊎_, inl, inr}
-use Prim.Native.Nat.{ℕ, zero, suc, _*_, _/_, _≤_, _<_}
+use Prim.Native.Nat.{ℕ, suc, _*_, _/_, _≤_, _<_}
 use native.Mathlib.Omega.{arith}
 use borrow.Author.Tests.{lt-ltb, le-ltb, ltb-false, eq-eqb, ne-eqb, eqb-true, not-false}
 use lib.Dec.{eqb, ltb}
@@ -12,8 +12,8 @@ use lib.ListN.{length, take, drop, drop-of-length-le}
 use lib.Seq.{take-at, drop-at, length-take-le}
 use Rattle.answers.specs.declared.Answer.{Answer}
 use Rattle.answers.specs.declared.Answer.the-variants.{Done, NotFinite}
-use Rattle.answers.specs.Paper.{Reply, paper, done, refuse, andThen, ifDone, atEnd}
-use Rattle.answers.specs.PaperLaws.{refuse-done, paper-one, worked-new, worked-old, end-old}
+use Rattle.answers.specs.Paper.{Reply, paper, done, refuse}
+use Rattle.answers.specs.PaperLaws.{refuse-done, stays, paper-one, worked-new, worked-old, end-old, end-worked}
 use Rattle.numbers.specs.Numbers.{allowed}
 use Rattle.complex.specs.declared.Complex.{Complex}
 use Rattle.complex.specs.Cells.{cellAt, written, components}
@@ -175,30 +175,22 @@ module _ (a : List Float) (n : ℕ) (out scratch mid scratch′ : List Float) (w
 
 -- ---- the entry point
 
-pub stopped-same : (x b : Reply) → (x .0 ≡ 0 → ⊥) → andThen x b ≡ x
-stopped-same (zero, p) b h = absurd (h refl)
-stopped-same (suc k, p) b h = refl
-
 -- refused: nothing lent changes
 pub eigenvalues-refused : (a : List Float) (n : ℕ) (out scratch : List Float) (r : Answer) → paper r ≡ squareRefusal a n (length out) (length scratch)
     → (paper r .0 ≡ 0 → ⊥) → Eigenvalues a n out scratch r out scratch
 eigenvalues-refused a n out scratch r e h =
     let x = squareRefusal a n (length out) (length scratch) in
     let m : x .0 ≡ 0 → ⊥ = λ z. h (ap (λ (y : Reply). y .0) e ∙ z) in
-    let s = stopped-same x (eigenReply a n) m in
+    let s = sym (stays x (eigenReply a n) m) in
     let l = square-small a n (length out) (length scratch) in
     record { answer = e ∙ sym s; values = rw s (end-old _ _ _ _ m l); cleared = rw s (worked-old _ _ _ m l) }
-
-pub worked : (x : ℕ) (new cleared old : List Float) → (x ≡ 0) ⊎ (8 ≤ x) → ifDone x new cleared ≡ atEnd x new cleared old
-worked zero new cleared old h = refl
-worked (suc x) new cleared old h = worked-new (suc x) cleared old h
 
 pub eigenvalues-worked : (a : List Float) (n : ℕ) (out scratch : List Float) (r : Answer) (out′ scratch′ : List Float)
     → eigenAnswer a n out scratch ≡ eigenReply a n → Worked a n out scratch r out′ scratch′ → Eigenvalues a n out scratch r out′ scratch′
 eigenvalues-worked a n out scratch r out′ scratch′ e w =
     record {
       answer = w .answer ∙ sym e;
-      values = rw e (w .values ∙ worked _ _ _ out (reply-worked a n));
+      values = rw e (w .values ∙ end-worked _ _ _ out (reply-worked a n));
       cleared = rw e (w .cleared ∙ worked-new _ _ scratch (reply-worked a n));
     }
 

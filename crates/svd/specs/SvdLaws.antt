@@ -2,8 +2,8 @@
 use mathlib.Core.Path.{_≡_, refl, sym, ap, ap₂, _∙_}
 use mathlib.Core.Bool.{Bool, true, false, not, cond}
 use mathlib.Core.Logic.{_⊎_, inl, inr}
-use mathlib.Core.List.{List, [], _∷_, _++_, append-nil}
-use Prim.Native.Nat.{ℕ, zero, suc, _+_, _*_, _/_, _≤_, _<_}
+use mathlib.Core.List.{List, _++_, append-nil}
+use Prim.Native.Nat.{ℕ, zero, suc, _+_, _*_, _≤_, _<_}
 use native.Mathlib.Nat.{mul-comm, mul-le-mul, mul-le-mul-left, mul-le-mul-right}
 use native.Mathlib.Omega.{arith}
 use lib.Dec.{leb, ltb, eqb}
@@ -11,10 +11,10 @@ use borrow.Author.Tests.{lt-ltb, le-ltb, le-leb, lt-leb, ltb-true, ltb-false, le
 use lib.ListN.{length, drop, drop-of-length-le}
 use lib.Ieee.{Float}
 use Rattle.answers.specs.declared.Answer.{Answer}
-use Rattle.answers.specs.Paper.{Reply, paper, done, refuse, after, andThen, ifDone, atEnd}
-use Rattle.answers.specs.PaperLaws.{refuse-done, andThen-done, paper-one, worked-new, worked-old, end-old}
-use Rattle.numbers.specs.Numbers.{allowed}
+use Rattle.answers.specs.Paper.{Reply, paper, done, refuse, andThen, ifDone, atEnd}
+use Rattle.answers.specs.PaperLaws.{refuse-done, andThen-done, stays, refuse-small, after-small, paper-one, worked-new, worked-old, end-old}
 use Rattle.complex.specs.Cells.{cellAt, components}
+use Rattle.complex.specs.CellLaws.{components-small}
 use Rattle.complex.specs.Zeros.{zeros, zeroed}
 use Rattle.loading.specs.Loading.{planesOf, conjugateTransposed}
 use Rattle.values.specs.Lists.{allFinite}
@@ -307,19 +307,6 @@ join-end zero new cleared rest old h = refl
 join-end (suc x) new cleared rest old h = worked-new (suc x) (cleared ++ rest) old h
 
 -- no refusal before the work has a number from 8 on
-pub refuse-small : (t : Bool) (k p : ℕ) (b : Reply) → k < 8 → b .0 < 8 → refuse t (k, p) b .0 < 8
-refuse-small true k p b h i = h
-refuse-small false k p b h i = i
-
-pub after-small : (k : ℕ) (x b : Reply) → x .0 < 8 → b .0 < 8 → after k x b .0 < 8
-after-small zero x b h i = i
-after-small (suc k) x b h i = h
-
-pub components-small : (i : ℕ) (l : List Float) → components i l .0 < 8
-unfolding components
-components-small i [] = omega arith
-components-small i (x ∷ l) = refuse-small (not (allowed x)) 7 (i / 2) (components (suc i) l) (omega arith) (components-small (suc i) l)
-
 size-small : (m n : ℕ) → sizeTest m n .0 < 8
 unfolding sizeTest
 size-small m n =
@@ -352,10 +339,6 @@ tests-small a m n u s vt scratch =
     after-small (sizeTest m n .0) (sizeTest m n) (andThen l (components 0 a)) (size-small m n)
     (after-small (l .0) l (components 0 a) (lengths-small m n (length a) u s vt scratch) (components-small 0 a))
 
-pub stays : (k : ℕ) (x b : Reply) → (k ≡ 0 → ⊥) → x ≡ after k x b
-stays zero x b h = absurd (h refl)
-stays (suc k) x b h = refl
-
 -- an accepted call, and a refused one
 pub svd-worked : (a : List Float) (m n : ℕ) (u s vt scratch : List Float) (r : Answer) {u' s' vt' scratch' : List Float} {k : ℕ}
     → k ≡ sideOf m n
@@ -381,7 +364,7 @@ unfolding answerOf
 svd-refused a m n u s vt scratch r e h =
     let b : paper r .0 < 8 = rw e (tests-small a m n (length u) (length s) (length vt) (length scratch)) in
     record {
-      answer = stays (paper r .0) (paper r) (endTest (uOf a m n) (sOf a m n) (vtOf a m n)) h ∙ ap (λ (x : Reply). andThen x (endTest (uOf a m n) (sOf a m n) (vtOf a m n))) e;
+      answer = stays (paper r) (endTest (uOf a m n) (sOf a m n) (vtOf a m n)) h ∙ ap (λ (x : Reply). andThen x (endTest (uOf a m n) (sOf a m n) (vtOf a m n))) e;
       u-is = end-old (paper r .0) _ _ u h b;
       s-is = end-old (paper r .0) _ _ s h b;
       vt-is = end-old (paper r .0) _ _ vt h b;

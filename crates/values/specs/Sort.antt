@@ -1,9 +1,9 @@
 -- Values sorted downward in the total order: each in turn goes before the first that is below it. Definitions only.
 use mathlib.Core.Bool.{cond}
-use mathlib.Core.List.{List, [], _∷_, _++_}
+use mathlib.Core.List.{List, [], _∷_}
 use Prim.Native.Nat.{ℕ, zero, suc}
 use lib.Ieee.{Float, nan}
-use lib.ListN.{length, getD, take, drop}
+use lib.ListN.{length, getD}
 use Rattle.numbers.specs.Numbers.{totalLess}
 
 -- x stands before the first value that is below it
@@ -20,16 +20,8 @@ sortTo values (suc k) = insertDown (getD values k nan) (sortTo values k)
 abbrev pub sortedDown : List Float → List Float
 sortedDown values = sortTo values (length values)
 
--- ---- how the code finds it: the place where x goes, and x put there
+-- ---- how the code finds it: the place where x goes
 
 unfoldable pub seatOf : Float → List Float → ℕ
 seatOf x [] = 0
 seatOf x (y ∷ l) = cond (totalLess y x) 0 (suc (seatOf x l))
-
--- each value takes the place of the next, and the last falls off
-unfoldable pub push : {A : Type 0} → A → List A → List A
-push x [] = []
-push x (y ∷ l) = x ∷ push y l
-
-unfoldable pub pushAt : {A : Type 0} → List A → ℕ → A → List A
-pushAt l i x = take i l ++ push x (drop i l)

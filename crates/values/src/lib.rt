@@ -5,7 +5,7 @@ ghost use Prim.Native.Nat.{_<_, _≤_};
 ghost use lib.ListN.{length};
 ghost use Rattle.answers.specs.Paper.{paper};
 ghost use Rattle.values.specs.Lists.{valuesAllowed, allFinite, squaresFrom, scaledBy, keptAbove, minusZero};
-ghost use Rattle.values.specs.Sort.{pushAt, seatOf, sortTo};
+ghost use Rattle.values.specs.Sort.{seatOf, sortTo};
 
 // The first value that is not allowed: 7. A value is one cell.
 pub fn check_values(s: &[f64]) -> Answer
@@ -35,19 +35,6 @@ pub fn all_finite(s: &[f64]) -> bool
     true
 }
 
-// Inner. x is put at the place at, and those from there on move up; the last one falls off.
-pub fn insert_at(s: &mut [f64], at: usize, x: f64)
-    requires { ⌜ at ≤ length (now s) ⌝ }
-    ensures { λ _. ⌜ now (s .exit) ≡ pushAt (now (s .entry)) at x ⌝ }
-{
-    let mut hold = x;
-    for i in at..s.len() {
-        let t = s[i];
-        s[i] = hold;
-        hold = t;
-    }
-}
-
 // Inner. The first place of s whose value is below x in the total order, or the length of s.
 pub fn seat(s: &[f64], x: f64) -> usize
     ensures { λ r. ⌜ r ≡ seatOf x (now (s .entry)) ⌝ }
@@ -71,7 +58,7 @@ pub fn sort_down(values: &[f64], sorted: &mut [f64])
         let e = k + 1;
         let x = values[k];
         let at = seat(&sorted[..k], x);
-        insert_at(&mut sorted[..e], at, x);
+        order::insert_at(&mut sorted[..e], at, x);
     }
 }
 

@@ -61,17 +61,17 @@ slice-aggregate-seat c = sym (first (c .before))
 seat-requires : tie.Need-seat-requires Inv-loop μ-loop
 seat-requires c κs = (search needs, search needs, places (c .before))
 
-slice-relend-prefix-insert : tie.Need-slice-relend-prefix-insert Inv-loop μ-loop
-slice-relend-prefix-insert c = search needs
+slice-relend-prefix-insert-at : tie.Need-slice-relend-prefix-insert-at Inv-loop μ-loop
+slice-relend-prefix-insert-at c = search needs
 
-slice-aggregate-insert : tie.Need-slice-aggregate-insert Inv-loop μ-loop
-slice-aggregate-insert c = sym (more (c .before .before .before))
+slice-aggregate-insert-at : tie.Need-slice-aggregate-insert-at Inv-loop μ-loop
+slice-aggregate-insert-at c = sym (more (c .before .before .before))
 
-int-to-float-insert : tie.Need-int-to-float-insert Inv-loop μ-loop
-int-to-float-insert c = small-in _ (omega (arith, c .before .before .before .before .loop-test .taken, c .before .before .before .before .before .before .before .before .pre .1))
+int-to-float-insert-at : tie.Need-int-to-float-insert-at Inv-loop μ-loop
+int-to-float-insert-at c = small-in _ (omega (arith, c .before .before .before .before .loop-test .taken, c .before .before .before .before .before .before .before .before .pre .1))
 
-insert-requires : tie.Need-insert-requires Inv-loop μ-loop
-insert-requires c κs = omega (arith, seat-at (c .before .before), seat-le (now (c .before .before .before .before .before .before .before .before .args .values)) (c .before .before .before .before .before .loop .k) (orderTo (now (c .before .before .before .before .before .before .before .before .args .values)) (c .before .before .before .before .before .loop .k)), length-order (now (c .before .before .before .before .before .before .before .before .args .values)) (c .before .before .before .before .before .loop .k), more (c .before .before .before .before))
+insert-at-requires : tie.Need-insert-at-requires Inv-loop μ-loop
+insert-at-requires c κs = omega (arith, seat-at (c .before .before), seat-le (now (c .before .before .before .before .before .before .before .before .args .values)) (c .before .before .before .before .before .loop .k) (orderTo (now (c .before .before .before .before .before .before .before .before .args .values)) (c .before .before .before .before .before .loop .k)), length-order (now (c .before .before .before .before .before .before .before .before .args .values)) (c .before .before .before .before .before .loop .k), more (c .before .before .before .before))
 
 add-k : tie.Need-add-k Inv-loop μ-loop
 add-k c = search needs
@@ -80,7 +80,7 @@ loop-less : tie.Need-loop-less Inv-loop μ-loop
 loop-less c = search needs
 
 loop-again : tie.Need-loop-again Inv-loop μ-loop
-loop-again c = let h : c .before .before .before .before .before .before .before .before .loop .k < length (c .before .before .before .before .before .before .before .before .loop .order) = omega arith in let e : length (c .before .before .insert .last .0) ≡ c .before .before .before .before .before .before .before .before .loop .k + 1 = c .before .before .insert .kept .0 ∙ more (c .before .before .before .before .before .before .before) in (refl, search needs, search needs, order-more _ (c .before .before .before .before .before .before .before .before .loop .order) _ (c .before .before .before .before .before .before .before .before .loop .k) _ h e (c .before .before .before .before .before .before .before .before .loop .inv .3) (seat-at (c .before .before .before .before .before)) (c .before .before .insert .ensures))
+loop-again c = let h : c .before .before .before .before .before .before .before .before .loop .k < length (c .before .before .before .before .before .before .before .before .loop .order) = omega arith in let e : length (c .before .before .insert-at .last .0) ≡ c .before .before .before .before .before .before .before .before .loop .k + 1 = c .before .before .insert-at .kept .0 ∙ more (c .before .before .before .before .before .before .before) in (refl, search needs, search needs, order-more _ (c .before .before .before .before .before .before .before .before .loop .order) _ (c .before .before .before .before .before .before .before .before .loop .k) _ h e (c .before .before .before .before .before .before .before .before .loop .inv .3) (seat-at (c .before .before .before .before .before)) (c .before .before .insert-at .ensures))
 
 same-length : tie.Need-same-length Inv-loop μ-loop
 same-length c = search needs
@@ -99,10 +99,10 @@ order-of-spec =
     slice-reshare-prefix-seat
     slice-aggregate-seat
     seat-requires
-    slice-relend-prefix-insert
-    slice-aggregate-insert
-    int-to-float-insert
-    insert-requires
+    slice-relend-prefix-insert-at
+    slice-aggregate-insert-at
+    int-to-float-insert-at
+    insert-at-requires
     add-k
     loop-less
     loop-again

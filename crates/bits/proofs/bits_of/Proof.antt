@@ -1,11 +1,11 @@
--- `replay::bits_of` is safe: past the test there is no NaN. Assumes nothing.
-use Rattle.numbers.proofs.Cases.{no-nan}
+-- `bits::bits_of` meets its contract. A float that differs from itself is the NaN; any other has bits. Assumes nothing.
+use Rattle.bits.specs.Bits.{of-nan, no-nan}
 use borrow.Author.Needs.{needs}
-use Rattle.replay.proofs.bits_of.Statement.{statement}
-use Rattle.replay.proofs.bits_of.Tie as tie
+use Rattle.bits.proofs.bits_of.Statement.{statement}
+use Rattle.bits.proofs.bits_of.Tie as tie
 
 returns : tie.Need-returns
-returns c = search needs
+returns c = of-nan _ (c .if1 .taken)
 
 float-to-bits-result : tie.Need-float-to-bits-result
 float-to-bits-result c = no-nan _ (c .if1 .left)

@@ -1,12 +1,12 @@
--- `order::insert` meets its contract. The invariant: putting what is held at i gives the same list as the whole call. Assumes nothing.
+-- `order::insert_at` meets its contract. The invariant: putting what is held at i gives the same list as the whole call. Assumes nothing.
 use borrow.Author.Needs.{needs}
 use mathlib.Core.Path.{_≡_, refl, sym, _∙_}
 use Prim.Native.Nat.{_-_, _≤_, _<_}
 use lib.ListN.{length, length-set}
 use native.Mathlib.Omega.{arith}
 use Rattle.order.specs.Push.{pushAt, pushAt-more, pushAt-done}
-use Rattle.order.proofs.insert.Statement.{statement}
-use Rattle.order.proofs.insert.Tie as tie
+use Rattle.order.proofs.insert_at.Statement.{statement}
+use Rattle.order.proofs.insert_at.Tie as tie
 
 abbrev Inv-loop : tie.InvT-loop
 Inv-loop l₀ at x hold₀ i₀ i-end l hold i = (i-end ≡ length l₀) × (i ≤ i-end) × (length l ≡ length l₀) × (pushAt l i hold ≡ pushAt l₀ at x)
@@ -49,8 +49,8 @@ returns c =
     let h : length (c .before .loop .l) ≤ c .before .loop .i = omega arith in
     sym (pushAt-done _ _ _ h) ∙ c .before .loop .inv .3
 
-pub insert-spec : {M : Type 1} → statement M
-insert-spec =
+pub insert-at-spec : {M : Type 1} → statement M
+insert-at-spec =
     tie.close
     (tie.spec
     Inv-loop

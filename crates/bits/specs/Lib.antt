@@ -1,0 +1,2 @@
+-- What the contract of `bits` rests on.
+pub mod Bits
