@@ -114,11 +114,11 @@ fn block_answer(rho: &[f64], dim: usize, positions: &[usize], factor: &[f64], si
     let Answer::Done = second else {
         return second;
     };
-    let third = complex::check_components(rho);
+    let third = components::check_components(rho);
     let Answer::Done = third else {
         return third;
     };
-    complex::check_components(factor)
+    components::check_components(factor)
 }
 
 // A block's factor multiplied into the matrix, the block's qubits at the positions: refused by 1, 6 and 7.

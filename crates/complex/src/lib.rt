@@ -1,11 +1,9 @@
 // Complex numbers by value, and cells of two adjacent f64 in a slice, real part first.
-use answers::Answer;
 ghost use mathlib.Core.Path.{_≡_};
 ghost use Prim.Native.Nat.{_+_, _*_, _<_, _≤_};
 ghost use lib.ListN.{length};
-ghost use Rattle.answers.specs.Paper.{paper};
 ghost use Rattle.complex.specs.Arithmetic.{complexOf, product, sum, difference, negation, conjugate, scaled, quotient, normSqr, modulusOf};
-ghost use Rattle.complex.specs.Cells.{cellAt, setCell, components};
+ghost use Rattle.complex.specs.Cells.{cellAt, setCell};
 ghost use Rattle.complex.specs.Planes.{planeAt, setPlane};
 ghost use Rattle.complex.specs.Zeros.{zeroed};
 
@@ -144,22 +142,6 @@ pub fn write_plane(s: &mut [f64], c: usize, i: usize, z: Complex)
     let next = c + i;
     s[i] = z.re;
     s[next] = z.im;
-}
-
-// The first cell of s with a component that is not allowed: 7.
-pub fn check_components(s: &[f64]) -> Answer
-    ensures { λ r. ⌜ paper r ≡ components 0 (now (s .entry)) ⌝ }
-{
-    let mut i = 0;
-    while i < s.len() {
-        let x = s[i];
-        if numbers::component_allowed(x) {
-            i += 1;
-        } else {
-            return Answer::Component(i / 2);
-        }
-    }
-    Answer::Done
 }
 
 // The first m numbers of s become +0.0.

@@ -1,4 +1,4 @@
-// The scan of a call's components, several numbers at once. Inner: densities stands on it.
+// Inner: answer 7 of a call's own states and matrices. The scan takes several numbers at once.
 use answers::Answer;
 ghost use mathlib.Core.Path.{_≡_};
 ghost use Rattle.answers.specs.Paper.{paper};
@@ -19,12 +19,28 @@ fn every_allowed(s: &[f64]) -> bool
     every
 }
 
-// The first cell of s with a component that is not allowed: 7. Its place is looked for only where there is one.
+// The first cell of s with a component that is not allowed: 7.
+fn first_disallowed(s: &[f64]) -> Answer
+    ensures { λ r. ⌜ paper r ≡ components 0 (now (s .entry)) ⌝ }
+{
+    let mut i = 0;
+    while i < s.len() {
+        let x = s[i];
+        if numbers::component_allowed(x) {
+            i += 1;
+        } else {
+            return Answer::Component(i / 2);
+        }
+    }
+    Answer::Done
+}
+
+// The same. The place is looked for only where there is one.
 pub fn check_components(s: &[f64]) -> Answer
     ensures { λ r. ⌜ paper r ≡ components 0 (now (s .entry)) ⌝ }
 {
     if every_allowed(s) {
         return Answer::Done;
     }
-    complex::check_components(s)
+    first_disallowed(s)
 }

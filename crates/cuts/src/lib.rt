@@ -94,7 +94,7 @@ pub fn cut_matrix(state: &[f64], n: usize, list: &[usize], cap: usize, out: &mut
     let Answer::Done = second else {
         return second;
     };
-    let third = complex::check_components(state);
+    let third = components::check_components(state);
     let Answer::Done = third else {
         return third;
     };

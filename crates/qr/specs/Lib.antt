@@ -1,4 +1,3 @@
 -- What the contracts of `qr` cite.
 pub mod Call
-pub mod Finite
 pub mod CallLaws

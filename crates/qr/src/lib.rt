@@ -17,25 +17,11 @@ pub struct Factored {
     pub rank: usize,
 }
 
-// Whether every number of s is finite. The loop has one way out, so that the back end takes several numbers at once.
-fn every_finite(s: &[f64]) -> bool
-    ensures { λ b. ⌜ b ≡ allFinite (now (s .entry)) ⌝ }
-{
-    let mut every = true;
-    let mut i = 0;
-    while i < s.len() {
-        let one = numbers::is_finite(s[i]);
-        every = every & one;
-        i += 1;
-    }
-    every
-}
-
 fn both_finite(q: &[f64], r: &[f64]) -> bool
     ensures { λ b. ⌜ b ≡ allFinite (now (q .entry)) && allFinite (now (r .entry)) ⌝ }
 {
-    if every_finite(q) {
-        return every_finite(r);
+    if values::all_finite(q) {
+        return values::all_finite(r);
     }
     false
 }

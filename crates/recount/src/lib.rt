@@ -139,7 +139,7 @@ fn recount_answer(matrix: &[f64], n: usize, list: &[usize], cap: usize, out: usi
     let Answer::Done = third else {
         return third;
     };
-    complex::check_components(matrix)
+    components::check_components(matrix)
 }
 
 // The unscaled density of the listed qubits, summed from their cut matrix alone: refused as the cut and the density are, by 1 to 7.

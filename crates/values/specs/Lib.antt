@@ -1,5 +1,6 @@
 -- What the contracts of `values` cite.
 pub mod Lists
 pub mod ListLaws
+pub mod Finite
 pub mod Sort
 pub mod SortLaws

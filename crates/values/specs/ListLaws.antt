@@ -9,8 +9,8 @@ use lib.Ieee.{Float, nan, binary64, add, mul, le}
 use lib.ListN.{length, getD, take, drop, set, drop-of-length-le}
 use lib.Seq.{drop-cons, take-suc-set, drop-set-lt, take-all}
 use Rattle.answers.specs.Paper.{done}
-use Rattle.numbers.specs.Numbers.{allowed, finite}
-use Rattle.values.specs.Lists.{valuesAllowed, allFinite, keptAbove, squaresFrom, scaledBy}
+use Rattle.numbers.specs.Numbers.{allowed}
+use Rattle.values.specs.Lists.{valuesAllowed, keptAbove, squaresFrom, scaledBy}
 
 pub allowed-bad : (l : List Float) (i : ℕ) → i < length l → allowed (getD l i nan) ≡ false → valuesAllowed i (drop i l) ≡ (7, i)
 unfolding valuesAllowed
@@ -24,18 +24,6 @@ allowed-good l i h e = rw (add-one, drop-cons l i nan, e)
 pub allowed-end : (l : List Float) (i : ℕ) → length l ≤ i → valuesAllowed i (drop i l) ≡ done
 unfolding valuesAllowed
 allowed-end l i h = rw (drop-of-length-le l h)
-
-pub finite-bad : (l : List Float) (i : ℕ) → i < length l → finite (getD l i nan) ≡ false → allFinite (drop i l) ≡ false
-unfolding allFinite
-finite-bad l i h e = rw (drop-cons l i nan, e)
-
-pub finite-good : (l : List Float) (i : ℕ) → i < length l → finite (getD l i nan) ≡ true → allFinite (drop i l) ≡ allFinite (drop (i + 1) l)
-unfolding allFinite
-finite-good l i h e = rw (add-one, drop-cons l i nan, e)
-
-pub finite-end : (l : List Float) (i : ℕ) → length l ≤ i → allFinite (drop i l) ≡ true
-unfolding allFinite
-finite-end l i h = rw (drop-of-length-le l h)
 
 -- ---- what a floor keeps
 

@@ -21,18 +21,18 @@ pub fn check_values(s: &[f64]) -> Answer
     Answer::Done
 }
 
-// Inner. Whether every number of s is finite.
+// Inner. Whether every number of s is finite. The loop has one way out, so that the back end takes several numbers at once.
 pub fn all_finite(s: &[f64]) -> bool
     ensures { λ r. ⌜ r ≡ allFinite (now (s .entry)) ⌝ }
 {
+    let mut every = true;
     let mut i = 0;
     while i < s.len() {
-        if !numbers::is_finite(s[i]) {
-            return false;
-        }
+        let one = numbers::is_finite(s[i]);
+        every = every & one;
         i += 1;
     }
-    true
+    every
 }
 
 // Inner. The first place of s whose value is below x in the total order, or the length of s.

@@ -11,12 +11,12 @@ every-allowed-requires c κs = search needs
 returns : tie.Need-returns
 returns c = sym (every-done _ 0 (sym (c .before .every-allowed .ensures) ∙ c .if1 .taken))
 
-check-components-requires : tie.Need-check-components-requires
-check-components-requires c κs = search needs
+first-disallowed-requires : tie.Need-first-disallowed-requires
+first-disallowed-requires c κs = search needs
 
 returns-2 : tie.Need-returns-2
 returns-2 c = search needs
 
 pub check-components-spec : {M : Type 1} → statement M
 check-components-spec =
-    tie.close (tie.spec every-allowed-requires returns check-components-requires returns-2)
+    tie.close (tie.spec every-allowed-requires returns first-disallowed-requires returns-2)

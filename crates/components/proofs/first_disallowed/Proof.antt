@@ -1,14 +1,14 @@
--- `complex::check_components` meets its contract. The loop's invariant: the answer is that of the numbers that are left.
+-- `components::first_disallowed` meets its contract. The loop's invariant: the answer is that of the numbers that are left.
 -- Assumes nothing.
 use borrow.Author.Needs.{needs}
 use mathlib.Core.Path.{_≡_, refl, sym, _∙_}
 use Prim.Native.Nat.{_≤_, _-_}
 use native.Mathlib.Omega.{arith}
 use lib.ListN.{length, drop}
 use Rattle.complex.specs.Cells.{components}
 use Rattle.complex.specs.CellLaws.{components-bad, components-good, components-end}
-use Rattle.complex.proofs.check_components.Statement.{statement}
-use Rattle.complex.proofs.check_components.Tie as tie
+use Rattle.components.proofs.first_disallowed.Statement.{statement}
+use Rattle.components.proofs.first_disallowed.Tie as tie
 
 abbrev Inv-loop : tie.InvT-loop
 Inv-loop s i₀ i = (i ≤ length s) × (components 0 s ≡ components i (drop i s))
@@ -49,8 +49,8 @@ returns c =
 returns-2 : tie.Need-returns-2 Inv-loop μ-loop
 returns-2 c = sym (c .before .loop .inv .1 ∙ components-end _ _ (c .loop-test .left))
 
-pub check-components-spec : {M : Type 1} → statement M
-check-components-spec =
+pub first-disallowed-spec : {M : Type 1} → statement M
+first-disallowed-spec =
     tie.close
     (tie.spec
     Inv-loop
