@@ -3,10 +3,9 @@
 use pairs::Decision;
 ghost use mathlib.Core.Path.{_≡_};
 ghost use mathlib.Core.Bool.{true};
-ghost use mathlib.Core.List.{[]};
 ghost use Prim.Native.Nat.{_+_, _-_, _<_, _≤_};
 ghost use lib.ListN.{length, getD};
-ghost use Rattle.jacobi.specs.Sweeping.{Room, ValueRoom, state, counted, pairStep, pairsTo, sweepOf, settled};
+ghost use Rattle.jacobi.specs.Sweeping.{Room, state, counted, pairStep, pairsTo, sweepOf, settled};
 ghost use Rattle.jacobi.specs.Marks.{look, Marked, Seen};
 
 const MAX_SVD_SWEEPS: usize = 100;
@@ -19,7 +18,7 @@ pub struct Sweeps {
 }
 
 // The counts after a decision.
-fn count(d: Decision, s: Sweeps) -> Sweeps
+pub fn count(d: Decision, s: Sweeps) -> Sweeps
     requires { ⌜ s .turned < 1000000 ⌝ }
     ensures { λ r. ⌜ r ≡ counted d s ⌝ }
 {
@@ -59,7 +58,7 @@ fn pair(
 }
 
 // Whether neither column was turned since the look with the number `last`.
-fn unchanged(marks: &[usize], p: usize, q: usize, last: usize) -> bool
+pub fn unchanged(marks: &[usize], p: usize, q: usize, last: usize) -> bool
     requires { ⌜ (p < length (now marks)) × (q < length (now marks)) ⌝ }
     ensures { λ r. ⌜ (r ≡ true → (getD (now (marks .entry)) p 0 < last) × (getD (now (marks .entry)) q 0 < last)) ⌝ }
 {
@@ -157,107 +156,6 @@ pub fn settle(work: &mut [f64], v: &mut [f64], m: usize, n: usize) -> Sweeps
     };
     for k in 0..MAX_SVD_SWEEPS {
         s = sweep(work, v, &mut marks, m, n, s);
-        if s.quiet {
-            break;
-        }
-    }
-    s
-}
-
-// ---- the same without V, for the values alone
-
-// The pair p, q.
-fn pair_values(work: &mut [f64], m: usize, n: usize, p: usize, q: usize, s: Sweeps) -> Sweeps
-    requires { ⌜ ValueRoom m n (length (now work)) × (p < n) × (q < n) × (s .turned < 1000000) ⌝ }
-    ensures { λ r. ⌜ state (now (work .exit)) [] r ≡ pairStep m n p q (state (now (work .entry)) [] s) ⌝ }
-{
-    let a = p * m;
-    let b = q * m;
-    let d = pairs::decide(pairs::gram_of(work, n * m, a, b, m));
-    pairs::apply(work, n * m, a, b, m, d);
-    count(d, s)
-}
-
-// The pair p, q, which is passed over where neither column was turned since it was left.
-fn visit_values(
-    work: &mut [f64],
-    marks: &mut [usize],
-    m: usize,
-    n: usize,
-    p: usize,
-    q: usize,
-    s: Sweeps,
-) -> Sweeps
-    requires { ⌜ ValueRoom m n (length (now work)) × Marked n p q s (length (now marks)) × Seen m n (look (s .begun) p q) (now marks) (now work) ⌝ }
-    ensures done { λ r. ⌜ state (now (work .exit)) [] r ≡ pairStep m n p q (state (now (work .entry)) [] s) ⌝ }
-    ensures seen { λ _. ⌜ Seen m n (look (s .begun) p q + 1) (now (marks .exit)) (now (work .exit)) ⌝ }
-{
-    let now = s.begun * 4096 + p * 64 + q;
-    if unchanged(marks, p, q, now - 4096) {
-        return s;
-    }
-    let t = pair_values(work, m, n, p, q, s);
-    if t.turned == s.turned {
-        return t;
-    }
-    marks[p] = now;
-    marks[q] = now;
-    t
-}
-
-// The pairs of the column p with each later one.
-fn column_values(
-    work: &mut [f64],
-    marks: &mut [usize],
-    m: usize,
-    n: usize,
-    p: usize,
-    s: Sweeps,
-) -> Sweeps
-    requires { ⌜ ValueRoom m n (length (now work)) × (p < n) × (s .turned + n < 1000000) × (1 ≤ s .begun) × (s .begun ≤ 1000)
-        × (length (now marks) ≡ 64) × Seen m n (look (s .begun) p 0) (now marks) (now work) ⌝ }
-    ensures done { λ r. ⌜ state (now (work .exit)) [] r ≡ pairsTo m n p (n - (p + 1)) (state (now (work .entry)) [] s) ⌝ }
-    ensures seen { λ _. ⌜ Seen m n (look (s .begun) (p + 1) 0) (now (marks .exit)) (now (work .exit)) ⌝ }
-{
-    let mut t = s;
-    for other in (p + 1)..n {
-        t = visit_values(work, marks, m, n, p, other, t);
-    }
-    t
-}
-
-// One sweep: all pairs p < q, rising.
-fn sweep_values(work: &mut [f64], marks: &mut [usize], m: usize, n: usize, s: Sweeps) -> Sweeps
-    requires { ⌜ ValueRoom m n (length (now work)) × (s .begun < 1000) × (s .turned < 900000)
-        × (length (now marks) ≡ 64) × Seen m n (look (s .begun + 1) 0 0) (now marks) (now work) ⌝ }
-    ensures done { λ r. ⌜ state (now (work .exit)) [] r ≡ sweepOf m n (state (now (work .entry)) [] s) ⌝ }
-    ensures seen { λ _. ⌜ Seen m n (look (s .begun + 2) 0 0) (now (marks .exit)) (now (work .exit)) ⌝ }
-{
-    let mut t = Sweeps {
-        begun: s.begun + 1,
-        quiet: true,
-        turned: s.turned,
-    };
-    for p in 0..n {
-        t = column_values(work, marks, m, n, p, t);
-    }
-    t
-}
-
-// `settle` on the work matrix alone. Its contract names an empty V; no V changes the work matrix or
-// the counts (specs/Values.antt).
-pub fn settle_values(work: &mut [f64], m: usize, n: usize) -> Sweeps
-    requires { ⌜ ValueRoom m n (length (now work)) ⌝ }
-    ensures { λ r. ⌜ state (now (work .exit)) [] r ≡ settled m n (now (work .entry)) [] ⌝ }
-{
-    let mut marks = [4096usize; 64];
-    let mut s = Sweeps {
-        begun: 0,
-        quiet: false,
-        turned: 0,
-    };
-    for k in 0..MAX_SVD_SWEEPS {
-        s = sweep_values(work, &mut marks, m, n, s);
         if s.quiet {
             break;
         }

@@ -1,13 +1,13 @@
--- `jacobi::visit_values` meets its contract: a pair is passed over where it would be left, and the marks tell of each turn. Assumes nothing.
+-- `values_only::visit` meets its contract: a pair is passed over where it would be left, and the marks tell of each turn. Assumes nothing.
 use native.Mathlib.Omega.{arith}
 use Prim.Native.Nat.{_+_, _*_, _<_}
 use denote.Ref.{now}
 use lib.ListN.{length}
 use lib.Seq.{lt-length-set}
 use Rattle.jacobi.specs.Marks.{seen-old, seen-left, seen-turned, seen-same, uncounted, done-to, passed-over}
 use borrow.Author.Needs.{needs}
-use Rattle.jacobi.proofs.visit_values.Statement.{statement}
-use Rattle.jacobi.proofs.visit_values.Tie as tie
+use Rattle.values_only.proofs.visit.Statement.{statement}
+use Rattle.values_only.proofs.visit.Tie as tie
 
 mul-now : tie.Need-mul-now
 mul-now c = search needs
@@ -38,8 +38,8 @@ returns c =
     let left = seen-old _ _ _ _ _ _ _ (k .begun) (k .rising) (k .within) (old .0) (old .1) (start .pre .2) in
     (passed-over _ _ _ _ _ left, seen-left _ _ _ _ _ _ _ (start .pre .0 .columns) (k .rising) (k .within) left (start .pre .2))
 
-pair-values-requires : tie.Need-pair-values-requires
-pair-values-requires c κs = search needs
+pair-requires : tie.Need-pair-requires
+pair-requires c κs = search needs
 
 same-length-2 : tie.Need-same-length-2
 same-length-2 c = search needs
@@ -51,7 +51,7 @@ returns-2 : tie.Need-returns-2
 returns-2 c =
     let start = c .before .before .before .before .before .before .before .before .before .before .before .before .before in
     let k = start .pre .1 in
-    let done = c .before .before .before .before .before .pair-values .ensures in
+    let done = c .before .before .before .before .before .pair .ensures in
     let left = uncounted _ _ _ _ _ done (c .if2 .taken) in
     (done, seen-same (left .1) (seen-left _ _ _ _ _ _ _ (start .pre .0 .columns) (k .rising) (k .within) (left .0) (start .pre .2)))
 
@@ -80,11 +80,11 @@ returns-3 : tie.Need-returns-3
 returns-3 c =
     let start = c .before .before .before .before .before .before .before .before .before .before .before .before .before in
     let k = start .pre .1 in
-    let done = c .before .before .before .before .before .pair-values .ensures in
+    let done = c .before .before .before .before .before .pair .ensures in
     (done, seen-turned _ _ _ _ _ _ _ _ (start .pre .0 .columns) (k .rising) (k .within) (k .marks) (done-to _ _ _ _ _ done) (start .pre .2))
 
-pub visit-values-spec : {M : Type 1} → statement M
-visit-values-spec =
+pub visit-spec : {M : Type 1} → statement M
+visit-spec =
     tie.close
     (tie.spec
     mul-now
@@ -95,7 +95,7 @@ visit-values-spec =
     unchanged-requires
     same-length
     returns
-    pair-values-requires
+    pair-requires
     same-length-2
     same-length-3
     returns-2

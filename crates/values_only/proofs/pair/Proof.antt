@@ -1,12 +1,12 @@
--- `jacobi::pair_values` meets its contract: as for `pair`, and an empty V stays empty. Assumes nothing.
+-- `values_only::pair` meets its contract: as for `pair`, and an empty V stays empty. Assumes nothing.
 use borrow.Author.Needs.{needs}
 use Prim.Native.Nat.{_+_, _*_, _≤_}
 use native.Mathlib.Omega.{arith}
 use Rattle.pairs.specs.Decisions.{verdict-one}
 use Rattle.pairs.specs.Turns.{applied-nothing}
 use Rattle.jacobi.specs.Sweeping.{column-fits, pair-made}
-use Rattle.jacobi.proofs.pair_values.Statement.{statement}
-use Rattle.jacobi.proofs.pair_values.Tie as tie
+use Rattle.values_only.proofs.pair.Statement.{statement}
+use Rattle.values_only.proofs.pair.Tie as tie
 
 -- each of the columns ends within the matrix
 work-p : (c : tie.Start) → c .args .p * c .args .m + c .args .m ≤ c .args .n * c .args .m
@@ -45,5 +45,5 @@ same-length c = search needs
 returns : tie.Need-returns
 returns c = pair-made _ _ _ _ _ _ _ _ _ (verdict-one _ _ (rw (c .before .before .before .before .before .before .gram-of .ensures) at (c .before .before .before .before .before .decide .ensures))) (c .before .before .before .apply .ensures) (applied-nothing _ _ _ _ _) (c .count .ensures)
 
-pub pair-values-spec : {M : Type 1} → statement M
-pair-values-spec = tie.close (tie.spec mul-a mul-b mul-gram-of gram-of-requires decide-requires mul-apply apply-requires count-requires same-length returns)
+pub pair-spec : {M : Type 1} → statement M
+pair-spec = tie.close (tie.spec mul-a mul-b mul-gram-of gram-of-requires decide-requires mul-apply apply-requires count-requires same-length returns)

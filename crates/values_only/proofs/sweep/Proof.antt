@@ -1,15 +1,15 @@
--- `jacobi::sweep_values` meets its contract. The loop's invariant: the state is that after the columns below p, and the marks tell of the turns. Assumes nothing.
+-- `values_only::sweep` meets its contract. The loop's invariant: the state is that after the columns below p, and the marks tell of the turns. Assumes nothing.
 use mathlib.Core.Path.{_≡_, refl, _∙_}
 use mathlib.Core.List.{[]}
 use Prim.Native.Nat.{_+_, _-_, _≤_}
 use lib.ListN.{length}
 use native.Mathlib.Omega.{arith}
 use Rattle.jacobi.specs.Counts.{pairsBelow, pairs-few, pairs-after, turned-more}
 use Rattle.jacobi.specs.Sweeping.{state, sweep-made, columnsTo, columns-none, columns-more}
 use Rattle.jacobi.specs.Marks.{look, Seen, seen-sweep, seen-at}
 use borrow.Author.Needs.{needs}
-use Rattle.jacobi.proofs.sweep_values.Statement.{statement}
-use Rattle.jacobi.proofs.sweep_values.Tie as tie
+use Rattle.values_only.proofs.sweep.Statement.{statement}
+use Rattle.values_only.proofs.sweep.Tie as tie
 
 abbrev Inv-loop : tie.InvT-loop
 Inv-loop work₀ marks₀ m n t₀ p₀ work marks t p = (p ≤ n) × (length work ≡ length work₀) × (length marks ≡ length marks₀) × (state work [] t ≡ columnsTo m n p (state work₀ [] t₀)) × (t .turned ≤ t₀ .turned + pairsBelow n p) × (t .begun ≡ t₀ .begun) × Seen m n (look (t₀ .begun) p 0) marks work
@@ -25,8 +25,8 @@ loop-holds c =
     let s = c .before .before .before in
     (omega arith, refl, refl, columns-none _ _ _, omega arith, refl, s .pre .4)
 
-column-values-requires : tie.Need-column-values-requires Inv-loop μ-loop
-column-values-requires c κs =
+column-requires : tie.Need-column-requires Inv-loop μ-loop
+column-requires c κs =
     let s = c .before .before .before .before .before .before .before .pre in
     let i = c .before .before .before .loop .inv in
     let l = c .before .before .loop-test .taken in
@@ -50,7 +50,7 @@ loop-again : tie.Need-loop-again Inv-loop μ-loop
 loop-again c =
     let i = c .before .before .before .before .before .before .before .before .loop .inv in
     let l = c .before .before .before .before .before .before .before .loop-test .taken in
-    let r = c .before .before .before .before .column-values in
+    let r = c .before .before .before .before .column in
     let w = pairs-after _ _ _ _ _ (r .ensures .0) in (
       omega (arith, l),
       r .kept .0 ∙ i .1,
@@ -74,15 +74,15 @@ returns c =
     let e : c .before .loop .p ≡ s .args .n = omega (arith, i .0, c .loop-test .left) in
     (sweep-made _ _ _ (rw e at (i .3)), seen-at (omega arith) (seen-sweep _ _ (s .args .s .begun + 1) _ _ (s .pre .0 .columns) (seen-at (omega (arith, e)) (i .6))))
 
-pub sweep-values-spec : {M : Type 1} → statement M
-sweep-values-spec =
+pub sweep-spec : {M : Type 1} → statement M
+sweep-spec =
     tie.close
     (tie.spec
     Inv-loop
     μ-loop
     add-t8
     loop-holds
-    column-values-requires
+    column-requires
     add-p
     loop-less
     loop-again

@@ -1,14 +1,14 @@
--- `jacobi::settle_values` meets its contract. The loop's invariant: the sweeps that are left lead to the same end, and the marks tell of the turns. Assumes nothing.
+-- `values_only::settle` meets its contract. The loop's invariant: the sweeps that are left lead to the same end, and the marks tell of the turns. Assumes nothing.
 use mathlib.Core.Path.{_≡_, refl, sym, _∙_}
 use mathlib.Core.List.{[]}
 use Prim.Native.Nat.{_+_, _-_, _*_, _≤_}
 use lib.ListN.{length}
 use native.Mathlib.Omega.{arith}
 use Rattle.jacobi.specs.Counts.{sweep-after, pairs-few}
 use Rattle.jacobi.specs.Sweeping.{state, settled, sweepsTo, settled-start, sweeps-done, sweeps-more, sweeps-quiet}
 use Rattle.jacobi.specs.Marks.{look, Seen, seen-first, seen-at}
-use Rattle.jacobi.proofs.settle_values.Statement.{statement}
-use Rattle.jacobi.proofs.settle_values.Tie as tie
+use Rattle.values_only.proofs.settle.Statement.{statement}
+use Rattle.values_only.proofs.settle.Tie as tie
 
 abbrev Inv-loop : tie.InvT-loop
 Inv-loop work₀ m n marks₀ s₀ k₀ work marks s k = (k ≤ 100) × (length work ≡ length work₀) × (length marks ≡ 64) × (sweepsTo m n (100 - k) (state work [] s) ≡ settled m n work₀ []) × (s .begun ≤ k) × (s .turned ≤ k * 4096) × Seen m n (look (s .begun + 1) 0 0) marks work
@@ -19,11 +19,11 @@ abbrev μ-loop : tie.MeasureT-loop
 loop-holds : tie.Need-loop-holds Inv-loop μ-loop
 loop-holds c = (omega arith, refl, refl, settled-start _ _ _ _, omega arith, omega arith, seen-first _ _ _ (c .before .pre .columns))
 
-slice-aggregate-sweep-values : tie.Need-slice-aggregate-sweep-values Inv-loop μ-loop
-slice-aggregate-sweep-values c = sym (c .before .before .before .loop .inv .2)
+slice-aggregate-sweep : tie.Need-slice-aggregate-sweep Inv-loop μ-loop
+slice-aggregate-sweep c = sym (c .before .before .before .loop .inv .2)
 
-sweep-values-requires : tie.Need-sweep-values-requires Inv-loop μ-loop
-sweep-values-requires c κs =
+sweep-requires : tie.Need-sweep-requires Inv-loop μ-loop
+sweep-requires c κs =
     let s = c .before .before .before .before .before .pre in
     let i = c .before .before .before .loop .inv in
     let l = c .before .before .loop-test .taken in
@@ -39,7 +39,7 @@ loop-again : tie.Need-loop-again Inv-loop μ-loop
 loop-again c =
     let i = c .before .before .before .before .before .before .before .before .loop .inv in
     let l = c .before .before .before .before .before .before .before .loop-test .taken in
-    let r = c .before .before .before .before .sweep-values in
+    let r = c .before .before .before .before .sweep in
     let s = c .before .before .before .before .before .before .before .before .before .before in
     let w = sweep-after _ _ _ (r .ensures .0) in (
       omega (arith, l),
@@ -58,20 +58,20 @@ returns : tie.Need-returns Inv-loop μ-loop
 returns c = sweeps-done _ _ 100 _ (c .loop-test .left) (c .before .loop .inv .3)
 
 same-length-2 : tie.Need-same-length-2 Inv-loop μ-loop
-same-length-2 c = c .before .before .before .before .sweep-values .kept .0 ∙ c .before .before .before .before .before .before .before .before .loop .inv .1
+same-length-2 c = c .before .before .before .before .sweep .kept .0 ∙ c .before .before .before .before .before .before .before .before .loop .inv .1
 
 returns-2 : tie.Need-returns-2 Inv-loop μ-loop
-returns-2 c = sweeps-quiet _ _ 100 _ _ (c .before .before .before .before .before .before .before .loop-test .taken) (c .before .before .before .before .before .before .before .before .loop .inv .3) (c .before .before .before .before .sweep-values .ensures .0) (c .if1 .taken)
+returns-2 c = sweeps-quiet _ _ 100 _ _ (c .before .before .before .before .before .before .before .loop-test .taken) (c .before .before .before .before .before .before .before .before .loop .inv .3) (c .before .before .before .before .sweep .ensures .0) (c .if1 .taken)
 
-pub settle-values-spec : {M : Type 1} → statement M
-settle-values-spec =
+pub settle-spec : {M : Type 1} → statement M
+settle-spec =
     tie.close
     (tie.spec
     Inv-loop
     μ-loop
     loop-holds
-    slice-aggregate-sweep-values
-    sweep-values-requires
+    slice-aggregate-sweep
+    sweep-requires
     add-k
     loop-less
     loop-again

@@ -1,14 +1,14 @@
--- `jacobi::column_values` meets its contract. The loop's invariant: the state is that after the pairs of p with the columns below q, each of them turned one pair at most, and the marks tell of the turns. Assumes nothing.
+-- `values_only::column` meets its contract. The loop's invariant: the state is that after the pairs of p with the columns below q, each of them turned one pair at most, and the marks tell of the turns. Assumes nothing.
 use mathlib.Core.Path.{_≡_, refl, _∙_}
 use mathlib.Core.List.{[]}
 use Prim.Native.Nat.{_+_, _-_, _≤_, _<_}
 use lib.ListN.{length}
 use native.Mathlib.Omega.{arith}
 use Rattle.jacobi.specs.Counts.{pair-after}
 use Rattle.jacobi.specs.Sweeping.{state, pairsTo, pairs-none, pairs-more}
 use Rattle.jacobi.specs.Marks.{look, Seen, seen-into, seen-column, seen-at}
-use Rattle.jacobi.proofs.column_values.Statement.{statement}
-use Rattle.jacobi.proofs.column_values.Tie as tie
+use Rattle.values_only.proofs.column.Statement.{statement}
+use Rattle.values_only.proofs.column.Tie as tie
 
 abbrev Inv-loop : tie.InvT-loop
 Inv-loop work₀ marks₀ m n p t₀ q₀ work marks t q = (p < q) × (q ≤ n) × (length work ≡ length work₀) × (length marks ≡ length marks₀) × (state work [] t ≡ pairsTo m n p (q - (p + 1)) (state work₀ [] t₀)) × (t .turned ≤ t₀ .turned + (q - (p + 1))) × (t .begun ≡ t₀ .begun) × Seen m n (look (t₀ .begun) p q) marks work
@@ -24,8 +24,8 @@ loop-holds c =
     let s = c .before .before in
     (omega arith, omega (arith, s .pre .1), refl, refl, pairs-none _ _ _ _, omega arith, refl, seen-into _ _ _ _ _ _ (s .pre .0 .columns) (s .pre .1) (s .pre .6))
 
-visit-values-requires : tie.Need-visit-values-requires Inv-loop μ-loop
-visit-values-requires c κs =
+visit-requires : tie.Need-visit-requires Inv-loop μ-loop
+visit-requires c κs =
     let s = c .before .before .before .before .before .before .pre in
     let i = c .before .before .before .loop .inv in
     let l = c .before .before .loop-test .taken in (
@@ -44,7 +44,7 @@ loop-again : tie.Need-loop-again Inv-loop μ-loop
 loop-again c =
     let i = c .before .before .before .before .before .before .before .before .loop .inv in
     let l = c .before .before .before .before .before .before .before .loop-test .taken in
-    let r = c .before .before .before .before .visit-values in
+    let r = c .before .before .before .before .visit in
     let w = pair-after _ _ _ _ _ (r .ensures .0) in (
       omega (arith, i .0),
       omega (arith, l),
@@ -69,15 +69,15 @@ returns c =
     let e : c .before .loop .other ≡ s .args .n = omega (arith, i .1, c .loop-test .left) in
     (rw e at (i .4), seen-column _ _ _ _ _ _ (s .pre .0 .columns) (s .pre .1) (seen-at (omega (arith, e)) (i .7)))
 
-pub column-values-spec : {M : Type 1} → statement M
-column-values-spec =
+pub column-spec : {M : Type 1} → statement M
+column-spec =
     tie.close
     (tie.spec
     Inv-loop
     μ-loop
     add-other
     loop-holds
-    visit-values-requires
+    visit-requires
     add-other-2
     loop-less
     loop-again
