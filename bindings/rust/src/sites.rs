@@ -37,9 +37,16 @@ pub fn widest_block_cut(bond_left: usize, bond_right: usize, n: usize) -> Result
     answered(number, place, rank)
 }
 
-/// Room for a site of that many cells; nothing where the library refuses its size.
-fn site(a: usize, b: usize, c: usize) -> Vec<Complex> {
-    vec![Complex::default(); area(area(a, b), c)]
+/// A site of a·b·c cells that a fill writes; it has room for nothing where the library refuses its size.
+fn filled(
+    (a, b, c): (usize, usize, usize),
+    fill: impl FnOnce(*mut f64, usize, &mut usize) -> u32,
+) -> Result<Vec<Complex>, Refusal> {
+    let mut out = vec![Complex::default(); area(area(a, b), c)];
+    let mut place = 0;
+    let (o, o_len) = numbers_of_mut(&mut out);
+    let number = fill(o, o_len, &mut place);
+    answered(number, place, out)
 }
 
 /// A site from the columns of an isometry.
@@ -49,12 +56,10 @@ pub fn fill_isometry_site_data(
     bond_left: usize,
     chi: usize,
 ) -> Result<Vec<Complex>, Refusal> {
-    let mut out = site(2, bond_left, chi);
-    let mut place = 0;
     let (c, c_len) = numbers_of(columns);
-    let (o, o_len) = numbers_of_mut(&mut out);
-    let number = unsafe { ffi::zg_fill_isometry_site_data(c, c_len, stride, bond_left, chi, o, o_len, &mut place) };
-    answered(number, place, out)
+    filled((2, bond_left, chi), |o, o_len, place| unsafe {
+        ffi::zg_fill_isometry_site_data(c, c_len, stride, bond_left, chi, o, o_len, place)
+    })
 }
 
 /// A site from the columns of U, each times its singular value.
@@ -65,14 +70,10 @@ pub fn fill_scaled_u_site_data(
     bond_left: usize,
     chi: usize,
 ) -> Result<Vec<Complex>, Refusal> {
-    let mut out = site(2, bond_left, chi);
-    let mut place = 0;
     let (u, u_len) = numbers_of(u);
-    let (o, o_len) = numbers_of_mut(&mut out);
-    let number = unsafe {
-        ffi::zg_fill_scaled_u_site_data(u, u_len, s.as_ptr(), s.len(), stride, bond_left, chi, o, o_len, &mut place)
-    };
-    answered(number, place, out)
+    filled((2, bond_left, chi), |o, o_len, place| unsafe {
+        ffi::zg_fill_scaled_u_site_data(u, u_len, s.as_ptr(), s.len(), stride, bond_left, chi, o, o_len, place)
+    })
 }
 
 /// A site from the rows of V†.
@@ -83,13 +84,10 @@ pub fn fill_vt_site_data(
     physical_dim: usize,
     bond_right: usize,
 ) -> Result<Vec<Complex>, Refusal> {
-    let mut out = site(chi, physical_dim, bond_right);
-    let mut place = 0;
     let (v, v_len) = numbers_of(vt);
-    let (o, o_len) = numbers_of_mut(&mut out);
-    let number =
-        unsafe { ffi::zg_fill_vt_site_data(v, v_len, row_len, chi, physical_dim, bond_right, o, o_len, &mut place) };
-    answered(number, place, out)
+    filled((chi, physical_dim, bond_right), |o, o_len, place| unsafe {
+        ffi::zg_fill_vt_site_data(v, v_len, row_len, chi, physical_dim, bond_right, o, o_len, place)
+    })
 }
 
 /// A site from the rows of V†, each times its singular value.
@@ -101,24 +99,9 @@ pub fn fill_scaled_vt_data(
     physical_dim: usize,
     bond_right: usize,
 ) -> Result<Vec<Complex>, Refusal> {
-    let mut out = site(chi, physical_dim, bond_right);
-    let mut place = 0;
     let (v, v_len) = numbers_of(vt);
-    let (o, o_len) = numbers_of_mut(&mut out);
-    let number = unsafe {
-        ffi::zg_fill_scaled_vt_data(
-            s.as_ptr(),
-            s.len(),
-            v,
-            v_len,
-            row_len,
-            chi,
-            physical_dim,
-            bond_right,
-            o,
-            o_len,
-            &mut place,
-        )
-    };
-    answered(number, place, out)
+    filled((chi, physical_dim, bond_right), |o, o_len, place| unsafe {
+        let (s, s_len) = (s.as_ptr(), s.len());
+        ffi::zg_fill_scaled_vt_data(s, s_len, v, v_len, row_len, chi, physical_dim, bond_right, o, o_len, place)
+    })
 }
