@@ -46,14 +46,6 @@ fn front_floats(s: &[f64], k: usize) -> &[f64] {
     &s[..k]
 }
 
-fn size_at(text: &[u8], at: usize) -> usize {
-    replay::size_of(replay::next_word(text, at).value)
-}
-
-fn past(text: &[u8], at: usize) -> usize {
-    replay::next_word(text, at).next
-}
-
 fn lists(text: &[u8], at: usize) -> usize {
     let mut names = [0usize; 16];
     let h = read_head(text, at, &mut names);
@@ -89,21 +81,21 @@ fn offsets_case(text: &[u8], at: usize) -> usize {
         front(&names, h.k),
         h.n,
         h.cap,
-        size_at(text, h.next),
+        replay::size_at(text, h.next),
         &mut out,
     );
-    past(text, h.next)
+    replay::past(text, h.next)
 }
 
 fn base_case(text: &[u8], at: usize) -> usize {
     let mut names = [0usize; 16];
     let h = read_head(text, at, &mut names);
-    let e = size_at(text, h.next);
+    let e = replay::size_at(text, h.next);
     let r = offsets::traced_base(e, front(&names, h.k), h.n, h.cap);
     let answer = r.answer;
     replay::print_answer(answer);
     replay::print_word(replay::word_of(r.base));
-    past(text, h.next)
+    replay::past(text, h.next)
 }
 
 fn show_side(list: &[usize], n: usize, cap: usize, room: usize, others: &mut [usize]) {
@@ -125,10 +117,10 @@ fn side_case(text: &[u8], at: usize) -> usize {
         front(&names, h.k),
         h.n,
         h.cap,
-        size_at(text, h.next),
+        replay::size_at(text, h.next),
         &mut others,
     );
-    past(text, h.next)
+    replay::past(text, h.next)
 }
 
 // What a slice of numbers holds as it is lent: bits that count up from the first number's.
@@ -230,19 +222,24 @@ fn show_state(pages: bool, state: &[f64], n: usize, list: &[usize], cap: usize, 
 fn cut_case(text: &[u8], at: usize, pages: bool) -> usize {
     let mut names = [0usize; 16];
     let h = read_head(text, at, &mut names);
-    let long = size_at(text, h.next);
-    let second = past(text, h.next);
-    let third = past(text, second);
+    let long = replay::size_at(text, h.next);
+    let second = replay::past(text, h.next);
+    let third = replay::past(text, second);
     let mut state = [0.0; 8200];
     count_up(&mut state, 0x3ff0_0000_0000_0000);
-    let next = change(text, past(text, third), &mut state, size_at(text, third));
+    let next = change(
+        text,
+        replay::past(text, third),
+        &mut state,
+        replay::size_at(text, third),
+    );
     show_state(
         pages,
         front_floats(&state, long),
         h.n,
         front(&names, h.k),
         h.cap,
-        size_at(text, second),
+        replay::size_at(text, second),
     );
     next
 }

@@ -21,14 +21,6 @@ fn front_floats(s: &[f64], k: usize) -> &[f64] {
     &s[..k]
 }
 
-fn size_at(text: &[u8], at: usize) -> usize {
-    replay::size_of(replay::next_word(text, at).value)
-}
-
-fn past(text: &[u8], at: usize) -> usize {
-    replay::next_word(text, at).next
-}
-
 fn show_density(
     state: &[f64],
     n: usize,
@@ -64,24 +56,24 @@ fn density_into(state: &[f64], n: usize, list: &[usize], cap: usize, o: usize, w
 }
 
 fn density(text: &[u8], at: usize) -> usize {
-    let second = past(text, at);
-    let third = past(text, second);
-    let k = size_at(text, third);
+    let second = replay::past(text, at);
+    let third = replay::past(text, second);
+    let k = replay::size_at(text, third);
     let mut list = [0usize; 16];
-    let fourth = replay::read_counts(text, past(text, third), &mut list, k);
-    let m = size_at(text, fourth);
+    let fourth = replay::read_counts(text, replay::past(text, third), &mut list, k);
+    let m = replay::size_at(text, fourth);
     let mut state = [0.0; 8200];
-    let fifth = replay::read_floats(text, past(text, fourth), &mut state, m);
-    let sixth = past(text, fifth);
+    let fifth = replay::read_floats(text, replay::past(text, fourth), &mut state, m);
+    let sixth = replay::past(text, fifth);
     density_into(
         front_floats(&state, m),
-        size_at(text, at),
+        replay::size_at(text, at),
         front(&list, k),
-        size_at(text, second),
-        size_at(text, fifth),
-        size_at(text, sixth),
+        replay::size_at(text, second),
+        replay::size_at(text, fifth),
+        replay::size_at(text, sixth),
     );
-    past(text, sixth)
+    replay::past(text, sixth)
 }
 
 fn show_mirror(rho: &mut [f64], m: usize, dim: usize) {
@@ -101,15 +93,15 @@ fn show_trace(rho: &mut [f64], m: usize, dim: usize) {
 }
 
 fn square(text: &[u8], at: usize, kind: u64) -> usize {
-    let second = past(text, at);
-    let m = size_at(text, second);
+    let second = replay::past(text, at);
+    let m = replay::size_at(text, second);
     let mut rho = [0.0; 8200];
-    let last = replay::read_floats(text, past(text, second), &mut rho, m);
+    let last = replay::read_floats(text, replay::past(text, second), &mut rho, m);
     if kind == 2 {
-        show_mirror(&mut rho, m, size_at(text, at));
+        show_mirror(&mut rho, m, replay::size_at(text, at));
         return last;
     }
-    show_trace(&mut rho, m, size_at(text, at));
+    show_trace(&mut rho, m, replay::size_at(text, at));
     last
 }
 
@@ -135,27 +127,27 @@ fn show_block(
 }
 
 fn block_into(text: &[u8], at: usize, dim: usize, positions: &[usize], side: usize) -> usize {
-    let m = size_at(text, at);
+    let m = replay::size_at(text, at);
     let mut rho = [0.0; 2048];
-    let second = replay::read_floats(text, past(text, at), &mut rho, m);
-    let f = size_at(text, second);
+    let second = replay::read_floats(text, replay::past(text, at), &mut rho, m);
+    let f = replay::size_at(text, second);
     let mut factor = [0.0; 2048];
-    let last = replay::read_floats(text, past(text, second), &mut factor, f);
+    let last = replay::read_floats(text, replay::past(text, second), &mut factor, f);
     show_block(&mut rho, m, dim, positions, front_floats(&factor, f), side);
     last
 }
 
 fn block(text: &[u8], at: usize) -> usize {
-    let second = past(text, at);
-    let k = size_at(text, second);
+    let second = replay::past(text, at);
+    let k = replay::size_at(text, second);
     let mut positions = [0usize; 16];
-    let third = replay::read_counts(text, past(text, second), &mut positions, k);
+    let third = replay::read_counts(text, replay::past(text, second), &mut positions, k);
     block_into(
         text,
-        past(text, third),
-        size_at(text, at),
+        replay::past(text, third),
+        replay::size_at(text, at),
         front(&positions, k),
-        size_at(text, third),
+        replay::size_at(text, third),
     )
 }
 

@@ -3,28 +3,6 @@
 // and holds 3.0 everywhere. Each case writes one line of words: the answer's number and place, the rank, and the lent slices as
 // they stand afterwards.
 //   1 a rows cols q r scratch
-ghost use Prim.Native.Nat.{_≤_};
-
-fn least(a: usize, b: usize) -> usize
-    ensures { λ r. ⌜ r ≤ b ⌝ }
-{
-    if a < b { a } else { b }
-}
-
-fn size_at(text: &[u8], at: usize) -> usize {
-    replay::size_of(replay::next_word(text, at).value)
-}
-
-fn past(text: &[u8], at: usize) -> usize {
-    replay::next_word(text, at).next
-}
-
-// A length of at most 512.
-fn room_at(text: &[u8], at: usize) -> usize
-    ensures { λ r. ⌜ r ≤ 512 ⌝ }
-{
-    least(size_at(text, at), 512)
-}
 
 // The call, its answer and the lent slices as it leaves them.
 fn factorize(
@@ -49,11 +27,11 @@ fn lend(text: &[u8], at: usize, a: &[f64], rows: usize, cols: usize) -> usize {
     let mut q = [3.0; 512];
     let mut r = [3.0; 512];
     let mut scratch = [3.0; 512];
-    let second = past(text, at);
-    let last = past(text, second);
-    let in_q = room_at(text, at);
-    let in_r = room_at(text, second);
-    let in_scratch = room_at(text, last);
+    let second = replay::past(text, at);
+    let last = replay::past(text, second);
+    let in_q = replay::room_at(text, at);
+    let in_r = replay::room_at(text, second);
+    let in_scratch = replay::room_at(text, last);
     factorize(
         a,
         rows,
@@ -62,17 +40,23 @@ fn lend(text: &[u8], at: usize, a: &[f64], rows: usize, cols: usize) -> usize {
         &mut r[..in_r],
         &mut scratch[..in_scratch],
     );
-    past(text, last)
+    replay::past(text, last)
 }
 
 fn case(text: &[u8], at: usize) -> usize {
     let mut numbers = [0.0; 512];
-    let count = room_at(text, at);
-    let next = replay::read_floats(text, past(text, at), &mut numbers, count);
-    let second = past(text, next);
-    let rows = size_at(text, next);
-    let cols = size_at(text, second);
-    lend(text, past(text, second), &numbers[..count], rows, cols)
+    let count = replay::room_at(text, at);
+    let next = replay::read_floats(text, replay::past(text, at), &mut numbers, count);
+    let second = replay::past(text, next);
+    let rows = replay::size_at(text, next);
+    let cols = replay::size_at(text, second);
+    lend(
+        text,
+        replay::past(text, second),
+        &numbers[..count],
+        rows,
+        cols,
+    )
 }
 
 fn run(text: &[u8]) {

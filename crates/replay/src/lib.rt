@@ -139,6 +139,22 @@ pub fn size_of(value: u64) -> usize
     value as usize
 }
 
+// The word of the text from `at` on, as a size; and where the text goes on after it.
+pub fn size_at(text: &[u8], at: usize) -> usize {
+    size_of(next_word(text, at).value)
+}
+
+pub fn past(text: &[u8], at: usize) -> usize {
+    next_word(text, at).next
+}
+
+// The same size where it is at most 512, and else 512: the programs' buffers are that long.
+pub fn room_at(text: &[u8], at: usize) -> usize
+    ensures { λ r. ⌜ r ≤ 512 ⌝ }
+{
+    least(size_at(text, at), 512)
+}
+
 // The size as a word.
 pub fn word_of(size: usize) -> u64
     ensures { λ r. ⌜ r ≡ size ⌝ }

@@ -3,28 +3,6 @@
 // holds 3.0 everywhere. Each case writes one line of words: the answer's number and place, the count, and the lent slices as they
 // stand afterwards.
 //   1 state n list cap out scratch    dense_schmidt_values
-ghost use Prim.Native.Nat.{_≤_};
-
-fn least(a: usize, b: usize) -> usize
-    ensures { λ r. ⌜ r ≤ b ⌝ }
-{
-    if a < b { a } else { b }
-}
-
-fn size_at(text: &[u8], at: usize) -> usize {
-    replay::size_of(replay::next_word(text, at).value)
-}
-
-fn past(text: &[u8], at: usize) -> usize {
-    replay::next_word(text, at).next
-}
-
-// A length of at most 512.
-fn room_at(text: &[u8], at: usize) -> usize
-    ensures { λ r. ⌜ r ≤ 512 ⌝ }
-{
-    least(size_at(text, at), 512)
-}
 
 fn values(
     state: &[f64],
@@ -46,9 +24,9 @@ fn values(
 fn lend(text: &[u8], at: usize, state: &[f64], n: usize, list: &[usize], cap: usize) -> usize {
     let mut out = [3.0; 512];
     let mut scratch = [3.0; 512];
-    let last = past(text, at);
-    let in_out = room_at(text, at);
-    let in_scratch = room_at(text, last);
+    let last = replay::past(text, at);
+    let in_out = replay::room_at(text, at);
+    let in_scratch = replay::room_at(text, last);
     values(
         state,
         n,
@@ -57,29 +35,29 @@ fn lend(text: &[u8], at: usize, state: &[f64], n: usize, list: &[usize], cap: us
         &mut out[..in_out],
         &mut scratch[..in_scratch],
     );
-    past(text, last)
+    replay::past(text, last)
 }
 
 // The register, the list and the cap, and then the call.
 fn with_list(text: &[u8], at: usize, state: &[f64]) -> usize {
     let mut names = [0usize; 512];
-    let length = past(text, at);
-    let k = room_at(text, length);
-    let next = replay::read_counts(text, past(text, length), &mut names, k);
+    let length = replay::past(text, at);
+    let k = replay::room_at(text, length);
+    let next = replay::read_counts(text, replay::past(text, length), &mut names, k);
     lend(
         text,
-        past(text, next),
+        replay::past(text, next),
         state,
-        size_at(text, at),
+        replay::size_at(text, at),
         &names[..k],
-        size_at(text, next),
+        replay::size_at(text, next),
     )
 }
 
 fn case(text: &[u8], at: usize) -> usize {
     let mut numbers = [0.0; 512];
-    let count = room_at(text, at);
-    let next = replay::read_floats(text, past(text, at), &mut numbers, count);
+    let count = replay::room_at(text, at);
+    let next = replay::read_floats(text, replay::past(text, at), &mut numbers, count);
     with_list(text, next, &numbers[..count])
 }
 

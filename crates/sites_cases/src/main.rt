@@ -13,14 +13,6 @@
 // A fill writes its answer and the slice, or the slice's digest where it is 200 numbers or longer. Lists of kinds 1 and 2 have at
 // most 64 values; SOURCE at most 16,384 numbers, VALUES 4,200, the slice 8,300.
 
-fn size_at(text: &[u8], at: usize) -> usize {
-    replay::size_of(replay::next_word(text, at).value)
-}
-
-fn past(text: &[u8], at: usize) -> usize {
-    replay::next_word(text, at).next
-}
-
 fn front_floats(s: &[f64], k: usize) -> &[f64] {
     if s.len() < k {
         return s;
@@ -58,7 +50,7 @@ fn change(text: &[u8], at: usize, state: &mut [f64], count: usize) -> usize {
 // A source or values as the text has them, from the word after the length on; where the text goes on.
 fn read_source(text: &[u8], at: usize, s: &mut [f64]) -> usize {
     count_up(s, 0x3ff0_0000_0000_0000);
-    change(text, past(text, at), s, size_at(text, at))
+    change(text, replay::past(text, at), s, replay::size_at(text, at))
 }
 
 // A digest of the numbers' bits, in order, modulo 2^31 - 1.
@@ -82,58 +74,58 @@ fn print_site(s: &[f64]) {
 
 fn rank_case(text: &[u8], at: usize) -> usize {
     let mut values = [0.0; 64];
-    let count = size_at(text, at);
-    let next = replay::read_floats(text, past(text, at), &mut values, count);
+    let count = replay::size_at(text, at);
+    let next = replay::read_floats(text, replay::past(text, at), &mut values, count);
     let epsilon = replay::float_of(replay::next_word(text, next).value);
-    let cap = past(text, next);
+    let cap = replay::past(text, next);
     let list = front_floats(&values, count);
     replay::print_word(replay::word_of(ranks::truncated_svd_rank(
         list,
         epsilon,
-        size_at(text, cap),
+        replay::size_at(text, cap),
     )));
-    past(text, cap)
+    replay::past(text, cap)
 }
 
 fn discard_case(text: &[u8], at: usize) -> usize {
     let mut values = [0.0; 64];
-    let count = size_at(text, at);
-    let next = replay::read_floats(text, past(text, at), &mut values, count);
+    let count = replay::size_at(text, at);
+    let next = replay::read_floats(text, replay::past(text, at), &mut values, count);
     let list = front_floats(&values, count);
-    if ranks::discards_resolvable_weight(list, size_at(text, next)) {
+    if ranks::discards_resolvable_weight(list, replay::size_at(text, next)) {
         replay::print_word(1);
     } else {
         replay::print_word(0);
     }
-    past(text, next)
+    replay::past(text, next)
 }
 
 fn cut_case(text: &[u8], at: usize) -> usize {
-    let second = past(text, at);
-    let third = past(text, second);
+    let second = replay::past(text, at);
+    let third = replay::past(text, second);
     let r = ranks::cut_rank(
-        size_at(text, at),
-        size_at(text, second),
-        size_at(text, third),
+        replay::size_at(text, at),
+        replay::size_at(text, second),
+        replay::size_at(text, third),
     );
     let answer = r.answer;
     replay::print_answer(answer);
     replay::print_word(r.rank);
-    past(text, third)
+    replay::past(text, third)
 }
 
 fn block_case(text: &[u8], at: usize) -> usize {
-    let second = past(text, at);
-    let third = past(text, second);
+    let second = replay::past(text, at);
+    let third = replay::past(text, second);
     let r = ranks::widest_block_cut(
-        size_at(text, at),
-        size_at(text, second),
-        size_at(text, third),
+        replay::size_at(text, at),
+        replay::size_at(text, second),
+        replay::size_at(text, third),
     );
     let answer = r.answer;
     replay::print_answer(answer);
     replay::print_word(r.rank);
-    past(text, third)
+    replay::past(text, third)
 }
 
 // The sizes of a fill: four words, the last of which only the fills of rows have.
@@ -206,97 +198,97 @@ fn scaled_vt(values: &[f64], source: &[f64], z: Sizes, room: usize, out: &mut [f
 
 // The sizes of kind 5 and 6, from `at` on.
 fn column_sizes(text: &[u8], at: usize) -> Sizes {
-    let second = past(text, at);
-    let third = past(text, second);
+    let second = replay::past(text, at);
+    let third = replay::past(text, second);
     Sizes {
-        line: size_at(text, at),
-        second: size_at(text, second),
-        third: size_at(text, third),
+        line: replay::size_at(text, at),
+        second: replay::size_at(text, second),
+        third: replay::size_at(text, third),
         fourth: 0,
     }
 }
 
 // The sizes of kind 7 and 8.
 fn row_sizes(text: &[u8], at: usize) -> Sizes {
-    let second = past(text, at);
-    let third = past(text, second);
-    let fourth = past(text, third);
+    let second = replay::past(text, at);
+    let third = replay::past(text, second);
+    let fourth = replay::past(text, third);
     Sizes {
-        line: size_at(text, at),
-        second: size_at(text, second),
-        third: size_at(text, third),
-        fourth: size_at(text, fourth),
+        line: replay::size_at(text, at),
+        second: replay::size_at(text, second),
+        third: replay::size_at(text, third),
+        fourth: replay::size_at(text, fourth),
     }
 }
 
 fn three(text: &[u8], at: usize) -> usize {
-    past(text, past(text, past(text, at)))
+    replay::past(text, replay::past(text, replay::past(text, at)))
 }
 
 fn isometry_case(text: &[u8], at: usize) -> usize {
     let lengths = three(text, at);
     let mut source = [0.0; 16384];
-    let room = read_source(text, past(text, lengths), &mut source);
+    let room = read_source(text, replay::past(text, lengths), &mut source);
     let mut out = [0.0; 8300];
     count_up(&mut out, 0xc000_0000_0000_0000);
     isometry(
-        front_floats(&source, size_at(text, lengths)),
+        front_floats(&source, replay::size_at(text, lengths)),
         column_sizes(text, at),
-        size_at(text, room),
+        replay::size_at(text, room),
         &mut out,
     );
-    past(text, room)
+    replay::past(text, room)
 }
 
 fn scaled_u_case(text: &[u8], at: usize) -> usize {
     let first = three(text, at);
     let mut source = [0.0; 16384];
-    let second = read_source(text, past(text, first), &mut source);
+    let second = read_source(text, replay::past(text, first), &mut source);
     let mut values = [0.0; 4200];
-    let room = read_source(text, past(text, second), &mut values);
+    let room = read_source(text, replay::past(text, second), &mut values);
     let mut out = [0.0; 8300];
     count_up(&mut out, 0xc000_0000_0000_0000);
     scaled_u(
-        front_floats(&source, size_at(text, first)),
-        front_floats(&values, size_at(text, second)),
+        front_floats(&source, replay::size_at(text, first)),
+        front_floats(&values, replay::size_at(text, second)),
         column_sizes(text, at),
-        size_at(text, room),
+        replay::size_at(text, room),
         &mut out,
     );
-    past(text, room)
+    replay::past(text, room)
 }
 
 fn vt_case(text: &[u8], at: usize) -> usize {
-    let lengths = past(text, three(text, at));
+    let lengths = replay::past(text, three(text, at));
     let mut source = [0.0; 16384];
-    let room = read_source(text, past(text, lengths), &mut source);
+    let room = read_source(text, replay::past(text, lengths), &mut source);
     let mut out = [0.0; 8300];
     count_up(&mut out, 0xc000_0000_0000_0000);
     vt(
-        front_floats(&source, size_at(text, lengths)),
+        front_floats(&source, replay::size_at(text, lengths)),
         row_sizes(text, at),
-        size_at(text, room),
+        replay::size_at(text, room),
         &mut out,
     );
-    past(text, room)
+    replay::past(text, room)
 }
 
 fn scaled_vt_case(text: &[u8], at: usize) -> usize {
-    let first = past(text, three(text, at));
+    let first = replay::past(text, three(text, at));
     let mut values = [0.0; 4200];
-    let second = read_source(text, past(text, first), &mut values);
+    let second = read_source(text, replay::past(text, first), &mut values);
     let mut source = [0.0; 16384];
-    let room = read_source(text, past(text, second), &mut source);
+    let room = read_source(text, replay::past(text, second), &mut source);
     let mut out = [0.0; 8300];
     count_up(&mut out, 0xc000_0000_0000_0000);
     scaled_vt(
-        front_floats(&values, size_at(text, first)),
-        front_floats(&source, size_at(text, second)),
+        front_floats(&values, replay::size_at(text, first)),
+        front_floats(&source, replay::size_at(text, second)),
         row_sizes(text, at),
-        size_at(text, room),
+        replay::size_at(text, room),
         &mut out,
     );
-    past(text, room)
+    replay::past(text, room)
 }
 
 fn fill_case(text: &[u8], at: usize, kind: u64) -> usize {

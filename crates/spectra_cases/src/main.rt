@@ -6,28 +6,6 @@
 //   2 values out             finish_schmidt_values
 //   3 rho dim out scratch    schmidt_values_from_density
 //   4 matrix dim values vectors scratch    hermitian_eigen
-ghost use Prim.Native.Nat.{_≤_};
-
-fn least(a: usize, b: usize) -> usize
-    ensures { λ r. ⌜ r ≤ b ⌝ }
-{
-    if a < b { a } else { b }
-}
-
-fn size_at(text: &[u8], at: usize) -> usize {
-    replay::size_of(replay::next_word(text, at).value)
-}
-
-fn past(text: &[u8], at: usize) -> usize {
-    replay::next_word(text, at).next
-}
-
-// A length of at most 512.
-fn room_at(text: &[u8], at: usize) -> usize
-    ensures { λ r. ⌜ r ≤ 512 ⌝ }
-{
-    least(size_at(text, at), 512)
-}
 
 fn print_kept(r: finish::Kept) {
     let answer = r.answer;
@@ -63,15 +41,15 @@ fn finished(values: &[f64], out: &mut [f64]) {
 fn lend(text: &[u8], at: usize, a: &[f64], dim: usize, kind: u64) -> usize {
     let mut out = [3.0; 512];
     let mut scratch = [3.0; 512];
-    let last = past(text, at);
-    let in_out = room_at(text, at);
-    let in_scratch = room_at(text, last);
+    let last = replay::past(text, at);
+    let in_out = replay::room_at(text, at);
+    let in_scratch = replay::room_at(text, last);
     if kind == 1 {
         eigenvalues(a, dim, &mut out[..in_out], &mut scratch[..in_scratch]);
     } else {
         from_density(a, dim, &mut out[..in_out], &mut scratch[..in_scratch]);
     }
-    past(text, last)
+    replay::past(text, last)
 }
 
 // The same to the call that gives vectors too.
@@ -79,11 +57,11 @@ fn lend_vectors(text: &[u8], at: usize, a: &[f64], dim: usize) -> usize {
     let mut values = [3.0; 512];
     let mut vectors = [3.0; 512];
     let mut scratch = [3.0; 512];
-    let second = past(text, at);
-    let last = past(text, second);
-    let in_values = room_at(text, at);
-    let in_vectors = room_at(text, second);
-    let in_scratch = room_at(text, last);
+    let second = replay::past(text, at);
+    let last = replay::past(text, second);
+    let in_values = replay::room_at(text, at);
+    let in_vectors = replay::room_at(text, second);
+    let in_scratch = replay::room_at(text, last);
     eigen(
         a,
         dim,
@@ -91,26 +69,26 @@ fn lend_vectors(text: &[u8], at: usize, a: &[f64], dim: usize) -> usize {
         &mut vectors[..in_vectors],
         &mut scratch[..in_scratch],
     );
-    past(text, last)
+    replay::past(text, last)
 }
 
 // The same to a call on a list of values.
 fn lend_list(text: &[u8], at: usize, values: &[f64]) -> usize {
     let mut out = [3.0; 512];
-    let in_out = room_at(text, at);
+    let in_out = replay::room_at(text, at);
     finished(values, &mut out[..in_out]);
-    past(text, at)
+    replay::past(text, at)
 }
 
 fn case(text: &[u8], at: usize, kind: u64) -> usize {
     let mut numbers = [0.0; 512];
-    let count = room_at(text, at);
-    let next = replay::read_floats(text, past(text, at), &mut numbers, count);
+    let count = replay::room_at(text, at);
+    let next = replay::read_floats(text, replay::past(text, at), &mut numbers, count);
     if kind == 2 {
         return lend_list(text, next, &numbers[..count]);
     }
-    let lent = past(text, next);
-    let dim = size_at(text, next);
+    let lent = replay::past(text, next);
+    let dim = replay::size_at(text, next);
     if kind == 4 {
         return lend_vectors(text, lent, &numbers[..count], dim);
     }

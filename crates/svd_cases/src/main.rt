@@ -3,28 +3,6 @@
 // and holds 3.0 everywhere. Each case writes one line of words: the answer's number and place, and the lent slices as they stand
 // afterwards.
 //   1 a m n u s vt scratch
-ghost use Prim.Native.Nat.{_≤_};
-
-fn least(a: usize, b: usize) -> usize
-    ensures { λ r. ⌜ r ≤ b ⌝ }
-{
-    if a < b { a } else { b }
-}
-
-fn size_at(text: &[u8], at: usize) -> usize {
-    replay::size_of(replay::next_word(text, at).value)
-}
-
-fn past(text: &[u8], at: usize) -> usize {
-    replay::next_word(text, at).next
-}
-
-// A length of at most 512.
-fn room_at(text: &[u8], at: usize) -> usize
-    ensures { λ r. ⌜ r ≤ 512 ⌝ }
-{
-    least(size_at(text, at), 512)
-}
 
 // The call, its answer and the lent slices as it leaves them.
 fn factor(
@@ -49,13 +27,13 @@ fn lend(text: &[u8], at: usize, a: &[f64], m: usize, n: usize) -> usize {
     let mut s = [3.0; 512];
     let mut vt = [3.0; 512];
     let mut scratch = [3.0; 512];
-    let second = past(text, at);
-    let third = past(text, second);
-    let last = past(text, third);
-    let in_u = room_at(text, at);
-    let in_s = room_at(text, second);
-    let in_vt = room_at(text, third);
-    let in_scratch = room_at(text, last);
+    let second = replay::past(text, at);
+    let third = replay::past(text, second);
+    let last = replay::past(text, third);
+    let in_u = replay::room_at(text, at);
+    let in_s = replay::room_at(text, second);
+    let in_vt = replay::room_at(text, third);
+    let in_scratch = replay::room_at(text, last);
     factor(
         a,
         m,
@@ -65,17 +43,17 @@ fn lend(text: &[u8], at: usize, a: &[f64], m: usize, n: usize) -> usize {
         &mut vt[..in_vt],
         &mut scratch[..in_scratch],
     );
-    past(text, last)
+    replay::past(text, last)
 }
 
 fn case(text: &[u8], at: usize) -> usize {
     let mut numbers = [0.0; 512];
-    let count = room_at(text, at);
-    let next = replay::read_floats(text, past(text, at), &mut numbers, count);
-    let second = past(text, next);
-    let m = size_at(text, next);
-    let n = size_at(text, second);
-    lend(text, past(text, second), &numbers[..count], m, n)
+    let count = replay::room_at(text, at);
+    let next = replay::read_floats(text, replay::past(text, at), &mut numbers, count);
+    let second = replay::past(text, next);
+    let m = replay::size_at(text, next);
+    let n = replay::size_at(text, second);
+    lend(text, replay::past(text, second), &numbers[..count], m, n)
 }
 
 fn run(text: &[u8]) {
