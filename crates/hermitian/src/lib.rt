@@ -99,7 +99,7 @@ fn sweep(matrix: &[f64], dim: usize, shift: f64, work: &mut [f64])
     ensures { λ _. ⌜ now (work .exit) ≡ swept dim dim (planesOf (dim * dim) (shiftedAt shift (now (matrix .entry)) dim)) .work ⌝ }
 {
     load_shifted(matrix, dim, shift, work);
-    values_only::settle(work, dim, dim);
+    jacobi::settle_alone(work, dim, dim);
 }
 
 // The list backward, in place.

@@ -1,19 +1,20 @@
 -- The sweeps: pairs of a column, columns of a sweep, sweeps until a quiet one. Assumes nothing.
 use mathlib.Core.Path.{_≡_, refl, sym, subst, _∙_}
 use mathlib.Core.Bool.{true, false, cond}
-use mathlib.Core.List.{List}
+use mathlib.Core.List.{List, [], _∷_}
 use Prim.Native.Nat.{ℕ, zero, suc, _+_, _-_, _*_, _<_, _≤_}
 use native.Mathlib.Numerals.{add-one}
 use native.Mathlib.Nat.{suc-mul, mul-le-mul-right}
 use native.Mathlib.Omega.{arith}
 use lib.Ieee.{Float}
+use lib.ListN.{length}
 use Rattle.complex.specs.Loops.{cond-yes, cond-no}
 use Rattle.pairs.specs.declared.Decision.{Decision}
 use Rattle.pairs.specs.declared.Decision.the-variants.{Leave, Turn}
 use Rattle.jacobi.specs.declared.Sweeps.{Sweeps}
 use Rattle.pairs.specs.Gram.{gramTo}
 use Rattle.pairs.specs.Decisions.{decisionOf}
-use Rattle.pairs.specs.Turns.{applied}
+use Rattle.pairs.specs.Turns.{applied, applied-nothing}
 
 -- ---- the room
 
@@ -30,9 +31,28 @@ pub record Room (m n lw lv : ℕ) : Type 0 where
   pub columns : n ≤ 64
   pub cells : n * m ≤ 4096
 
+-- V is of n columns of n cells, or there is none
+pub record VRoom (n lv : ℕ) : Type 0 where
+  pub full : 0 < lv → lv ≡ 2 * (n * n)
+
+pub v-kept : {n k l : ℕ} → k ≡ l → VRoom n l → VRoom n k
+v-kept e h = rw e h
+
+-- what the sweeps ask: a work matrix, and V or none
+pub record SweepRoom (m n lw lv : ℕ) : Type 0 where
+  pub work : lw ≡ 2 * (n * m)
+  pub v : VRoom n lv
+  pub columns : n ≤ 64
+  pub cells : n * m ≤ 4096
+
 -- the column p of n columns of m cells ends within n * m
 pub column-fits : (p n m : ℕ) → p < n → p * m + m ≤ n * m
 column-fits p n m h = rw (← suc-mul p m) (mul-le-mul-right m h)
+
+-- where there is no V nothing is done to it
+pub v-none : (d : Decision) (c a b m : ℕ) (v : List Float) → length v ≡ 0 → v ≡ applied d c a b m v
+v-none d c a b m [] h = applied-nothing d c a b m
+v-none d c a b m (x ∷ v) h = absurd (omega arith)
 
 -- ---- the state
 
@@ -44,6 +64,11 @@ pub record State : Type 0 where
 
 abbrev pub state : List Float → List Float → Sweeps → State
 state work v s = record { work = work; v = v; sweeps = s }
+
+-- an empty V may be called so
+pub state-alone : {work v : List Float} {s : Sweeps} {t : State} → length v ≡ 0 → state work v s ≡ t → state work [] s ≡ t
+state-alone {v = []} h e = e
+state-alone {v = x ∷ v} h e = absurd (omega arith)
 
 -- a pair that is turned is counted, and its sweep is not quiet
 unfoldable pub counted : Decision → Sweeps → Sweeps

@@ -3,9 +3,11 @@
 use pairs::Decision;
 ghost use mathlib.Core.Path.{_≡_};
 ghost use mathlib.Core.Bool.{true};
-ghost use Prim.Native.Nat.{_+_, _-_, _<_, _≤_};
+ghost use mathlib.Core.List.{[]};
+ghost use Prim.Native.Nat.{_+_, _-_, _*_, _<_, _≤_};
 ghost use lib.ListN.{length, getD};
-ghost use Rattle.jacobi.specs.Sweeping.{Room, state, counted, pairStep, pairsTo, sweepOf, settled};
+ghost use Rattle.pairs.specs.Turns.{applied};
+ghost use Rattle.jacobi.specs.Sweeping.{ValueRoom, VRoom, SweepRoom, state, counted, pairStep, pairsTo, sweepOf, settled};
 ghost use Rattle.jacobi.specs.Marks.{look, Marked, Seen};
 
 const MAX_SVD_SWEEPS: usize = 100;
@@ -36,6 +38,17 @@ pub fn count(d: Decision, s: Sweeps) -> Sweeps
     }
 }
 
+// What is decided for the pair p, q is done to V too, where there is one.
+fn apply_to_v(v: &mut [f64], n: usize, p: usize, q: usize, d: Decision)
+    requires { ⌜ VRoom n (length (now v)) × (n ≤ 64) × (p < n) × (q < n) ⌝ }
+    ensures { λ _. ⌜ now (v .exit) ≡ applied d (n * n) (p * n) (q * n) n (now (v .entry)) ⌝ }
+{
+    if v.len() == 0 {
+        return;
+    }
+    pairs::apply(v, n * n, p * n, q * n, n, d);
+}
+
 // The pair p, q.
 fn pair(
     work: &mut [f64],
@@ -46,14 +59,14 @@ fn pair(
     q: usize,
     s: Sweeps,
 ) -> Sweeps
-    requires { ⌜ Room m n (length (now work)) (length (now v)) × (p < n) × (q < n) × (s .turned < 1000000) ⌝ }
+    requires { ⌜ SweepRoom m n (length (now work)) (length (now v)) × (p < n) × (q < n) × (s .turned < 1000000) ⌝ }
     ensures { λ r. ⌜ state (now (work .exit)) (now (v .exit)) r ≡ pairStep m n p q (state (now (work .entry)) (now (v .entry)) s) ⌝ }
 {
     let a = p * m;
     let b = q * m;
     let d = pairs::decide(pairs::gram_of(work, n * m, a, b, m));
     pairs::apply(work, n * m, a, b, m, d);
-    pairs::apply(v, n * n, p * n, q * n, n, d);
+    apply_to_v(v, n, p, q, d);
     count(d, s)
 }
 
@@ -79,7 +92,7 @@ fn visit(
     q: usize,
     s: Sweeps,
 ) -> Sweeps
-    requires { ⌜ Room m n (length (now work)) (length (now v)) × Marked n p q s (length (now marks)) × Seen m n (look (s .begun) p q) (now marks) (now work) ⌝ }
+    requires { ⌜ SweepRoom m n (length (now work)) (length (now v)) × Marked n p q s (length (now marks)) × Seen m n (look (s .begun) p q) (now marks) (now work) ⌝ }
     ensures done { λ r. ⌜ state (now (work .exit)) (now (v .exit)) r ≡ pairStep m n p q (state (now (work .entry)) (now (v .entry)) s) ⌝ }
     ensures seen { λ _. ⌜ Seen m n (look (s .begun) p q + 1) (now (marks .exit)) (now (work .exit)) ⌝ }
 {
@@ -106,7 +119,7 @@ fn column(
     p: usize,
     s: Sweeps,
 ) -> Sweeps
-    requires { ⌜ Room m n (length (now work)) (length (now v)) × (p < n) × (s .turned + n < 1000000) × (1 ≤ s .begun) × (s .begun ≤ 1000)
+    requires { ⌜ SweepRoom m n (length (now work)) (length (now v)) × (p < n) × (s .turned + n < 1000000) × (1 ≤ s .begun) × (s .begun ≤ 1000)
         × (length (now marks) ≡ 64) × Seen m n (look (s .begun) p 0) (now marks) (now work) ⌝ }
     ensures done { λ r. ⌜ state (now (work .exit)) (now (v .exit)) r ≡ pairsTo m n p (n - (p + 1)) (state (now (work .entry)) (now (v .entry)) s) ⌝ }
     ensures seen { λ _. ⌜ Seen m n (look (s .begun) (p + 1) 0) (now (marks .exit)) (now (work .exit)) ⌝ }
@@ -127,7 +140,7 @@ fn sweep(
     n: usize,
     s: Sweeps,
 ) -> Sweeps
-    requires { ⌜ Room m n (length (now work)) (length (now v)) × (s .begun < 1000) × (s .turned < 900000)
+    requires { ⌜ SweepRoom m n (length (now work)) (length (now v)) × (s .begun < 1000) × (s .turned < 900000)
         × (length (now marks) ≡ 64) × Seen m n (look (s .begun + 1) 0 0) (now marks) (now work) ⌝ }
     ensures done { λ r. ⌜ state (now (work .exit)) (now (v .exit)) r ≡ sweepOf m n (state (now (work .entry)) (now (v .entry)) s) ⌝ }
     ensures seen { λ _. ⌜ Seen m n (look (s .begun + 2) 0 0) (now (marks .exit)) (now (work .exit)) ⌝ }
@@ -143,9 +156,9 @@ fn sweep(
     t
 }
 
-// Up to 100 sweeps, and none after a quiet one, over the work matrix of m rows and n columns and over V.
+// Up to 100 sweeps, and none after a quiet one, over the work matrix of m rows and n columns and over V, which may be empty.
 pub fn settle(work: &mut [f64], v: &mut [f64], m: usize, n: usize) -> Sweeps
-    requires { ⌜ Room m n (length (now work)) (length (now v)) ⌝ }
+    requires { ⌜ SweepRoom m n (length (now work)) (length (now v)) ⌝ }
     ensures { λ r. ⌜ state (now (work .exit)) (now (v .exit)) r ≡ settled m n (now (work .entry)) (now (v .entry)) ⌝ }
 {
     let mut marks = [4096usize; 64];
@@ -161,4 +174,14 @@ pub fn settle(work: &mut [f64], v: &mut [f64], m: usize, n: usize) -> Sweeps
         }
     }
     s
+}
+
+// The same on the work matrix alone, where no V is wanted. The contract names an empty V; no V changes the work matrix or the
+// counts (`settled-alike`, specs/Values.antt).
+pub fn settle_alone(work: &mut [f64], m: usize, n: usize) -> Sweeps
+    requires { ⌜ ValueRoom m n (length (now work)) ⌝ }
+    ensures { λ r. ⌜ state (now (work .exit)) [] r ≡ settled m n (now (work .entry)) [] ⌝ }
+{
+    let mut none = [0.0f64; 0];
+    settle(work, &mut none, m, n)
 }

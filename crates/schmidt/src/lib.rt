@@ -44,7 +44,7 @@ fn sweep(state: &[f64], n: usize, cut: Sides, work: &mut [f64], norms: &mut [f64
     ensures { λ _. ⌜ now (norms .exit) ≡ normsAfter (now (state .entry)) n cut ⌝ }
 {
     cutplanes::gather_work(state, n, cut, work);
-    values_only::settle(work, cut.columns, cut.rows);
+    jacobi::settle_alone(work, cut.columns, cut.rows);
     factors::norms(work, cut.columns, cut.rows, norms);
 }
 

@@ -4,7 +4,7 @@ use Prim.Native.Nat.{_+_, _-_, _≤_, _<_}
 use lib.ListN.{length}
 use native.Mathlib.Omega.{arith}
 use Rattle.jacobi.specs.Counts.{pair-after}
-use Rattle.jacobi.specs.Sweeping.{state, pairsTo, pairs-none, pairs-more}
+use Rattle.jacobi.specs.Sweeping.{state, pairsTo, pairs-none, pairs-more, v-kept}
 use Rattle.jacobi.specs.Marks.{look, Seen, seen-into, seen-column, seen-at}
 use Rattle.jacobi.proofs.column.Statement.{statement}
 use Rattle.jacobi.proofs.column.Tie as tie
@@ -28,7 +28,7 @@ visit-requires c κs =
     let s = c .before .before .before .before .before .before .before .before .pre in
     let i = c .before .before .before .before .loop .inv in
     let l = c .before .before .before .loop-test .taken in (
-      record { work = i .2 ∙ s .0 .work; v = i .3 ∙ s .0 .v; columns = s .0 .columns; cells = s .0 .cells },
+      record { work = i .2 ∙ s .0 .work; v = v-kept (i .3) (s .0 .v); columns = s .0 .columns; cells = s .0 .cells },
       record { rising = i .0; within = l; turned = omega (arith, i .6, s .2, l); begun = omega (arith, i .7, s .3); few = omega (arith, i .7, s .4); marks = i .4 ∙ s .5 },
       seen-at (omega (arith, i .7)) (i .8),
     )

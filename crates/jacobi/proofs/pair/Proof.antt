@@ -14,12 +14,6 @@ work-p c = column-fits _ _ _ (c .pre .1)
 work-q : (c : tie.Start) → c .args .q * c .args .m + c .args .m ≤ c .args .n * c .args .m
 work-q c = column-fits _ _ _ (c .pre .2)
 
-v-p : (c : tie.Start) → c .args .p * c .args .n + c .args .n ≤ c .args .n * c .args .n
-v-p c = column-fits _ _ _ (c .pre .1)
-
-v-q : (c : tie.Start) → c .args .q * c .args .n + c .args .n ≤ c .args .n * c .args .n
-v-q c = column-fits _ _ _ (c .pre .2)
-
 mul-a : tie.Need-mul-a
 mul-a c = omega (arith, work-p (c .before .before))
 
@@ -41,17 +35,8 @@ mul-apply c = search needs
 apply-requires : tie.Need-apply-requires
 apply-requires c κs = omega (arith, work-p (c .before .before .before .before .before .before), work-q (c .before .before .before .before .before .before))
 
-mul-apply-2 : tie.Need-mul-apply-2
-mul-apply-2 c = search needs
-
-mul-apply-3 : tie.Need-mul-apply-3
-mul-apply-3 c = omega (arith, v-p (c .before .before .before .before .before .before .before .before .before .before))
-
-mul-apply-4 : tie.Need-mul-apply-4
-mul-apply-4 c = omega (arith, v-q (c .before .before .before .before .before .before .before .before .before .before))
-
-apply-requires-2 : tie.Need-apply-requires-2
-apply-requires-2 c κs = omega (arith, v-p (c .before .before .before .before .before .before .before .before .before .before), v-q (c .before .before .before .before .before .before .before .before .before .before))
+apply-to-v-requires : tie.Need-apply-to-v-requires
+apply-to-v-requires c κs = search needs
 
 count-requires : tie.Need-count-requires
 count-requires c κs = search needs
@@ -63,7 +48,7 @@ same-length-2 : tie.Need-same-length-2
 same-length-2 c = search needs
 
 returns : tie.Need-returns
-returns c = pair-made _ _ _ _ _ _ _ _ _ (verdict-one _ _ (rw (c .before .before .before .before .before .before .before .before .before .before .gram-of .ensures) at (c .before .before .before .before .before .before .before .before .before .decide .ensures))) (c .before .before .before .before .before .before .before .apply .ensures) (c .before .before .before .apply2 .ensures) (c .count .ensures)
+returns c = pair-made _ _ _ _ _ _ _ _ _ (verdict-one _ _ (rw (c .before .before .before .before .before .before .before .before .before .before .gram-of .ensures) at (c .before .before .before .before .before .before .before .before .before .decide .ensures))) (c .before .before .before .before .before .before .before .apply .ensures) (c .before .before .before .apply-to-v .ensures) (c .count .ensures)
 
 pub pair-spec : {M : Type 1} → statement M
 pair-spec =
@@ -76,10 +61,7 @@ pair-spec =
     decide-requires
     mul-apply
     apply-requires
-    mul-apply-2
-    mul-apply-3
-    mul-apply-4
-    apply-requires-2
+    apply-to-v-requires
     count-requires
     same-length
     same-length-2

@@ -4,7 +4,7 @@ use Prim.Native.Nat.{_+_, _-_, _*_, _≤_}
 use lib.ListN.{length}
 use native.Mathlib.Omega.{arith}
 use Rattle.jacobi.specs.Counts.{sweep-after, pairs-few}
-use Rattle.jacobi.specs.Sweeping.{state, settled, sweepsTo, settled-start, sweeps-done, sweeps-more, sweeps-quiet}
+use Rattle.jacobi.specs.Sweeping.{state, settled, sweepsTo, settled-start, sweeps-done, sweeps-more, sweeps-quiet, v-kept}
 use Rattle.jacobi.specs.Marks.{look, Seen, seen-first, seen-at}
 use borrow.Author.Needs.{needs}
 use Rattle.jacobi.proofs.settle.Statement.{statement}
@@ -27,7 +27,7 @@ sweep-requires c κs =
     let s = c .before .before .before .before .before .before .before .pre in
     let i = c .before .before .before .before .loop .inv in
     let l = c .before .before .before .loop-test .taken in (
-      record { work = i .1 ∙ s .work; v = i .2 ∙ s .v; columns = s .columns; cells = s .cells },
+      record { work = i .1 ∙ s .work; v = v-kept (i .2) (s .v); columns = s .columns; cells = s .cells },
       omega (arith, i .5, l),
       omega (arith, i .6, l),
       i .3,

@@ -4,7 +4,7 @@ use Prim.Native.Nat.{_+_, _-_, _≤_}
 use lib.ListN.{length}
 use native.Mathlib.Omega.{arith}
 use Rattle.jacobi.specs.Counts.{pairsBelow, pairs-few, pairs-after, turned-more}
-use Rattle.jacobi.specs.Sweeping.{state, sweep-made, columnsTo, columns-none, columns-more}
+use Rattle.jacobi.specs.Sweeping.{state, sweep-made, columnsTo, columns-none, columns-more, v-kept}
 use Rattle.jacobi.specs.Marks.{look, Seen, seen-sweep, seen-at}
 use borrow.Author.Needs.{needs}
 use Rattle.jacobi.proofs.sweep.Statement.{statement}
@@ -30,7 +30,7 @@ column-requires c κs =
     let i = c .before .before .before .before .loop .inv in
     let l = c .before .before .before .loop-test .taken in
     let f = pairs-few _ (c .before .before .before .before .loop .p) (s .0 .columns) in (
-      record { work = i .1 ∙ s .0 .work; v = i .2 ∙ s .0 .v; columns = s .0 .columns; cells = s .0 .cells },
+      record { work = i .1 ∙ s .0 .work; v = v-kept (i .2) (s .0 .v); columns = s .0 .columns; cells = s .0 .cells },
       l,
       omega (arith, i .5, f, s .2, s .0 .columns, l),
       omega (arith, i .6),

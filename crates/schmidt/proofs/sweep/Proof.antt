@@ -9,8 +9,8 @@ use Rattle.schmidt.proofs.sweep.Tie as tie
 gather-work-requires : tie.Need-gather-work-requires
 gather-work-requires c κs = (sized-ready _ _ _ _ (c .before .before .before .before .pre .0) (c .before .before .before .before .pre .1), c .before .before .before .before .pre .1)
 
-settle-requires : tie.Need-settle-requires
-settle-requires c κs =
+settle-alone-requires : tie.Need-settle-alone-requires
+settle-alone-requires c κs =
     let p = c .before .before .before .before .before .before .before .before .pre in
     let a = all-cells _ _ _ (p .0) in
     record { work = omega (arith, c .before .before .before .gather-work .kept .1 .1 .1 .0, p .1, a); columns = p .0 .few; cells = omega (arith, a, pow-small _ (p .0 .small)) }
@@ -19,7 +19,7 @@ norms-requires : tie.Need-norms-requires
 norms-requires c κs =
     let p = c .before .before .before .before .before .before .before .before .before .before .before .before .before .pre in
     let a = all-cells _ _ _ (p .0) in
-    (omega (arith, a, pow-small _ (p .0 .small)), omega (arith, c .before .before .before .before .settle .kept .0, c .before .before .before .before .before .before .before .before .gather-work .kept .1 .1 .1 .0, p .1, a), omega (arith, p .2))
+    (omega (arith, a, pow-small _ (p .0 .small)), omega (arith, c .before .before .before .before .settle-alone .kept .0, c .before .before .before .before .before .before .before .before .gather-work .kept .1 .1 .1 .0, p .1, a), omega (arith, p .2))
 
 same-length : tie.Need-same-length
 same-length c = search needs
@@ -28,14 +28,14 @@ same-length-2 : tie.Need-same-length-2
 same-length-2 c = search needs
 
 returns : tie.Need-returns
-returns c = norms-made _ _ _ (c .before .before .before .before .before .before .before .settle .result) (c .before .before .before .before .before .before .before .before .before .before .before .gather-work .ensures) (c .before .before .before .before .before .before .before .settle .ensures) (c .before .before .norms .ensures)
+returns c = norms-made _ _ _ (c .before .before .before .before .before .before .before .settle-alone .result) (c .before .before .before .before .before .before .before .before .before .before .before .gather-work .ensures) (c .before .before .before .before .before .before .before .settle-alone .ensures) (c .before .before .norms .ensures)
 
 pub sweep-spec : {M : Type 1} → statement M
 sweep-spec =
     tie.close
     (tie.spec
     gather-work-requires
-    settle-requires
+    settle-alone-requires
     norms-requires
     same-length
     same-length-2
