@@ -10,6 +10,7 @@ use lib.ListN.{length, getD, drop, drop-of-length-le}
 use lib.Seq.{drop-cons}
 use Rattle.answers.specs.Paper.{Reply, done, refuse}
 use Rattle.numbers.specs.Numbers.{allowed}
+use Rattle.squares.specs.Each.{EachAllowed}
 use Rattle.complex.specs.Cells.{components}
 
 unfoldable pub everyAllowed : List Float → Bool
@@ -69,3 +70,8 @@ unfolding everyAllowed
 every-at [] j e h = absurd (omega arith)
 every-at (x ∷ l) zero e h = left-true (allowed x) (everyAllowed l) e
 every-at (x ∷ l) (suc j) e h = every-at l j (right-true (allowed x) (everyAllowed l) e) (omega arith)
+
+pub every-of-each : (s : List Float) → EachAllowed s → everyAllowed s ≡ true
+unfolding everyAllowed
+every-of-each [] a = refl
+every-of-each (x ∷ l) a = ap (λ (b : Bool). b && everyAllowed l) (a 0 (omega arith)) ∙ every-of-each l (λ j h. a (suc j) (omega arith))

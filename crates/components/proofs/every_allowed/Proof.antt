@@ -1,4 +1,4 @@
--- `components::every_allowed` meets its contract. The loop's invariant: what is left decides with what was seen. Assumes nothing.
+-- `components::every_allowed` meets its contract. Where the squares are small every number is allowed. The loop's invariant: what is left decides with what was seen. Assumes nothing.
 use mathlib.Core.Path.{_≡_, refl, sym, ap, _∙_}
 use mathlib.Core.Bool.{Bool, _&&_}
 use Prim.Native.Nat.{_≤_, _-_, _+_}
@@ -6,7 +6,7 @@ use native.Mathlib.Omega.{arith}
 use lib.ListN.{length, drop}
 use denote.Ref.{now}
 use borrow.Author.Needs.{needs}
-use Rattle.components.specs.Every.{everyAllowed, every-more, every-end}
+use Rattle.components.specs.Every.{everyAllowed, every-more, every-end, every-of-each}
 use Rattle.components.proofs.every_allowed.Statement.{statement}
 use Rattle.components.proofs.every_allowed.Tie as tie
 
@@ -15,6 +15,12 @@ Inv-loop s every₀ i₀ every i = (i ≤ length s) × (everyAllowed s ≡ (ever
 
 abbrev μ-loop : tie.MeasureT-loop
 μ-loop s every₀ i₀ every i = length s - i
+
+small-squares-requires : tie.Need-small-squares-requires Inv-loop μ-loop
+small-squares-requires c κs = search needs
+
+returns : tie.Need-returns Inv-loop μ-loop
+returns c = sym (every-of-each _ (c .before .small-squares .ensures (c .if1 .taken)))
 
 loop-holds : tie.Need-loop-holds Inv-loop μ-loop
 loop-holds c = (omega arith, refl)
@@ -39,11 +45,11 @@ loop-again c =
     let b = c .before .before .before in (
       omega arith,
       every-more _ _ (b .loop .every) (c .before .before .loop-test .taken) (b .loop .inv .1)
-          ∙ ap (λ (x : Bool). (b .loop .every && x) && everyAllowed (drop (b .loop .i + 1) (now (b .before .before .args .s)))) (sym (c .component-allowed .ensures)),
+          ∙ ap (λ (x : Bool). (b .loop .every && x) && everyAllowed (drop (b .loop .i + 1) (now (b .before .before .before .before .args .s)))) (sym (c .component-allowed .ensures)),
     )
 
-returns : tie.Need-returns Inv-loop μ-loop
-returns c = every-end _ _ _ (c .loop-test .left) (c .before .loop .inv .1)
+returns-2 : tie.Need-returns-2 Inv-loop μ-loop
+returns-2 c = every-end _ _ _ (c .loop-test .left) (c .before .loop .inv .1)
 
 pub every-allowed-spec : {M : Type 1} → statement M
 every-allowed-spec =
@@ -51,6 +57,8 @@ every-allowed-spec =
     (tie.spec
     Inv-loop
     μ-loop
+    small-squares-requires
+    returns
     loop-holds
     mul-component-allowed
     shared-slice-read-component-allowed
@@ -58,4 +66,4 @@ every-allowed-spec =
     add-i
     loop-less
     loop-again
-    returns)
+    returns-2)
