@@ -1,11 +1,11 @@
--- `values::all_finite` meets its contract. The loop's invariant: what is left decides with what was seen. Assumes nothing.
-use mathlib.Core.Path.{_≡_, refl}
+-- `values::all_finite` meets its contract. Where the squares are small every number is finite. The loop's invariant: what is left decides with what was seen. Assumes nothing.
+use mathlib.Core.Path.{_≡_, refl, sym}
 use mathlib.Core.Bool.{_&&_}
 use Prim.Native.Nat.{_≤_, _-_}
 use native.Mathlib.Omega.{arith}
 use lib.ListN.{length, drop}
 use Rattle.values.specs.Lists.{allFinite}
-use Rattle.values.specs.Finite.{finite-more, finite-end}
+use Rattle.values.specs.Finite.{finite-more, finite-end, finite-of-each}
 use borrow.Author.Needs.{needs}
 use Rattle.values.proofs.all_finite.Statement.{statement}
 use Rattle.values.proofs.all_finite.Tie as tie
@@ -15,6 +15,12 @@ Inv-loop s every₀ i₀ every i = (i ≤ length s) × (allFinite s ≡ (every &
 
 abbrev μ-loop : tie.MeasureT-loop
 μ-loop s every₀ i₀ every i = length s - i
+
+small-squares-requires : tie.Need-small-squares-requires Inv-loop μ-loop
+small-squares-requires c κs = search needs
+
+returns : tie.Need-returns Inv-loop μ-loop
+returns c = sym (finite-of-each _ (c .before .small-squares .ensures (c .if1 .taken)))
 
 loop-holds : tie.Need-loop-holds Inv-loop μ-loop
 loop-holds c = (omega arith, refl)
@@ -37,8 +43,8 @@ loop-less c = omega (arith, c .before .before .loop-test .taken)
 loop-again : tie.Need-loop-again Inv-loop μ-loop
 loop-again c = (omega (arith, c .before .before .loop-test .taken), finite-more _ _ (c .before .before .before .loop .every) (c .before .before .loop-test .taken) (c .before .before .before .loop .inv .1) (c .is-finite .ensures))
 
-returns : tie.Need-returns Inv-loop μ-loop
-returns c = finite-end _ _ (c .before .loop .every) (c .loop-test .left) (c .before .loop .inv .1)
+returns-2 : tie.Need-returns-2 Inv-loop μ-loop
+returns-2 c = finite-end _ _ (c .before .loop .every) (c .loop-test .left) (c .before .loop .inv .1)
 
 pub all-finite-spec : {M : Type 1} → statement M
-all-finite-spec = tie.close (tie.spec Inv-loop μ-loop loop-holds mul-is-finite shared-slice-read-is-finite is-finite-requires add-i loop-less loop-again returns)
+all-finite-spec = tie.close (tie.spec Inv-loop μ-loop small-squares-requires returns loop-holds mul-is-finite shared-slice-read-is-finite is-finite-requires add-i loop-less loop-again returns-2)
