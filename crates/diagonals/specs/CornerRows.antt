@@ -8,10 +8,12 @@ use native.Mathlib.Omega.{arith}
 use lib.Arith.{digits-lt}
 use lib.Ieee.{Float}
 use Rattle.complex.specs.declared.Complex.{Complex}
+use Rattle.complex.specs.Arithmetic.{complexOf}
 use Rattle.complex.specs.Cells.{setCell}
+use Rattle.complex.specs.Zeros.{zeroFloat}
 use Rattle.entries.specs.CellChanges.{length-setCell, cell-same, cell-other, past-cells}
 use Rattle.entries.specs.Squares.{Square, entryAt}
-use Rattle.entries.specs.Mirrored.{cell-in, same-row}
+use Rattle.entries.specs.Mirrored.{cell-in, same-row, same-column}
 use Rattle.entries.specs.Pairs.{setPair, RowIs, length-setPair, past-pair, row-more, entry-kept}
 use Rattle.entries.specs.Filled.{PairTurns, LowerTurns}
 
@@ -19,6 +21,10 @@ use Rattle.entries.specs.Filled.{PairTurns, LowerTurns}
 unfoldable pub cornerSet : (ℕ → ℕ → Complex) → ℕ → ℕ → List Float → List Float
 cornerSet f dim t s =
     setPair (setCell s (2 * t * dim + 2 * t) (f (2 * t) (2 * t))) dim (2 * t + 1) (2 * t) (f (2 * t + 1) (2 * t)) (f (2 * t + 1) (2 * t + 1))
+
+-- the same, with both real parts above the diagonal, where the mirror writes last
+unfoldable pub cornerFilled : (ℕ → ℕ → Complex) → ℕ → ℕ → List Float → List Float
+cornerFilled f dim t s = setCell (cornerSet f dim t s) (2 * t * dim + (2 * t + 1)) (complexOf (f (2 * t) (2 * t) .re) (f (2 * t + 1) (2 * t + 1) .re))
 
 -- the two writes that set them
 pub corner-written : (f : ℕ → ℕ → Complex) (dim t : ℕ) (old mid end : List Float) (x y z : Complex) → mid ≡ setCell old (2 * t * dim + 2 * t) x
@@ -28,6 +34,28 @@ unfolding cornerSet
 corner-written f dim t old mid end x y z em ee ex ey ez =
     ee ∙ ap₂ (λ (s : List Float) (k : Complex). setPair s dim (2 * t + 1) (2 * t) k z) (em ∙ ap (setCell old (2 * t * dim + 2 * t)) ex) ey
     ∙ ap (setPair (setCell old (2 * t * dim + 2 * t) (f (2 * t) (2 * t))) dim (2 * t + 1) (2 * t) (f (2 * t + 1) (2 * t))) ez
+
+-- the write above the diagonal
+pub corner-filled : (f : ℕ → ℕ → Complex) (dim t : ℕ) (old end last : List Float) (p q : Float) (z : Complex) → end ≡ cornerSet f dim t old
+    → last ≡ setCell end (2 * t * dim + (2 * t + 1)) z → z ≡ complexOf p q → complexOf p zeroFloat ≡ f (2 * t) (2 * t)
+    → complexOf q zeroFloat ≡ f (2 * t + 1) (2 * t + 1) → last ≡ cornerFilled f dim t old
+unfolding cornerFilled
+corner-filled f dim t old end last p q z ee el ez ep eq =
+    el
+    ∙ ap₂ (λ (s : List Float) (k : Complex). setCell s (2 * t * dim + (2 * t + 1)) k) ee
+    (ez ∙ ap₂ complexOf (ap (λ (k : Complex). k .re) ep) (ap (λ (k : Complex). k .re) eq))
+
+-- a cell above the diagonal is none of the lower half's
+above-kept : (dim : ℕ) (f : ℕ → ℕ → Complex) (old now : List Float) (t r c : ℕ) (z : Complex) → r < c → c < dim → LowerTurns dim f old now t
+    → LowerTurns dim f old (setCell now (r * dim + c) z) t
+above-kept dim f old now t r c z h hc i = record {
+  within = i .within;
+  long = length-setCell now (r * dim + c) z ∙ i .long;
+  surplus = past-cells now (dim * dim) (r * dim + c) z (digits-lt (omega arith) hc) ∙ i .surplus;
+  rows = λ r′ c′ hr hd.
+      let hb : c′ < dim = omega (arith, i .within) in
+      cell-other now (r * dim + c) (r′ * dim + c′) z (λ e. omega (arith, same-row dim r′ c′ r c hb hc e, same-column dim r′ c′ r c hb hc e)) ∙ i .rows r′ c′ hr hd;
+}
 
 module _ (dim : ℕ) (f : ℕ → ℕ → Complex) (old now mid : List Float) (t : ℕ) (p : Square dim old) (h : 2 * t + 1 < dim)
     (i : LowerTurns dim f old now t) (j : PairTurns dim t f now mid t) where
@@ -84,6 +112,8 @@ module _ (dim : ℕ) (f : ℕ → ℕ → Complex) (old now mid : List Float) (t
   }
 
   -- TWO MORE ROWS
-  pub corner-lower : (last : List Float) → last ≡ cornerSet f dim t mid → LowerTurns dim f old last (t + 1)
-  unfolding cornerSet
-  corner-lower last e = subst (λ (x : List Float). LowerTurns dim f old x (t + 1)) (sym e) whole
+  pub corner-lower : (last : List Float) → last ≡ cornerFilled f dim t mid → LowerTurns dim f old last (t + 1)
+  unfolding cornerSet cornerFilled
+  corner-lower last e =
+      subst (λ (x : List Float). LowerTurns dim f old x (t + 1)) (sym e)
+      (above-kept dim f old end (t + 1) (2 * t) (2 * t + 1) (complexOf (f (2 * t) (2 * t) .re) (f (2 * t + 1) (2 * t + 1) .re)) (omega arith) h whole)

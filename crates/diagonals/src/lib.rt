@@ -9,7 +9,7 @@ ghost use Rattle.entries.specs.Squares.{Square};
 ghost use Rattle.entries.specs.Blocks.{Reach};
 ghost use Rattle.entries.specs.Filled.{tableEntry, Ready, LowerTurns};
 ghost use Rattle.diagonals.specs.Corners.{cornerTurn, CornerSums};
-ghost use Rattle.diagonals.specs.CornerRows.{cornerSet};
+ghost use Rattle.diagonals.specs.CornerRows.{cornerFilled};
 
 // A diagonal block: the real parts of its two entries on the diagonal, and the entry below them.
 pub struct Corner {
@@ -54,7 +54,8 @@ fn corner_sums(state: &[f64], n: usize, mask: usize, groups: usize, a0: usize, a
     corner
 }
 
-// The diagonal block of the rows 2t and 2t + 1; its entry above the diagonal is left to the mirror.
+// The diagonal block of the rows 2t and 2t + 1; its entry above the diagonal is left to the mirror. Until then both real parts
+// stand there side by side, so that the back end sums these two in one register and the parts of the entry below in another.
 fn fill_corner(
     state: &[f64],
     n: usize,
@@ -67,7 +68,7 @@ fn fill_corner(
 )
     requires { ⌜ Ready n (now state) mask (now offsets) dim × (everyAllowed (now state) ≡ true) ⌝ }
     requires { ⌜ Square dim (now out) × (2 * t + 1 < dim) ⌝ }
-    ensures { λ _. ⌜ now (out .exit) ≡ cornerSet (tableEntry n (now (state .entry)) mask groups (now (offsets .entry))) dim t (now (out .entry)) ⌝ }
+    ensures { λ _. ⌜ now (out .exit) ≡ cornerFilled (tableEntry n (now (state .entry)) mask groups (now (offsets .entry))) dim t (now (out .entry)) ⌝ }
 {
     let r = 2 * t;
     let below = r + 1;
@@ -77,6 +78,8 @@ fn fill_corner(
     complex::write_cell(out, r * dim + r, Complex::new(corner.first, 0.0));
     let last = Complex::new(corner.last, 0.0);
     entries::write_pair(out, dim, below, r, corner.between, last);
+    let both = Complex::new(corner.first, corner.last);
+    complex::write_cell(out, r * dim + below, both);
 }
 
 // The lower half in blocks, two rows after two.
@@ -102,8 +105,8 @@ fn fill_blocks(
     }
 }
 
-// The lower half: in blocks where it or the register is small, so that filling planes would cost more than it gains, and
-// otherwise two rows at a time.
+// The lower half: two rows at a time, and in blocks where it or the register is small, so that filling planes would cost more
+// than it gains.
 pub fn fill_lower(
     state: &[f64],
     n: usize,
@@ -117,13 +120,11 @@ pub fn fill_lower(
     requires { ⌜ Square dim (now out) × (groups * dim ≤ 4096) ⌝ }
     ensures { λ _. ⌜ LowerTurns dim (tableEntry n (now (state .entry)) mask groups (now (offsets .entry))) (now (out .entry)) (now (out .exit)) (dim / 2) ⌝ }
 {
-    if n < 10 {
-        fill_blocks(state, n, mask, groups, offsets, dim, out);
-        return;
+    if 10 <= n {
+        if 16 <= dim {
+            rows::fill_lower(state, n, mask, groups, offsets, dim, out);
+            return;
+        }
     }
-    if dim < 16 {
-        fill_blocks(state, n, mask, groups, offsets, dim, out);
-        return;
-    }
-    rows::fill_lower(state, n, mask, groups, offsets, dim, out);
+    fill_blocks(state, n, mask, groups, offsets, dim, out);
 }

@@ -1,11 +1,11 @@
--- `diagonals::fill_corner` meets its contract: the three entries are the sums, and the two writes are the definition. Assumes nothing.
+-- `diagonals::fill_corner` meets its contract: the three entries are the sums, and the writes are the definition. Assumes nothing.
 use mathlib.Core.Path.{_∙_}
-use Prim.Native.Nat.{_*_}
+use Prim.Native.Nat.{_+_, _*_}
 use native.Mathlib.Omega.{arith}
 use denote.Ref.{now}
 use Rattle.entries.specs.Mirrored.{index-small, cell-in}
 use Rattle.entries.specs.Filled.{tableEntry, ready-reach}
-use Rattle.diagonals.specs.CornerRows.{corner-written}
+use Rattle.diagonals.specs.CornerRows.{corner-written, corner-filled}
 use borrow.Author.Needs.{needs}
 use Rattle.diagonals.proofs.fill_corner.Statement.{statement}
 use Rattle.diagonals.proofs.fill_corner.Tie as tie
@@ -49,11 +49,30 @@ new-requires-2 c κs = search needs
 write-pair-requires : tie.Need-write-pair-requires
 write-pair-requires c κs = search needs
 
+new-requires-3 : tie.Need-new-requires-3
+new-requires-3 c κs = search needs
+
+mul-write-cell-2 : tie.Need-mul-write-cell-2
+mul-write-cell-2 c = let z = c .before .before .before .before .before .before .before .before .before .before .before .before .before .before .before .before .before .before in omega (arith, index-small (z .args .dim) (2 * z .args .t) (2 * z .args .t + 1) (z .pre .1 .0 .small) (omega (arith, z .pre .1 .1)) (z .pre .1 .1))
+
+add-write-cell-2 : tie.Need-add-write-cell-2
+add-write-cell-2 c = let z = c .before .before .before .before .before .before .before .before .before .before .before .before .before .before .before .before .before .before in omega (arith, index-small (z .args .dim) (2 * z .args .t) (2 * z .args .t + 1) (z .pre .1 .0 .small) (omega (arith, z .pre .1 .1)) (z .pre .1 .1))
+
+write-cell-requires-2 : tie.Need-write-cell-requires-2
+write-cell-requires-2 c κs = let z = c .before .before .before .before .before .before .before .before .before .before .before .before .before .before .before .before .before .before in omega (arith, cell-in _ _ (2 * z .args .t) (2 * z .args .t + 1) (z .pre .1 .0) (omega (arith, z .pre .1 .1)) (z .pre .1 .1), c .before .before .before .before .before .before .before .before .before .write-cell .kept .0, c .before .before .before .before .write-pair .kept .0)
+
 same-length : tie.Need-same-length
 same-length c = search needs
 
 returns : tie.Need-returns
-returns c = let z = c .before .before .before .before .before .before .before .before .before .before .before .before .before .before .before .before in corner-written (tableEntry (z .args .n) (now (z .args .state)) (z .args .mask) (z .args .groups) (now (z .args .offsets))) _ _ _ _ _ _ _ _ (c .before .before .before .before .before .before .before .write-cell .ensures) (c .before .before .write-pair .ensures) (c .before .before .before .before .before .before .before .before .new .ensures ∙ c .before .before .before .before .before .before .before .before .before .before .corner-sums .ensures .first-is) (c .before .before .before .before .before .before .before .before .before .before .corner-sums .ensures .between-is) (c .before .before .before .before .new2 .ensures ∙ c .before .before .before .before .before .before .before .before .before .before .corner-sums .ensures .last-is)
+returns c =
+    let z = c .before .before .before .before .before .before .before .before .before .before .before .before .before .before .before .before .before .before .before .before .before in
+    let sums = c .before .before .before .before .before .before .before .before .before .before .before .before .before .before .before .corner-sums .ensures in
+    let entry = tableEntry (z .args .n) (now (z .args .state)) (z .args .mask) (z .args .groups) (now (z .args .offsets)) in
+    corner-filled entry _ _ _ _ _ _ _ _
+    (corner-written entry _ _ _ _ _ _ _ _ (c .before .before .before .before .before .before .before .before .before .before .before .before .write-cell .ensures) (c .before .before .before .before .before .before .before .write-pair .ensures)
+    (c .before .before .before .before .before .before .before .before .before .before .before .before .before .new .ensures ∙ sums .first-is) (sums .between-is) (c .before .before .before .before .before .before .before .before .before .new2 .ensures ∙ sums .last-is))
+    (c .before .before .write-cell2 .ensures) (c .before .before .before .before .new3 .ensures) (sums .first-is) (sums .last-is)
 
 pub fill-corner-spec : {M : Type 1} → statement M
 fill-corner-spec =
@@ -72,5 +91,9 @@ fill-corner-spec =
     write-cell-requires
     new-requires-2
     write-pair-requires
+    new-requires-3
+    mul-write-cell-2
+    add-write-cell-2
+    write-cell-requires-2
     same-length
     returns)
