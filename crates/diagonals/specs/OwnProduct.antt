@@ -17,7 +17,7 @@ use Rattle.numbers.specs.Numbers.{allowed, finite}
 use Rattle.complex.specs.declared.Complex.{Complex}
 use Rattle.complex.specs.Arithmetic.{complexOf, product, conjugate, normSqr}
 use Rattle.complex.specs.Zeros.{zeroFloat}
-use Rattle.signs.specs.Signs.{round-neg, mul-neg, mul-swap, conjugateProduct, conjugate-product}
+use Rattle.signs.specs.Signs.{round-neg, mul-swap, neg-mul, conjugateProduct, conjugate-product}
 
 down-pos : (e : ℤ) → 0 < down e
 down-pos (pos k) = omega arith
@@ -108,9 +108,6 @@ cancels (fin true m e) h =
     alone true false (m * up e * down e) (down e * down e) (mul-pos (down-pos e) (down-pos e)) ∙ round-zero (down e * down e) (mul-pos (down-pos e) (down-pos e))
 cancels (fin false m e) h =
     alone false true (m * up e * down e) (down e * down e) (mul-pos (down-pos e) (down-pos e)) ∙ round-zero (down e * down e) (mul-pos (down-pos e) (down-pos e))
-
-neg-mul : (x y : Float) → mul binary64 (neg x) y ≡ neg (mul binary64 x y)
-neg-mul x y = mul-swap (neg x) y ∙ mul-neg y x ∙ ap neg (mul-swap y x)
 
 -- A NUMBER TIMES ITS OWN CONJUGATE IS ITS norm_sqr
 pub own-product : (a : Complex) → allowed (a .re) ≡ true → allowed (a .im) ≡ true → product a (conjugate a) ≡ complexOf (normSqr a) zeroFloat

@@ -132,7 +132,7 @@ conjugateProduct a b =
     complexOf (add binary64 (mul binary64 (a .re) (b .re)) (mul binary64 (a .im) (b .im)))
     (add binary64 (mul binary64 (a .im) (b .re)) (mul binary64 (neg (a .re)) (b .im)))
 
-neg-mul : (x y : Float) → mul binary64 (neg x) y ≡ neg (mul binary64 x y)
+pub neg-mul : (x y : Float) → mul binary64 (neg x) y ≡ neg (mul binary64 x y)
 neg-mul x y = mul-swap (neg x) y ∙ mul-neg y x ∙ ap neg (mul-swap y x)
 
 sub-neg : (x y z : Float) → sub binary64 x (mul binary64 y (neg z)) ≡ add binary64 x (mul binary64 y z)
