@@ -72,7 +72,7 @@ table-entry n l s old table dim t u p o ht hu =
 
 -- ---- the lower half filled, and then mirrored
 
-mirrored-same : (f g : ℕ → ℕ → Complex) (dim r c : ℕ) → ((t u : ℕ) → t < dim → u ≤ t → f t u ≡ g t u) → r < dim → c < dim → (b : Bool) → leb c r ≡ b
+pub mirrored-same : (f g : ℕ → ℕ → Complex) (dim r c : ℕ) → ((t u : ℕ) → t < dim → u ≤ t → f t u ≡ g t u) → r < dim → c < dim → (b : Bool) → leb c r ≡ b
     → mirroredEntry f r c ≡ mirroredEntry g r c
 mirrored-same f g dim r c h hr hc true e =
     cond-yes (f r c) (conjugate (f c r)) e ∙ h r c hr (leb-true c r e) ∙ sym (cond-yes (g r c) (conjugate (g c r)) e)

@@ -1,13 +1,13 @@
 -- Laws of the density from the cut matrix: the cell of a setting and a traced index as a union of two submasks, a turn of each loop, the
 -- stages, and the contract at each way out. Assumes nothing.
-use mathlib.Core.Bool.{Bool, true, false, not}
+use mathlib.Core.Bool.{not}
 use mathlib.Core.Path.{_≡_, refl, sym, ap, ap₂, _∙_}
 use mathlib.Core.Logic.{⊎-elim}
 use mathlib.Core.List.{List, _++_}
 use Prim.Native.Nat.{ℕ, zero, suc, _+_, _-_, _*_, _/_, _%_, _^_, _≤_, _<_, min}
 use native.Mathlib.Omega.{arith}
 use native.Mathlib.Nat.{eq-or-lt-of-le, mul-le-mul, pow-suc, mul-one, mul-assoc, min-eq-left, min-eq-right, min-le-right, mul-comm}
-use borrow.Author.Tests.{leb-true, leb-false, ltb-false, eqb-true, eqb-false, not-false}
+use borrow.Author.Tests.{ltb-false, eqb-true, eqb-false, not-false}
 use lib.Arith.{digits-lt, lt-of-le-ne}
 use lib.Dec.{leb, ltb, eqb}
 use lib.Ieee.{Float}
@@ -26,11 +26,11 @@ use Rattle.complex.specs.declared.Complex.{Complex}
 use Rattle.complex.specs.Arithmetic.{product, conjugate}
 use Rattle.complex.specs.Cells.{cellAt, written, components}
 use Rattle.complex.specs.CellLaws.{cells-same}
-use Rattle.complex.specs.Loops.{cond-yes, cond-no}
 use Rattle.entries.specs.Squares.{Square, entryAt, mirrorCell, mirrored, mirroredEntry, rowMajor}
 use Rattle.entries.specs.Mirrored.{row-of, column-of}
 use Rattle.entries.specs.Entries.{entrySum}
 use Rattle.entries.specs.Filled.{Ready, LowerTurns, tableEntry}
+use Rattle.entries.specs.EntryLaws.{mirrored-same}
 use Rattle.sides.specs.declared.Sides.{Sides}
 use Rattle.sides.specs.Sides.{side, namedRows, sidesOf, Parted}
 use Rattle.sides.specs.SideLaws.{named-yes, named-no}
@@ -211,13 +211,6 @@ side-small k h = pow-mono h
 
 even-power : (k : ℕ) → 1 ≤ k → 2 ^ k % 2 ≡ 0
 even-power (suc k) h = omega (arith, pow-suc 2 k)
-
-mirrored-same : (f g : ℕ → ℕ → Complex) (dim r c : ℕ) → ((t u : ℕ) → t < dim → u ≤ t → f t u ≡ g t u) → r < dim → c < dim → (b : Bool) → leb c r ≡ b
-    → mirroredEntry f r c ≡ mirroredEntry g r c
-mirrored-same f g dim r c h hr hc true e =
-    cond-yes (f r c) (conjugate (f c r)) e ∙ h r c hr (leb-true c r e) ∙ sym (cond-yes (g r c) (conjugate (g c r)) e)
-mirrored-same f g dim r c h hr hc false e =
-    cond-no (f r c) (conjugate (f c r)) e ∙ ap conjugate (h c r hc (omega (arith, leb-false c r e))) ∙ sym (cond-no (g r c) (conjugate (g c r)) e)
 
 -- a matrix whose lower half is known, mirrored
 mirrored-whole : (f : ℕ → ℕ → Complex) (old out : List Float) (dim : ℕ) → drop (2 * (dim * dim)) out ≡ drop (2 * (dim * dim)) old
