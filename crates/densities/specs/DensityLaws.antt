@@ -58,7 +58,7 @@ accepted s n l cap o w e =
 pub side-small : (k : ℕ) → k ≤ 6 → 2 ^ k ≤ 64
 side-small k h = pow-mono h
 
-even-power : (k : ℕ) → 1 ≤ k → 2 ^ k % 2 ≡ 0
+pub even-power : (k : ℕ) → 1 ≤ k → 2 ^ k % 2 ≡ 0
 even-power (suc k) h = omega (arith, pow-suc 2 k)
 
 module _ (s : List Float) (n : ℕ) (l : List ℕ) (o : List Float) (p : Accepted s n l (length o)) where

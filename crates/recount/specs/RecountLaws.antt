@@ -31,7 +31,7 @@ use Rattle.entries.specs.Mirrored.{row-of, column-of}
 use Rattle.entries.specs.Entries.{entrySum}
 use Rattle.entries.specs.Filled.{Ready, LowerTurns, tableEntry}
 use Rattle.entries.specs.EntryLaws.{mirrored-same}
-use Rattle.densities.specs.DensityLaws.{side-small}
+use Rattle.densities.specs.DensityLaws.{side-small, even-power}
 use Rattle.sides.specs.declared.Sides.{Sides}
 use Rattle.sides.specs.Sides.{side, namedRows, sidesOf, Parted}
 use Rattle.sides.specs.SideLaws.{named-yes, named-no}
@@ -206,9 +206,6 @@ module _ (l : List ℕ) (n scale dim : ℕ) (old : List ℕ) where
   numbers-end end t i h = record { within = omega arith; long = i .long; are = λ k g. i .are k (omega arith) }
 
 -- ---- the stages
-
-even-power : (k : ℕ) → 1 ≤ k → 2 ^ k % 2 ≡ 0
-even-power (suc k) h = omega (arith, pow-suc 2 k)
 
 -- a matrix whose lower half is known, mirrored
 mirrored-whole : (f : ℕ → ℕ → Complex) (old out : List Float) (dim : ℕ) → drop (2 * (dim * dim)) out ≡ drop (2 * (dim * dim)) old
