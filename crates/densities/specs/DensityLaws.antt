@@ -31,7 +31,7 @@ use Rattle.densities.specs.Density.{densityLengths, densityAnswer, densi
 
 -- ---- the refusals that did not come
 
-positive : (k : ℕ) → (k ≡ 0 → ⊥) → 1 ≤ k
+pub positive : (k : ℕ) → (k ≡ 0 → ⊥) → 1 ≤ k
 positive zero h = absurd (h refl)
 positive (suc k) h = omega arith
 

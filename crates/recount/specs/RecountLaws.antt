@@ -31,7 +31,7 @@ use Rattle.entries.specs.Mirrored.{row-of, column-of}
 use Rattle.entries.specs.Entries.{entrySum}
 use Rattle.entries.specs.Filled.{Ready, LowerTurns, tableEntry}
 use Rattle.entries.specs.EntryLaws.{mirrored-same}
-use Rattle.densities.specs.DensityLaws.{side-small, even-power}
+use Rattle.densities.specs.DensityLaws.{positive, side-small, even-power}
 use Rattle.sides.specs.declared.Sides.{Sides}
 use Rattle.sides.specs.Sides.{side, namedRows, sidesOf, Parted}
 use Rattle.sides.specs.SideLaws.{named-yes, named-no}
@@ -274,10 +274,6 @@ module _ (l : List ℕ) (n : ℕ) (p : Parted l n) (s : Sides) (b : ℕ) (es : s
         (le-or-lt (length l) (n - length l))
 
 -- ---- the refusals that did not come
-
-positive : (k : ℕ) → (k ≡ 0 → ⊥) → 1 ≤ k
-positive zero h = absurd (h refl)
-positive (suc k) h = omega arith
 
 pub sizes-done : (n k cap : ℕ) → recountSizes n k cap .0 ≡ 0 → (n ≤ 12) × (k ≤ 6)
 sizes-done n k cap e =
