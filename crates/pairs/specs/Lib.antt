@@ -3,4 +3,5 @@ pub mod Gram
 pub mod Signs
 pub mod Decisions
 pub mod Turns
+pub mod ZeroProducts
 pub mod SignedZeros

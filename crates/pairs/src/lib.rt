@@ -5,10 +5,12 @@ use roots::Guesses;
 ghost use mathlib.Core.Path.{_≡_};
 ghost use Prim.Native.Nat.{_+_, _*_, _<_, _≤_};
 ghost use lib.ListN.{length};
-ghost use Rattle.complex.specs.Arithmetic.{modulusOf};
+ghost use Rattle.complex.specs.Arithmetic.{modulusOf, scaled};
+ghost use Rattle.complex.specs.Zeros.{zeroFloat};
 ghost use Rattle.pairs.specs.Gram.{noSums, oneRow, gramTo};
 ghost use Rattle.pairs.specs.Decisions.{verdict, decisionOf, tangentOf, turnAt};
 ghost use Rattle.pairs.specs.Turns.{factorsOf, newP, newQ, turnRow, turnRows, applied};
+ghost use Rattle.pairs.specs.ZeroProducts.{RealTurn};
 
 const JACOBI_REL_TOL: f64 = 1e-15;
 
@@ -152,33 +154,46 @@ impl Factors {
         }
     }
 
-    pub fn new_p(self, ap: Complex, aq: Complex) -> Complex
+    // The cosine is real but for its +0.0, so z, the old p times +0.0, is what is left of the product with it.
+    pub fn new_p(self, ap: Complex, z: Complex, aq: Complex) -> Complex
+        requires { ⌜ RealTurn self × (z ≡ scaled ap zeroFloat) ⌝ }
         ensures { λ r. ⌜ r ≡ newP self ap aq ⌝ }
     {
-        self.pp.mul(ap).add(self.pq.mul(aq))
+        let turned = Complex {
+            re: self.pp.re * ap.re - z.im,
+            im: self.pp.re * ap.im + z.re,
+        };
+        turned.add(self.pq.mul(aq))
     }
 
-    pub fn new_q(self, ap: Complex, aq: Complex) -> Complex
+    // The negated sine has -0.0: the same z with the other sign.
+    pub fn new_q(self, ap: Complex, z: Complex, aq: Complex) -> Complex
+        requires { ⌜ RealTurn self × (z ≡ scaled ap zeroFloat) ⌝ }
         ensures { λ r. ⌜ r ≡ newQ self ap aq ⌝ }
     {
-        self.qp.mul(ap).add(self.qq.mul(aq))
+        let turned = Complex {
+            re: self.qp.re * ap.re + z.im,
+            im: self.qp.re * ap.im - z.re,
+        };
+        turned.add(self.qq.mul(aq))
     }
 }
 
 // The cells i and j of a matrix of c cells are turned, both from their old values.
 fn turn_row(xs: &mut [f64], c: usize, i: usize, j: usize, f: Factors)
-    requires { ⌜ (length (now xs) ≡ 2 * c) × (i < c) × (j < c) ⌝ }
+    requires { ⌜ (length (now xs) ≡ 2 * c) × (i < c) × (j < c) × RealTurn f ⌝ }
     ensures { λ _. ⌜ now (xs .exit) ≡ turnRow f c i j (now (xs .entry)) ⌝ }
 {
     let ap = complex::read_plane(xs, c, i);
     let aq = complex::read_plane(xs, c, j);
-    complex::write_plane(xs, c, i, f.new_p(ap, aq));
-    complex::write_plane(xs, c, j, f.new_q(ap, aq));
+    let z = ap.scale(0.0);
+    complex::write_plane(xs, c, i, f.new_p(ap, z, aq));
+    complex::write_plane(xs, c, j, f.new_q(ap, z, aq));
 }
 
 // The columns that start at the cells a and b, of m rows, are turned.
 pub fn turn_columns(xs: &mut [f64], c: usize, a: usize, b: usize, m: usize, f: Factors)
-    requires { ⌜ (length (now xs) ≡ 2 * c) × (a + m ≤ c) × (b + m ≤ c) ⌝ }
+    requires { ⌜ (length (now xs) ≡ 2 * c) × (a + m ≤ c) × (b + m ≤ c) × RealTurn f ⌝ }
     ensures { λ _. ⌜ now (xs .exit) ≡ turnRows f c a b m (now (xs .entry)) ⌝ }
 {
     for r in 0..m {

@@ -1,5 +1,6 @@
 -- `pairs::apply` meets its contract: one case of the definition for each case of the decision. Assumes nothing.
 use Rattle.pairs.specs.Turns.{applied, applied-turn}
+use Rattle.pairs.specs.ZeroProducts.{factors-real}
 use borrow.Author.Needs.{needs}
 use Rattle.pairs.proofs.apply.Statement.{statement}
 use Rattle.pairs.proofs.apply.Tie as tie
@@ -14,7 +15,7 @@ new-requires : tie.Need-new-requires
 new-requires c κs = search needs
 
 turn-columns-requires : tie.Need-turn-columns-requires
-turn-columns-requires c κs = search needs
+turn-columns-requires c κs = (search needs, search needs, search needs, factors-real _ _ _ (c .new .ensures))
 
 returns : tie.Need-returns
 unfolding applied

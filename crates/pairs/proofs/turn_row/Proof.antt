@@ -10,6 +10,9 @@ read-plane-requires c κs = search needs
 read-plane-requires-2 : tie.Need-read-plane-requires-2
 read-plane-requires-2 c κs = search needs
 
+scale-requires : tie.Need-scale-requires
+scale-requires c κs = search needs
+
 new-p-requires : tie.Need-new-p-requires
 new-p-requires c κs = search needs
 
@@ -27,7 +30,7 @@ same-length c = search needs
 
 returns : tie.Need-returns
 unfolding turnRow
-returns c = rw (c .before .before .write-plane2 .ensures, c .before .before .before .new-q .ensures, c .before .before .before .before .before .before .before .write-plane .ensures, c .before .before .before .before .before .before .before .before .new-p .ensures, c .before .before .before .before .before .before .before .before .before .before .read-plane2 .ensures, c .before .before .before .before .before .before .before .before .before .before .before .before .read-plane .ensures)
+returns c = rw (c .before .before .write-plane2 .ensures, c .before .before .before .new-q .ensures, c .before .before .before .before .before .before .before .write-plane .ensures, c .before .before .before .before .before .before .before .before .new-p .ensures, c .before .before .before .before .before .before .before .before .before .before .before .read-plane2 .ensures, c .before .before .before .before .before .before .before .before .before .before .before .before .before .read-plane .ensures)
 
 pub turn-row-spec : {M : Type 1} → statement M
 turn-row-spec =
@@ -35,6 +38,7 @@ turn-row-spec =
     (tie.spec
     read-plane-requires
     read-plane-requires-2
+    scale-requires
     new-p-requires
     write-plane-requires
     new-q-requires

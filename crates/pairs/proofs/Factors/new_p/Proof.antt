@@ -1,5 +1,8 @@
--- `pairs::Factors::new_p` meets its contract: what its callees ensure, put together. Assumes nothing.
+-- `pairs::Factors::new_p` meets its contract: the law of a product with a signed zero, and what the callees ensure. Assumes nothing.
+use mathlib.Core.Path.{_∙_, ap₂}
+use Rattle.complex.specs.Arithmetic.{sum}
 use Rattle.pairs.specs.Turns.{newP}
+use Rattle.pairs.specs.ZeroProducts.{times-plus}
 use borrow.Author.Needs.{needs}
 use Rattle.pairs.proofs.Factors.new_p.Statement.{statement}
 use Rattle.pairs.proofs.Factors.new_p.Tie as tie
@@ -7,15 +10,14 @@ use Rattle.pairs.proofs.Factors.new_p.Tie as tie
 mul-requires : tie.Need-mul-requires
 mul-requires c κs = search needs
 
-mul-requires-2 : tie.Need-mul-requires-2
-mul-requires-2 c κs = search needs
-
 add-requires : tie.Need-add-requires
 add-requires c κs = search needs
 
 returns : tie.Need-returns
 unfolding newP
-returns c = rw (c .add .ensures, c .before .mul2 .ensures, c .before .before .mul .ensures)
+returns c =
+    let start = c .before .before .before .before .before .before .before .before in
+    c .add .ensures ∙ ap₂ sum (times-plus _ _ _ (start .pre .0 .cosine) (start .pre .1)) (c .before .mul .ensures)
 
 pub new-p-spec : {M : Type 1} → statement M
-new-p-spec = tie.close (tie.spec mul-requires mul-requires-2 add-requires returns)
+new-p-spec = tie.close (tie.spec mul-requires add-requires returns)
