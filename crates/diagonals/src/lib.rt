@@ -105,8 +105,8 @@ fn fill_blocks(
     }
 }
 
-// The lower half: two rows at a time, and in blocks where it or the register is small, so that filling planes would cost more
-// than it gains.
+// The lower half: in blocks where it or the register is small, so that filling planes would cost more than it gains, and
+// otherwise two rows at a time.
 pub fn fill_lower(
     state: &[f64],
     n: usize,
@@ -120,11 +120,13 @@ pub fn fill_lower(
     requires { ⌜ Square dim (now out) × (groups * dim ≤ 4096) ⌝ }
     ensures { λ _. ⌜ LowerTurns dim (tableEntry n (now (state .entry)) mask groups (now (offsets .entry))) (now (out .entry)) (now (out .exit)) (dim / 2) ⌝ }
 {
-    if 10 <= n {
-        if 16 <= dim {
-            rows::fill_lower(state, n, mask, groups, offsets, dim, out);
-            return;
-        }
+    if n < 10 {
+        fill_blocks(state, n, mask, groups, offsets, dim, out);
+        return;
     }
-    fill_blocks(state, n, mask, groups, offsets, dim, out);
+    if dim < 16 {
+        fill_blocks(state, n, mask, groups, offsets, dim, out);
+        return;
+    }
+    rows::fill_lower(state, n, mask, groups, offsets, dim, out);
 }
