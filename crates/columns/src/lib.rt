@@ -5,12 +5,11 @@ use complex::Complex;
 ghost use mathlib.Core.Path.{_≡_};
 ghost use Prim.Native.Nat.{_+_, _*_, _<_, _≤_};
 ghost use lib.ListN.{length};
-ghost use Rattle.numbers.specs.Root.{sqrtOf};
 ghost use Rattle.columns.specs.Dot.{addFirst, joined, term, quadsTo, tailTo, dotOf};
 ghost use Rattle.columns.specs.DotParts.{realParts, imaginaryParts, sumsOf};
 ghost use Rattle.columns.specs.Woven.{woven};
 ghost use Rattle.basis.specs.Matrix.{matrixOf};
-ghost use Rattle.columns.specs.Columns.{columnOf, normOf, lessened, scaledInto};
+ghost use Rattle.columns.specs.Columns.{columnOf, squaresTo, normOf, lessened, scaledInto};
 
 // The real parts of the four sums of a dot product, or their imaginary parts.
 pub struct Parts {
@@ -161,12 +160,16 @@ pub fn dot(q: &[f64], i: usize, v: &[f64], rows: usize) -> Complex
     all.joined()
 }
 
-// The root of x: a guess that is tested, or the root worked out.
-fn root(x: f64) -> f64
-    ensures { λ r. ⌜ r ≡ sqrtOf x ⌝ }
+// The squared moduli of v's rows, added.
+fn square(v: &[f64], rows: usize) -> f64
+    requires { ⌜ length (now v) ≡ 2 * rows ⌝ }
+    ensures { λ r. ⌜ r ≡ squaresTo (woven rows (now (v .entry))) rows ⌝ }
 {
-    let y = roots::reciprocal_near(x);
-    roots::root_near(x, roots::sharpened(x, x * y, y))
+    let mut total = 0.0;
+    for t in 0..rows {
+        total = total + complex::read_plane(v, rows, t).norm_sqr();
+    }
+    total
 }
 
 // The root of the sum of the squared moduli of v's rows.
@@ -174,11 +177,18 @@ pub fn norm(v: &[f64], rows: usize) -> f64
     requires { ⌜ length (now v) ≡ 2 * rows ⌝ }
     ensures { λ r. ⌜ r ≡ normOf (woven rows (now (v .entry))) rows ⌝ }
 {
-    let mut total = 0.0;
-    for t in 0..rows {
-        total = total + complex::read_plane(v, rows, t).norm_sqr();
-    }
-    root(total)
+    roots::root_of(square(v, rows))
+}
+
+// The same, where the sum is near a guess: what the root needs of the guess is worked out before the sum is known.
+pub fn norm_near(v: &[f64], rows: usize, guess: f64) -> f64
+    requires { ⌜ length (now v) ≡ 2 * rows ⌝ }
+    ensures { λ r. ⌜ r ≡ normOf (woven rows (now (v .entry))) rows ⌝ }
+{
+    let over = roots::reciprocal_near(guess);
+    let near = guess * over;
+    let total = square(v, rows);
+    roots::root_near(total, roots::sharpened(total, near, over))
 }
 
 // v becomes the column of a that starts at cell o.

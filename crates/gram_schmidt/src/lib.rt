@@ -19,8 +19,8 @@ const PASS_RETAIN: f64 = 0.5;
 // A column of which no more than this part is left adds no direction to q.
 const RANK_FLOOR: f64 = 1e-14;
 
-// v loses its part along the basis column i, and cell at of r gains it.
-fn project(q: &[f64], i: usize, rows: usize, v: &mut [f64], r: &mut [f64], at: usize)
+// v loses its part along the basis column i, and cell at of r gains it; about what v's squared norm loses.
+fn project(q: &[f64], i: usize, rows: usize, v: &mut [f64], r: &mut [f64], at: usize) -> f64
     requires { ⌜ (2 * (i * rows + rows) ≤ length (now q)) × (length (now v) ≡ 2 * rows) × (2 * at + 1 < length (now r)) ⌝ }
     ensures { λ _. ⌜ held (woven rows (now (v .exit))) (now (r .exit)) ≡ projected (matrixOf rows (now (q .entry))) (i * rows) rows at (held (woven rows (now (v .entry))) (now (r .entry))) ⌝ }
 {
@@ -28,16 +28,29 @@ fn project(q: &[f64], i: usize, rows: usize, v: &mut [f64], r: &mut [f64], at: u
     columns::subtract(v, q, i, rows, d);
     let total = complex::read_cell(r, at).add(d);
     complex::write_cell(r, at, total);
+    d.norm_sqr()
 }
 
-// One pass of column j over the first rank basis columns.
-fn pass(q: &[f64], rank: usize, rows: usize, cols: usize, j: usize, v: &mut [f64], r: &mut [f64])
+// One pass of column j over the first rank basis columns; about what is left of the squared norm, where square is about
+// what it was. The basis is near orthonormal, so what is taken off tells what is left.
+fn pass(
+    q: &[f64],
+    rank: usize,
+    rows: usize,
+    cols: usize,
+    j: usize,
+    square: f64,
+    v: &mut [f64],
+    r: &mut [f64],
+) -> f64
     requires { ⌜ (2 * (rank * rows) ≤ length (now q)) × (2 * (rank * cols) ≤ length (now r)) × (length (now v) ≡ 2 * rows) × (j < cols) ⌝ }
     ensures { λ _. ⌜ held (woven rows (now (v .exit))) (now (r .exit)) ≡ passTo (matrixOf rows (now (q .entry))) rows cols j (held (woven rows (now (v .entry))) (now (r .entry))) rank ⌝ }
 {
+    let mut left = square;
     for i in 0..rank {
-        project(q, i, rows, v, r, i * cols + j);
+        left = left - project(q, i, rows, v, r, i * cols + j);
     }
+    left
 }
 
 // Passes until one leaves more than half of the norm, three at most; what is left of the norm.
@@ -57,8 +70,8 @@ fn orthogonalize(
 {
     let mut previous = norm;
     for k in 0..MAX_PASSES {
-        pass(q, rank, rows, cols, j, v, r);
-        let residual = columns::norm(v, rows);
+        let left = pass(q, rank, rows, cols, j, previous * previous, v, r);
+        let residual = columns::norm_near(v, rows, left);
         if residual > PASS_RETAIN * previous {
             return residual;
         }

@@ -1,44 +1,17 @@
--- `columns::norm` meets its contract. The loop's invariant: the total is that of the first t rows. Assumes nothing.
-use mathlib.Core.Path.{_≡_}
-use Prim.Native.Nat.{_-_, _≤_}
-use native.Mathlib.Omega.{arith}
-use Rattle.complex.specs.Loops.{stop}
-use Rattle.columns.specs.Columns.{squaresTo}
-use Rattle.columns.specs.ColumnLaws.{squares-none, norm-made}
-use Rattle.columns.specs.Woven.{woven, squares-woven}
+-- `columns::norm` meets its contract: the sum and its root are the callees'. Assumes nothing.
+use Rattle.columns.specs.ColumnLaws.{norm-made}
 use borrow.Author.Needs.{needs}
 use Rattle.columns.proofs.norm.Statement.{statement}
 use Rattle.columns.proofs.norm.Tie as tie
 
-abbrev Inv-loop : tie.InvT-loop
-Inv-loop v rows total₀ t₀ total t = (t ≤ rows) × (total ≡ squaresTo (woven rows v) t)
+square-requires : tie.Need-square-requires
+square-requires c κs = search needs
 
-abbrev μ-loop : tie.MeasureT-loop
-μ-loop v rows total₀ t₀ total t = rows - t
+root-of-requires : tie.Need-root-of-requires
+root-of-requires c κs = search needs
 
-loop-holds : tie.Need-loop-holds Inv-loop μ-loop
-loop-holds c = (omega arith, squares-none _)
-
-read-plane-requires : tie.Need-read-plane-requires Inv-loop μ-loop
-read-plane-requires c κs = omega arith
-
-norm-sqr-requires : tie.Need-norm-sqr-requires Inv-loop μ-loop
-norm-sqr-requires c κs = search needs
-
-add-t : tie.Need-add-t Inv-loop μ-loop
-add-t c = omega (arith, c .before .before .loop-test .taken)
-
-loop-less : tie.Need-loop-less Inv-loop μ-loop
-loop-less c = omega (arith, c .before .before .loop-test .taken)
-
-loop-again : tie.Need-loop-again Inv-loop μ-loop
-loop-again c = (omega (arith, c .before .before .loop-test .taken), squares-woven _ _ _ (c .before .before .loop-test .taken) (c .before .before .before .loop .inv .1) (c .before .read-plane .ensures) (c .norm-sqr .ensures))
-
-root-requires : tie.Need-root-requires Inv-loop μ-loop
-root-requires c κs = search needs
-
-returns : tie.Need-returns Inv-loop μ-loop
-returns c = norm-made _ _ (stop (squaresTo _) (c .before .before .loop .inv .1) (c .before .before .loop .inv .0) (c .before .loop-test .left)) (c .root .ensures)
+returns : tie.Need-returns
+returns c = norm-made _ _ (c .before .square .ensures) (c .root-of .ensures)
 
 pub norm-spec : {M : Type 1} → statement M
-norm-spec = tie.close (tie.spec Inv-loop μ-loop loop-holds read-plane-requires norm-sqr-requires add-t loop-less loop-again root-requires returns)
+norm-spec = tie.close (tie.spec square-requires root-of-requires returns)

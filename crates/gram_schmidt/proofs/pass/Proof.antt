@@ -14,10 +14,10 @@ use Rattle.gram_schmidt.proofs.pass.Statement.{statement}
 use Rattle.gram_schmidt.proofs.pass.Tie as tie
 
 abbrev Inv-loop : tie.InvT-loop
-Inv-loop q rank rows cols j v₀ r₀ i₀ v r i = (i ≤ rank) × (length v ≡ length v₀) × (length r ≡ length r₀) × (held (woven rows v) r ≡ passTo (matrixOf rows q) rows cols j (held (woven rows v₀) r₀) i)
+Inv-loop q rank rows cols j square v₀ r₀ left₀ i₀ v r left i = (i ≤ rank) × (length v ≡ length v₀) × (length r ≡ length r₀) × (held (woven rows v) r ≡ passTo (matrixOf rows q) rows cols j (held (woven rows v₀) r₀) i)
 
 abbrev μ-loop : tie.MeasureT-loop
-μ-loop q rank rows cols j v₀ r₀ i₀ v r i = rank - i
+μ-loop q rank rows cols j square v₀ r₀ left₀ i₀ v r left i = rank - i
 
 loop-holds : tie.Need-loop-holds Inv-loop μ-loop
 loop-holds c = (search needs, refl, refl, pass-none _ _ _ _ _)

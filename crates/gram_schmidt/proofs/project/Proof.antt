@@ -19,6 +19,9 @@ add-requires c κs = search needs
 write-cell-requires : tie.Need-write-cell-requires
 write-cell-requires c κs = search needs
 
+norm-sqr-requires : tie.Need-norm-sqr-requires
+norm-sqr-requires c κs = search needs
+
 same-length : tie.Need-same-length
 same-length c = search needs
 
@@ -26,7 +29,7 @@ same-length-2 : tie.Need-same-length-2
 same-length-2 c = search needs
 
 returns : tie.Need-returns
-returns c = project-made _ _ _ _ _ _ (c .before .before .before .before .before .before .before .before .before .before .before .dot .ensures) (c .before .before .before .before .before .before .before .before .before .subtract .ensures) (c .before .before .before .before .before .read-cell .ensures) (c .before .before .before .before .add .ensures) (c .before .before .write-cell .ensures)
+returns c = project-made _ _ _ _ _ _ (c .before .before .before .before .before .before .before .before .before .before .before .before .dot .ensures) (c .before .before .before .before .before .before .before .before .before .before .subtract .ensures) (c .before .before .before .before .before .before .read-cell .ensures) (c .before .before .before .before .before .add .ensures) (c .before .before .before .write-cell .ensures)
 
 pub project-spec : {M : Type 1} → statement M
 project-spec =
@@ -37,6 +40,7 @@ project-spec =
     read-cell-requires
     add-requires
     write-cell-requires
+    norm-sqr-requires
     same-length
     same-length-2
     returns)
