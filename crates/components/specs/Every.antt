@@ -10,7 +10,7 @@ use lib.ListN.{length, getD, drop, drop-of-length-le}
 use lib.Seq.{drop-cons}
 use Rattle.answers.specs.Paper.{Reply, done, refuse}
 use Rattle.numbers.specs.Numbers.{allowed}
-use Rattle.squares.specs.Each.{EachAllowed}
+use Rattle.scaled.specs.Each.{EachAllowed}
 use Rattle.complex.specs.Cells.{components}
 
 unfoldable pub everyAllowed : List Float → Bool

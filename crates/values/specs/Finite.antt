@@ -9,7 +9,7 @@ use lib.Ieee.{Float, nan, inf, fin}
 use lib.ListN.{length, getD, drop, drop-of-length-le}
 use lib.Seq.{drop-cons}
 use Rattle.numbers.specs.Numbers.{allowed, finite}
-use Rattle.squares.specs.Each.{EachAllowed}
+use Rattle.scaled.specs.Each.{EachAllowed}
 use Rattle.values.specs.Lists.{allFinite}
 
 one-more : (a b c : Bool) → (a && cond b c false) ≡ ((a && b) && c)

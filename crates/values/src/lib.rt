@@ -21,11 +21,11 @@ pub fn check_values(s: &[f64]) -> Answer
     Answer::Done
 }
 
-// Inner. Whether every number of s is finite. Small squares settle it at half the cost. The loop has one way out, so that the back end takes several numbers at once.
+// Inner. Whether every number of s is finite. A finite scaled sum settles it at two thirds of the cost. The loop has one way out, so that the back end takes several numbers at once.
 pub fn all_finite(s: &[f64]) -> bool
     ensures { λ r. ⌜ r ≡ allFinite (now (s .entry)) ⌝ }
 {
-    if squares::small_squares(s) {
+    if scaled::scaled_sum_finite(s) {
         return true;
     }
     let mut every = true;

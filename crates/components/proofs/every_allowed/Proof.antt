@@ -1,4 +1,4 @@
--- `components::every_allowed` meets its contract. Where the squares are small every number is allowed. The loop's invariant: what is left decides with what was seen. Assumes nothing.
+-- `components::every_allowed` meets its contract. Where the scaled sum is finite every number is allowed. The loop's invariant: what is left decides with what was seen. Assumes nothing.
 use mathlib.Core.Path.{_≡_, refl, sym, ap, _∙_}
 use mathlib.Core.Bool.{Bool, _&&_}
 use Prim.Native.Nat.{_≤_, _-_, _+_}
@@ -16,11 +16,11 @@ Inv-loop s every₀ i₀ every i = (i ≤ length s) × (everyAllowed s ≡ (ever
 abbrev μ-loop : tie.MeasureT-loop
 μ-loop s every₀ i₀ every i = length s - i
 
-small-squares-requires : tie.Need-small-squares-requires Inv-loop μ-loop
-small-squares-requires c κs = search needs
+scaled-sum-finite-requires : tie.Need-scaled-sum-finite-requires Inv-loop μ-loop
+scaled-sum-finite-requires c κs = search needs
 
 returns : tie.Need-returns Inv-loop μ-loop
-returns c = sym (every-of-each _ (c .before .small-squares .ensures (c .if1 .taken)))
+returns c = sym (every-of-each _ (c .before .scaled-sum-finite .ensures (c .if1 .taken)))
 
 loop-holds : tie.Need-loop-holds Inv-loop μ-loop
 loop-holds c = (omega arith, refl)
@@ -57,7 +57,7 @@ every-allowed-spec =
     (tie.spec
     Inv-loop
     μ-loop
-    small-squares-requires
+    scaled-sum-finite-requires
     returns
     loop-holds
     mul-component-allowed

@@ -1,4 +1,4 @@
--- `values::all_finite` meets its contract. Where the squares are small every number is finite. The loop's invariant: what is left decides with what was seen. Assumes nothing.
+-- `values::all_finite` meets its contract. Where the scaled sum is finite every number is finite. The loop's invariant: what is left decides with what was seen. Assumes nothing.
 use mathlib.Core.Path.{_≡_, refl, sym}
 use mathlib.Core.Bool.{_&&_}
 use Prim.Native.Nat.{_≤_, _-_}
@@ -16,11 +16,11 @@ Inv-loop s every₀ i₀ every i = (i ≤ length s) × (allFinite s ≡ (every &
 abbrev μ-loop : tie.MeasureT-loop
 μ-loop s every₀ i₀ every i = length s - i
 
-small-squares-requires : tie.Need-small-squares-requires Inv-loop μ-loop
-small-squares-requires c κs = search needs
+scaled-sum-finite-requires : tie.Need-scaled-sum-finite-requires Inv-loop μ-loop
+scaled-sum-finite-requires c κs = search needs
 
 returns : tie.Need-returns Inv-loop μ-loop
-returns c = sym (finite-of-each _ (c .before .small-squares .ensures (c .if1 .taken)))
+returns c = sym (finite-of-each _ (c .before .scaled-sum-finite .ensures (c .if1 .taken)))
 
 loop-holds : tie.Need-loop-holds Inv-loop μ-loop
 loop-holds c = (omega arith, refl)
@@ -47,4 +47,4 @@ returns-2 : tie.Need-returns-2 Inv-loop μ-loop
 returns-2 c = finite-end _ _ (c .before .loop .every) (c .loop-test .left) (c .before .loop .inv .1)
 
 pub all-finite-spec : {M : Type 1} → statement M
-all-finite-spec = tie.close (tie.spec Inv-loop μ-loop small-squares-requires returns loop-holds mul-is-finite shared-slice-read-is-finite is-finite-requires add-i loop-less loop-again returns-2)
+all-finite-spec = tie.close (tie.spec Inv-loop μ-loop scaled-sum-finite-requires returns loop-holds mul-is-finite shared-slice-read-is-finite is-finite-requires add-i loop-less loop-again returns-2)

@@ -3,10 +3,13 @@ ghost use mathlib.Core.Path.{_≡_};
 ghost use mathlib.Core.Bool.{true};
 ghost use Prim.Native.Nat.{_+_, _≤_};
 ghost use lib.ListN.{length};
-ghost use Rattle.squares.specs.Each.{EachAllowed};
-ghost use Rattle.squares.specs.Eight.{noSums, withEight, joined};
+ghost use Rattle.scaled.specs.Each.{EachAllowed};
+ghost use Rattle.scaled.specs.Eight.{noSums, withEight, joined};
 
-// Eight sums of squares, so that no addition waits for the one before it. The back end takes two at once.
+// 2^824
+const SCALE: f64 = 1.1187071843154282e248;
+
+// Eight sums, so that no addition waits for the one before it. The back end takes two at once.
 pub struct Sums {
     pub sum0: f64,
     pub sum1: f64,
@@ -35,7 +38,7 @@ impl Sums {
         }
     }
 
-    // To each sum the square of one of the eight numbers of s from place i on.
+    // To each sum one of the eight numbers of s from place i on, times 2^824.
     fn with_eight(self, s: &[f64], i: usize) -> Sums
         requires { ⌜ i + 8 ≤ length (now s) ⌝ }
         ensures { λ r. ⌜ r ≡ withEight self (now (s .entry)) i ⌝ }
@@ -49,14 +52,14 @@ impl Sums {
         let x6 = s[i + 6];
         let x7 = s[i + 7];
         Sums {
-            sum0: self.sum0 + x0 * x0,
-            sum1: self.sum1 + x1 * x1,
-            sum2: self.sum2 + x2 * x2,
-            sum3: self.sum3 + x3 * x3,
-            sum4: self.sum4 + x4 * x4,
-            sum5: self.sum5 + x5 * x5,
-            sum6: self.sum6 + x6 * x6,
-            sum7: self.sum7 + x7 * x7,
+            sum0: self.sum0 + x0 * SCALE,
+            sum1: self.sum1 + x1 * SCALE,
+            sum2: self.sum2 + x2 * SCALE,
+            sum3: self.sum3 + x3 * SCALE,
+            sum4: self.sum4 + x4 * SCALE,
+            sum5: self.sum5 + x5 * SCALE,
+            sum6: self.sum6 + x6 * SCALE,
+            sum7: self.sum7 + x7 * SCALE,
         }
     }
 
@@ -70,9 +73,10 @@ impl Sums {
     }
 }
 
-// Whether the squares of s have a sum below 2^400. Where they have, every number is allowed; where not, or where s has fewer than
-// eight numbers, nothing is known. The sums begin with the last eight, so that the loop leaves none over. It may take some again.
-pub fn small_squares(s: &[f64]) -> bool
+// Whether the numbers of s, each times 2^824, have a finite sum. Where they have, every number is allowed: one above 2^200 becomes an infinity,
+// which stays, as a NaN does. Where not, or where s has fewer than eight numbers, nothing is known. The sums begin with the last eight, so that
+// the loop leaves none over. It may take some again.
+pub fn scaled_sum_finite(s: &[f64]) -> bool
     ensures { λ r. ⌜ (r ≡ true → EachAllowed (now (s .entry))) ⌝ }
 {
     if s.len() < 8 {
@@ -86,6 +90,5 @@ pub fn small_squares(s: &[f64]) -> bool
         sums = sums.with_eight(s, i);
         i += 8;
     }
-    sums.join()
-        < 2582249878086908589655919172003011874329705792829223512830659356540647622016841194629645353280137831435903171972747493376.0
+    numbers::is_finite(sums.join())
 }

@@ -1,16 +1,15 @@
--- `squares::small_squares` meets its contract. The loop's invariant: the sums hold the squares of the last eight numbers and of those before i.
+-- `scaled::scaled_sum_finite` meets its contract. The loop's invariant: the sums hold the last eight numbers and those before i.
 -- Assumes nothing.
 use mathlib.Core.Path.{_≡_, sym, ap, _∙_}
 use mathlib.Core.Bool.{true≢false}
 use Prim.Native.Nat.{_-_, _+_}
 use native.Mathlib.Omega.{arith}
 use borrow.Author.Needs.{needs}
-use lib.Ieee.{Float, lt, ofBits}
 use lib.ListN.{length}
-use Rattle.squares.specs.Bound.{bound}
-use Rattle.squares.specs.EightLaws.{Holds, holds-first, holds-more, holds-all}
-use Rattle.squares.proofs.small_squares.Statement.{statement}
-use Rattle.squares.proofs.small_squares.Tie as tie
+use Rattle.numbers.specs.Numbers.{finite}
+use Rattle.scaled.specs.EightLaws.{Holds, holds-first, holds-more, holds-all}
+use Rattle.scaled.proofs.scaled_sum_finite.Statement.{statement}
+use Rattle.scaled.proofs.scaled_sum_finite.Tie as tie
 
 abbrev Inv-loop : tie.InvT-loop
 Inv-loop s last sums₀ i₀ sums i = (length s ≡ last + 8) × Holds s last i sums
@@ -31,7 +30,7 @@ with-eight-requires : tie.Need-with-eight-requires Inv-loop μ-loop
 with-eight-requires c κs = search needs
 
 loop-holds : tie.Need-loop-holds Inv-loop μ-loop
-loop-holds c = (omega arith, holds-first _ _ (c .before .none .ensures) (c .with-eight .ensures))
+loop-holds c = (omega arith, holds-first _ _ _ (c .with-eight .ensures))
 
 with-eight-requires-2 : tie.Need-with-eight-requires-2 Inv-loop μ-loop
 with-eight-requires-2 c κs = search needs
@@ -48,15 +47,17 @@ loop-again c = (c .before .before .loop .inv .0, holds-more _ _ _ _ (c .before .
 join-requires : tie.Need-join-requires Inv-loop μ-loop
 join-requires c κs = search needs
 
+is-finite-requires : tie.Need-is-finite-requires Inv-loop μ-loop
+is-finite-requires c κs = search needs
+
 returns-2 : tie.Need-returns-2 Inv-loop μ-loop
-unfolding ofBits
 returns-2 c =
     λ h.
-    holds-all _ _ _ _ (c .before .before .loop .inv .0) (c .before .loop-test .left) (c .before .before .loop .inv .1)
-    (ap (λ (x : Float). lt x bound) (sym (c .join .ensures)) ∙ h)
+    let b = c .before .before .before in
+    holds-all _ _ _ _ (b .loop .inv .0) (c .before .before .loop-test .left) (b .loop .inv .1) (ap finite (sym (c .before .join .ensures)) ∙ sym (c .is-finite .ensures) ∙ h)
 
-pub small-squares-spec : {M : Type 1} → statement M
-small-squares-spec =
+pub scaled-sum-finite-spec : {M : Type 1} → statement M
+scaled-sum-finite-spec =
     tie.close
     (tie.spec
     Inv-loop
@@ -71,4 +72,5 @@ small-squares-spec =
     loop-less
     loop-again
     join-requires
+    is-finite-requires
     returns-2)

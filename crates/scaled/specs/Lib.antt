@@ -1,0 +1,5 @@
+-- What the contracts of `scaled` cite.
+pub mod Each
+pub mod Scale
+pub mod Eight
+pub mod EightLaws
