@@ -3,23 +3,21 @@ use mathlib.Core.Path.{_≡_, refl, sym, ap, _∙_}
 use mathlib.Core.Logic.{_⊎_, inl, inr, ⊎-elim}
 use mathlib.Core.Bool.{Bool, true, false, _||_, cond}
 use mathlib.Core.List.{List, [], _∷_, _++_}
-use Prim.Native.Nat.{ℕ, zero, suc, _+_, _-_, _^_, _≤_, _<_}
+use Prim.Native.Nat.{ℕ, zero, suc, _+_, _-_, _≤_, _<_}
 use native.Mathlib.Nat.{zero-div, zero-add}
 use native.Mathlib.Omega.{arith}
 use borrow.Author.Tests.{eq-eqb, eqb-true, lt-leb, ne-eqb}
 use lib.Dec.{eqb, ltb}
 use lib.ListN.{length, getD, take, drop}
-use lib.Pow.{pow-lt}
 use lib.Seq.{take-suc, take-length, split-at}
 use Rattle.answers.specs.Paper.{Reply, done, refuse, andThen}
 use Rattle.answers.specs.PaperLaws.{refuse-done, andThen-done}
 use Rattle.masks.specs.Submasks.{submaskCount}
-use Rattle.masks.specs.SubmaskLaws.{le-or-lt}
 use Rattle.masks.specs.BitLaws.{same-digits}
 use Rattle.qubits.specs.Lists.{stands, placesFrom, places, qubitSet, subsystem, densitySizes, Listed}
 use Rattle.qubits.specs.Spread.{named}
 use Rattle.qubits.specs.NamedLaws.{is-listed, not-empty, named-count, not-there}
-use Rattle.qubits.specs.OtherLaws.{there}
+use Rattle.qubits.specs.OtherLaws.{there, pow-same}
 use Rattle.offsets.specs.Calls.{densityRefusal}
 use Rattle.sides.specs.Sides.{cutSizes, cutRefusal}
 
@@ -113,13 +111,6 @@ times-empty q (x ∷ l) h = absurd (omega arith)
 some : (k : ℕ) → (k ≡ 0 → ⊥) → 0 < k
 some zero h = absurd (h refl)
 some (suc k) h = omega arith
-
-pow-same : (a b : ℕ) → 2 ^ a ≡ 2 ^ b → a ≡ b
-pow-same a b e =
-    ⊎-elim
-    (λ (h : a ≤ b). ⊎-elim (λ (g : b ≤ a). omega arith) (λ (g : a < b). omega (arith, pow-lt g)) (le-or-lt b a))
-    (λ (h : b < a). omega (arith, pow-lt h))
-    (le-or-lt a b)
 
 pub pass : (x b : Reply) → x .0 ≡ 0 → andThen x b ≡ b
 pass x b h = rw h

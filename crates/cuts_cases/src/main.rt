@@ -31,25 +31,10 @@ fn read_head(text: &[u8], at: usize, list: &mut [usize]) -> Head {
     }
 }
 
-// The first k numbers, or all where there are fewer.
-fn front(s: &[usize], k: usize) -> &[usize] {
-    if s.len() < k {
-        return s;
-    }
-    &s[..k]
-}
-
-fn front_floats(s: &[f64], k: usize) -> &[f64] {
-    if s.len() < k {
-        return s;
-    }
-    &s[..k]
-}
-
 fn lists(text: &[u8], at: usize) -> usize {
     let mut names = [0usize; 16];
     let h = read_head(text, at, &mut names);
-    let list = front(&names, h.k);
+    let list = replay::front(&names, h.k);
     replay::print_answer(qubits::validate_qubit_set(list, h.n));
     replay::print_answer(qubits::validate_subsystem(list, h.n));
     h.next
@@ -69,7 +54,7 @@ fn show_offsets(list: &[usize], n: usize, cap: usize, room: usize, out: &mut [us
         return;
     }
     replay::print_answer(offsets::row_offsets(list, n, cap, &mut out[..room]));
-    replay::print_counts(front(out, room));
+    replay::print_counts(replay::front(out, room));
 }
 
 fn offsets_case(text: &[u8], at: usize) -> usize {
@@ -78,7 +63,7 @@ fn offsets_case(text: &[u8], at: usize) -> usize {
     let mut out = [0usize; 128];
     mark(&mut out);
     show_offsets(
-        front(&names, h.k),
+        replay::front(&names, h.k),
         h.n,
         h.cap,
         replay::size_at(text, h.next),
@@ -91,7 +76,7 @@ fn base_case(text: &[u8], at: usize) -> usize {
     let mut names = [0usize; 16];
     let h = read_head(text, at, &mut names);
     let e = replay::size_at(text, h.next);
-    let r = offsets::traced_base(e, front(&names, h.k), h.n, h.cap);
+    let r = offsets::traced_base(e, replay::front(&names, h.k), h.n, h.cap);
     let answer = r.answer;
     replay::print_answer(answer);
     replay::print_word(replay::word_of(r.base));
@@ -103,7 +88,7 @@ fn show_side(list: &[usize], n: usize, cap: usize, room: usize, others: &mut [us
         return;
     }
     replay::print_answer(sides::smaller_side(list, n, cap, &mut others[..room]));
-    let left = front(others, room);
+    let left = replay::front(others, room);
     replay::print_counts(left);
     replay::print_counts(sides::side_part(list, n, cap, left));
 }
@@ -114,7 +99,7 @@ fn side_case(text: &[u8], at: usize) -> usize {
     let mut others = [0usize; 32];
     mark(&mut others);
     show_side(
-        front(&names, h.k),
+        replay::front(&names, h.k),
         h.n,
         h.cap,
         replay::size_at(text, h.next),
@@ -123,71 +108,24 @@ fn side_case(text: &[u8], at: usize) -> usize {
     replay::past(text, h.next)
 }
 
-// What a slice of numbers holds as it is lent: bits that count up from the first number's.
-fn count_up(s: &mut [f64], first: u64) {
-    let mut i = 0;
-    let mut bits = first;
-    while i < s.len() {
-        s[i] = replay::float_of(bits);
-        bits = std::num::wrapping_add_u64(bits, 1);
-        i += 1;
-    }
-}
-
-// The changes of the state that the text names; where it goes on.
-fn change(text: &[u8], at: usize, state: &mut [f64], count: usize) -> usize {
-    let mut next = at;
-    let mut i = 0;
-    while i < count {
-        let place = replay::next_word(text, next);
-        let bits = replay::next_word(text, place.next);
-        let p = replay::size_of(place.value);
-        if p < state.len() {
-            state[p] = replay::float_of(bits.value);
-        }
-        next = bits.next;
-        i += 1;
-    }
-    next
-}
-
-// A digest of the numbers' bits, in order, modulo 2^31 - 1.
-fn digest(s: &[f64]) -> u64 {
-    let mut sum = 0u64;
-    let mut i = 0;
-    while i < s.len() {
-        sum = (sum * 31 + bits::bits_of(s[i]) % 0x7fff_ffff) % 0x7fff_ffff;
-        i += 1;
-    }
-    sum
-}
-
-fn print_matrix(s: &[f64]) {
-    if s.len() < 200 {
-        replay::print_floats(s);
-        return;
-    }
-    replay::print_word(digest(s));
-}
-
 fn show_cut(state: &[f64], n: usize, list: &[usize], cap: usize, room: usize, out: &mut [f64]) {
     if out.len() < room {
         return;
     }
     replay::print_answer(cuts::cut_matrix(state, n, list, cap, &mut out[..room]));
-    print_matrix(front_floats(out, room));
+    replay::print_or_digest(replay::front_floats(out, room));
 }
 
 fn cut_into(state: &[f64], n: usize, list: &[usize], cap: usize, room: usize) {
     let mut out = [0.0; 8200];
-    count_up(&mut out, 0xc000_0000_0000_0000);
+    replay::count_up(&mut out, 0xc000_0000_0000_0000);
     show_cut(state, n, list, cap, room, &mut out);
 }
 
 fn show_again(matrix: &[f64], n: usize, list: &[usize], cap: usize, size: usize) {
     let mut again = [0.0; 8200];
     replay::print_answer(recount::density_from_cut(matrix, n, list, cap, &mut again));
-    print_matrix(front_floats(&again, size));
+    replay::print_or_digest(replay::front_floats(&again, size));
 }
 
 fn show_density(state: &[f64], n: usize, list: &[usize], cap: usize, size: usize) {
@@ -201,14 +139,20 @@ fn show_density(state: &[f64], n: usize, list: &[usize], cap: usize, size: usize
         &mut density,
         &mut scratch,
     ));
-    print_matrix(front_floats(&density, size));
+    replay::print_or_digest(replay::front_floats(&density, size));
 }
 
 fn show_pages(state: &[f64], n: usize, list: &[usize], cap: usize, size: usize) {
     let mut matrix = [0.0; 8200];
     replay::print_answer(cuts::cut_matrix(state, n, list, cap, &mut matrix));
     show_density(state, n, list, cap, size);
-    show_again(front_floats(&matrix, state.len()), n, list, cap, size);
+    show_again(
+        replay::front_floats(&matrix, state.len()),
+        n,
+        list,
+        cap,
+        size,
+    );
 }
 
 fn show_state(pages: bool, state: &[f64], n: usize, list: &[usize], cap: usize, size: usize) {
@@ -226,8 +170,8 @@ fn cut_case(text: &[u8], at: usize, pages: bool) -> usize {
     let second = replay::past(text, h.next);
     let third = replay::past(text, second);
     let mut state = [0.0; 8200];
-    count_up(&mut state, 0x3ff0_0000_0000_0000);
-    let next = change(
+    replay::count_up(&mut state, 0x3ff0_0000_0000_0000);
+    let next = replay::change(
         text,
         replay::past(text, third),
         &mut state,
@@ -235,9 +179,9 @@ fn cut_case(text: &[u8], at: usize, pages: bool) -> usize {
     );
     show_state(
         pages,
-        front_floats(&state, long),
+        replay::front_floats(&state, long),
         h.n,
-        front(&names, h.k),
+        replay::front(&names, h.k),
         h.cap,
         replay::size_at(text, second),
     );

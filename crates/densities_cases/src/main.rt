@@ -6,21 +6,6 @@
 //   3 dim rho                         normalize_trace
 //   4 dim positions side rho factor   multiply_block_factor
 
-// The first k numbers of s, or all where it has fewer.
-fn front(s: &[usize], k: usize) -> &[usize] {
-    if s.len() < k {
-        return s;
-    }
-    &s[..k]
-}
-
-fn front_floats(s: &[f64], k: usize) -> &[f64] {
-    if s.len() < k {
-        return s;
-    }
-    &s[..k]
-}
-
 fn show_density(
     state: &[f64],
     n: usize,
@@ -45,8 +30,8 @@ fn show_density(
         &mut out[..o],
         &mut scratch[..w],
     ));
-    replay::print_floats(front_floats(out, o));
-    replay::print_floats(front_floats(scratch, w));
+    replay::print_floats(replay::front_floats(out, o));
+    replay::print_floats(replay::front_floats(scratch, w));
 }
 
 fn density_into(state: &[f64], n: usize, list: &[usize], cap: usize, o: usize, w: usize) {
@@ -66,9 +51,9 @@ fn density(text: &[u8], at: usize) -> usize {
     let fifth = replay::read_floats(text, replay::past(text, fourth), &mut state, m);
     let sixth = replay::past(text, fifth);
     density_into(
-        front_floats(&state, m),
+        replay::front_floats(&state, m),
         replay::size_at(text, at),
-        front(&list, k),
+        replay::front(&list, k),
         replay::size_at(text, second),
         replay::size_at(text, fifth),
         replay::size_at(text, sixth),
@@ -81,7 +66,7 @@ fn show_mirror(rho: &mut [f64], m: usize, dim: usize) {
         return;
     }
     replay::print_answer(densities::mirror_lower_triangle(&mut rho[..m], dim));
-    replay::print_floats(front_floats(rho, m));
+    replay::print_floats(replay::front_floats(rho, m));
 }
 
 fn show_trace(rho: &mut [f64], m: usize, dim: usize) {
@@ -89,7 +74,7 @@ fn show_trace(rho: &mut [f64], m: usize, dim: usize) {
         return;
     }
     replay::print_answer(traces::normalize_trace(&mut rho[..m], dim));
-    replay::print_floats(front_floats(rho, m));
+    replay::print_floats(replay::front_floats(rho, m));
 }
 
 fn square(text: &[u8], at: usize, kind: u64) -> usize {
@@ -123,7 +108,7 @@ fn show_block(
         factor,
         side,
     ));
-    replay::print_floats(front_floats(rho, m));
+    replay::print_floats(replay::front_floats(rho, m));
 }
 
 fn block_into(text: &[u8], at: usize, dim: usize, positions: &[usize], side: usize) -> usize {
@@ -133,7 +118,14 @@ fn block_into(text: &[u8], at: usize, dim: usize, positions: &[usize], side: usi
     let f = replay::size_at(text, second);
     let mut factor = [0.0; 2048];
     let last = replay::read_floats(text, replay::past(text, second), &mut factor, f);
-    show_block(&mut rho, m, dim, positions, front_floats(&factor, f), side);
+    show_block(
+        &mut rho,
+        m,
+        dim,
+        positions,
+        replay::front_floats(&factor, f),
+        side,
+    );
     last
 }
 
@@ -146,7 +138,7 @@ fn block(text: &[u8], at: usize) -> usize {
         text,
         replay::past(text, third),
         replay::size_at(text, at),
-        front(&positions, k),
+        replay::front(&positions, k),
         replay::size_at(text, third),
     )
 }

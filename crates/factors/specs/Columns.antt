@@ -15,7 +15,7 @@ use Rattle.complex.specs.Cells.{cellsOf}
 use Rattle.complex.specs.Planes.{planeAt}
 use Rattle.complex.specs.Zeros.{zeroFloat}
 use Rattle.loading.specs.Numbers.{numbersOf}
-use Rattle.loading.specs.Loading.{oneFloat}
+use Rattle.numbers.specs.Numbers.{oneFloat}
 
 -- the squares of the first k cells from the cell `at` on, summed in order from +0.0
 unfoldable pub squaresTo : List Float → ℕ → ℕ → ℕ → Float

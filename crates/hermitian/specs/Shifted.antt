@@ -9,7 +9,7 @@ use Rattle.complex.specs.declared.Complex.{Complex}
 use Rattle.complex.specs.Arithmetic.{complexOf, modulusOf}
 use Rattle.complex.specs.Cells.{cellAt, cellsOf}
 use Rattle.complex.specs.Zeros.{zeroFloat}
-use Rattle.loading.specs.Loading.{oneFloat}
+use Rattle.numbers.specs.Numbers.{oneFloat}
 
 -- the larger of two, the first where they do not compare
 abbrev pub larger : Float → Float → Float

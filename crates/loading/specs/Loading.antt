@@ -8,17 +8,14 @@ use native.Mathlib.Nat.{zero-add, add-zero, add-suc, add-assoc, mul-add-div-righ
 use native.Mathlib.Omega.{arith}
 use lib.ListN.{length, set, take, drop, length-drop, length-set, take-append-drop, drop-of-length-le}
 use lib.Seq.{set-append-left, length-take-le}
-use lib.Ieee.{Float, binary64, ofBits}
+use lib.Ieee.{Float}
+use Rattle.numbers.specs.Numbers.{oneFloat}
 use Rattle.complex.specs.declared.Complex.{Complex}
 use Rattle.complex.specs.Arithmetic.{conjugate}
 use Rattle.complex.specs.Cells.{cellAt}
 use Rattle.complex.specs.Planes.{setPlane}
 use Rattle.complex.specs.Zeros.{zeros, zeroed}
 use Rattle.loading.specs.Numbers.{numbersOf, filled, length-filled, filled-none, filled-more, filled-all, set-second}
-
--- 1.0
-abbrev pub oneFloat : Float
-oneFloat = ofBits binary64 0x3ff0_0000_0000_0000
 
 -- c cells, the i-th of them f i, as planes: all real parts, then all imaginary parts
 unfoldable pub planesOf : ℕ → (ℕ → Complex) → List Float

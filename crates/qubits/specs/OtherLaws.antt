@@ -128,7 +128,7 @@ unfolding otherQubits rising
 others-upto n l p zero h = refl
 others-upto n l p (suc k) h = ap₂ (λ (a b : List ℕ). a ++ b) (others-upto n l p k (omega arith)) (other-digit n l p k (omega arith))
 
-pow-same : (a b : ℕ) → 2 ^ a ≡ 2 ^ b → a ≡ b
+pub pow-same : (a b : ℕ) → 2 ^ a ≡ 2 ^ b → a ≡ b
 pow-same a b e =
     ⊎-elim
     (λ (h : a ≤ b). ⊎-elim (λ (g : b ≤ a). omega arith) (λ (g : a < b). omega (arith, pow-lt g)) (le-or-lt b a))

@@ -211,3 +211,66 @@ pub fn print_answer(a: answers::Answer) {
     print_word(word_of(r.number));
     print_word(word_of(r.place));
 }
+
+// The first k numbers, or all where there are fewer.
+pub fn front(s: &[usize], k: usize) -> &[usize] {
+    if s.len() < k {
+        return s;
+    }
+    &s[..k]
+}
+
+pub fn front_floats(s: &[f64], k: usize) -> &[f64] {
+    if s.len() < k {
+        return s;
+    }
+    &s[..k]
+}
+
+// What a slice of numbers holds as it is lent: bits that count up from the first number's.
+pub fn count_up(s: &mut [f64], first: u64) {
+    let mut i = 0;
+    let mut bits = first;
+    while i < s.len() {
+        s[i] = float_of(bits);
+        bits = std::num::wrapping_add_u64(bits, 1);
+        i += 1;
+    }
+}
+
+// The changes of a slice that the text names; where it goes on.
+pub fn change(text: &[u8], at: usize, state: &mut [f64], count: usize) -> usize {
+    let mut next = at;
+    let mut i = 0;
+    while i < count {
+        let place = next_word(text, next);
+        let bits = next_word(text, place.next);
+        let p = size_of(place.value);
+        if p < state.len() {
+            state[p] = float_of(bits.value);
+        }
+        next = bits.next;
+        i += 1;
+    }
+    next
+}
+
+// A digest of the numbers' bits, in order, modulo 2^31 - 1.
+fn digest(s: &[f64]) -> u64 {
+    let mut sum = 0u64;
+    let mut i = 0;
+    while i < s.len() {
+        sum = (sum * 31 + bits::bits_of(s[i]) % 0x7fff_ffff) % 0x7fff_ffff;
+        i += 1;
+    }
+    sum
+}
+
+// The numbers, or their digest where there are 200 or more.
+pub fn print_or_digest(s: &[f64]) {
+    if s.len() < 200 {
+        print_floats(s);
+        return;
+    }
+    print_word(digest(s));
+}

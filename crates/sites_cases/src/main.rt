@@ -13,63 +13,10 @@
 // A fill writes its answer and the slice, or the slice's digest where it is 200 numbers or longer. Lists of kinds 1 and 2 have at
 // most 64 values; SOURCE at most 16,384 numbers, VALUES 4,200, the slice 8,300.
 
-fn front_floats(s: &[f64], k: usize) -> &[f64] {
-    if s.len() < k {
-        return s;
-    }
-    &s[..k]
-}
-
-fn count_up(s: &mut [f64], first: u64) {
-    let mut i = 0;
-    let mut bits = first;
-    while i < s.len() {
-        s[i] = replay::float_of(bits);
-        bits = std::num::wrapping_add_u64(bits, 1);
-        i += 1;
-    }
-}
-
-// The changes that the text names; where it goes on.
-fn change(text: &[u8], at: usize, state: &mut [f64], count: usize) -> usize {
-    let mut next = at;
-    let mut i = 0;
-    while i < count {
-        let place = replay::next_word(text, next);
-        let bits = replay::next_word(text, place.next);
-        let p = replay::size_of(place.value);
-        if p < state.len() {
-            state[p] = replay::float_of(bits.value);
-        }
-        next = bits.next;
-        i += 1;
-    }
-    next
-}
-
 // A source or values as the text has them, from the word after the length on; where the text goes on.
 fn read_source(text: &[u8], at: usize, s: &mut [f64]) -> usize {
-    count_up(s, 0x3ff0_0000_0000_0000);
-    change(text, replay::past(text, at), s, replay::size_at(text, at))
-}
-
-// A digest of the numbers' bits, in order, modulo 2^31 - 1.
-fn digest(s: &[f64]) -> u64 {
-    let mut sum = 0u64;
-    let mut i = 0;
-    while i < s.len() {
-        sum = (sum * 31 + bits::bits_of(s[i]) % 0x7fff_ffff) % 0x7fff_ffff;
-        i += 1;
-    }
-    sum
-}
-
-fn print_site(s: &[f64]) {
-    if s.len() < 200 {
-        replay::print_floats(s);
-        return;
-    }
-    replay::print_word(digest(s));
+    replay::count_up(s, 0x3ff0_0000_0000_0000);
+    replay::change(text, replay::past(text, at), s, replay::size_at(text, at))
 }
 
 fn rank_case(text: &[u8], at: usize) -> usize {
@@ -78,7 +25,7 @@ fn rank_case(text: &[u8], at: usize) -> usize {
     let next = replay::read_floats(text, replay::past(text, at), &mut values, count);
     let epsilon = replay::float_of(replay::next_word(text, next).value);
     let cap = replay::past(text, next);
-    let list = front_floats(&values, count);
+    let list = replay::front_floats(&values, count);
     replay::print_word(replay::word_of(ranks::truncated_svd_rank(
         list,
         epsilon,
@@ -91,7 +38,7 @@ fn discard_case(text: &[u8], at: usize) -> usize {
     let mut values = [0.0; 64];
     let count = replay::size_at(text, at);
     let next = replay::read_floats(text, replay::past(text, at), &mut values, count);
-    let list = front_floats(&values, count);
+    let list = replay::front_floats(&values, count);
     if ranks::discards_resolvable_weight(list, replay::size_at(text, next)) {
         replay::print_word(1);
     } else {
@@ -147,7 +94,7 @@ fn isometry(source: &[f64], z: Sizes, room: usize, out: &mut [f64]) {
         z.third,
         &mut out[..room],
     ));
-    print_site(front_floats(out, room));
+    replay::print_or_digest(replay::front_floats(out, room));
 }
 
 fn scaled_u(source: &[f64], values: &[f64], z: Sizes, room: usize, out: &mut [f64]) {
@@ -162,7 +109,7 @@ fn scaled_u(source: &[f64], values: &[f64], z: Sizes, room: usize, out: &mut [f6
         z.third,
         &mut out[..room],
     ));
-    print_site(front_floats(out, room));
+    replay::print_or_digest(replay::front_floats(out, room));
 }
 
 fn vt(source: &[f64], z: Sizes, room: usize, out: &mut [f64]) {
@@ -177,7 +124,7 @@ fn vt(source: &[f64], z: Sizes, room: usize, out: &mut [f64]) {
         z.fourth,
         &mut out[..room],
     ));
-    print_site(front_floats(out, room));
+    replay::print_or_digest(replay::front_floats(out, room));
 }
 
 fn scaled_vt(values: &[f64], source: &[f64], z: Sizes, room: usize, out: &mut [f64]) {
@@ -193,7 +140,7 @@ fn scaled_vt(values: &[f64], source: &[f64], z: Sizes, room: usize, out: &mut [f
         z.fourth,
         &mut out[..room],
     ));
-    print_site(front_floats(out, room));
+    replay::print_or_digest(replay::front_floats(out, room));
 }
 
 // The sizes of kind 5 and 6, from `at` on.
@@ -230,9 +177,9 @@ fn isometry_case(text: &[u8], at: usize) -> usize {
     let mut source = [0.0; 16384];
     let room = read_source(text, replay::past(text, lengths), &mut source);
     let mut out = [0.0; 8300];
-    count_up(&mut out, 0xc000_0000_0000_0000);
+    replay::count_up(&mut out, 0xc000_0000_0000_0000);
     isometry(
-        front_floats(&source, replay::size_at(text, lengths)),
+        replay::front_floats(&source, replay::size_at(text, lengths)),
         column_sizes(text, at),
         replay::size_at(text, room),
         &mut out,
@@ -247,10 +194,10 @@ fn scaled_u_case(text: &[u8], at: usize) -> usize {
     let mut values = [0.0; 4200];
     let room = read_source(text, replay::past(text, second), &mut values);
     let mut out = [0.0; 8300];
-    count_up(&mut out, 0xc000_0000_0000_0000);
+    replay::count_up(&mut out, 0xc000_0000_0000_0000);
     scaled_u(
-        front_floats(&source, replay::size_at(text, first)),
-        front_floats(&values, replay::size_at(text, second)),
+        replay::front_floats(&source, replay::size_at(text, first)),
+        replay::front_floats(&values, replay::size_at(text, second)),
         column_sizes(text, at),
         replay::size_at(text, room),
         &mut out,
@@ -263,9 +210,9 @@ fn vt_case(text: &[u8], at: usize) -> usize {
     let mut source = [0.0; 16384];
     let room = read_source(text, replay::past(text, lengths), &mut source);
     let mut out = [0.0; 8300];
-    count_up(&mut out, 0xc000_0000_0000_0000);
+    replay::count_up(&mut out, 0xc000_0000_0000_0000);
     vt(
-        front_floats(&source, replay::size_at(text, lengths)),
+        replay::front_floats(&source, replay::size_at(text, lengths)),
         row_sizes(text, at),
         replay::size_at(text, room),
         &mut out,
@@ -280,10 +227,10 @@ fn scaled_vt_case(text: &[u8], at: usize) -> usize {
     let mut source = [0.0; 16384];
     let room = read_source(text, replay::past(text, second), &mut source);
     let mut out = [0.0; 8300];
-    count_up(&mut out, 0xc000_0000_0000_0000);
+    replay::count_up(&mut out, 0xc000_0000_0000_0000);
     scaled_vt(
-        front_floats(&values, replay::size_at(text, first)),
-        front_floats(&source, replay::size_at(text, second)),
+        replay::front_floats(&values, replay::size_at(text, first)),
+        replay::front_floats(&source, replay::size_at(text, second)),
         row_sizes(text, at),
         replay::size_at(text, room),
         &mut out,

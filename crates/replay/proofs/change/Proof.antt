@@ -1,11 +1,11 @@
--- `cuts_cases::change` is safe and ends: a place past the state is passed over. Assumes nothing.
+-- `replay::change` is safe and ends: a place past the state is passed over. Assumes nothing.
 use mathlib.Core.Path.{_≡_}
 use mathlib.Core.Logic.{⊎-elim}
 use Prim.Native.Nat.{_-_}
 use lib.ListN.{length, length-set}
 use borrow.Author.Needs.{needs}
-use Rattle.cuts_cases.proofs.change.Statement.{statement}
-use Rattle.cuts_cases.proofs.change.Tie as tie
+use Rattle.replay.proofs.change.Statement.{statement}
+use Rattle.replay.proofs.change.Tie as tie
 
 abbrev Inv-loop : tie.InvT-loop
 Inv-loop text at state₀ count next₀ i₀ state next i = length state ≡ length state₀

@@ -1,9 +1,9 @@
--- `sites_cases::digest` is safe and ends: the sum stays below 2^31 - 1. Assumes nothing.
+-- `replay::digest` is safe and ends: the sum stays below 2^31 - 1. Assumes nothing.
 use Prim.Native.Nat.{_-_, _≤_}
 use lib.ListN.{length}
 use borrow.Author.Needs.{needs}
-use Rattle.sites_cases.proofs.digest.Statement.{statement}
-use Rattle.sites_cases.proofs.digest.Tie as tie
+use Rattle.replay.proofs.digest.Statement.{statement}
+use Rattle.replay.proofs.digest.Tie as tie
 
 abbrev Inv-loop : tie.InvT-loop
 Inv-loop s sum₀ i₀ sum i = sum ≤ 2147483646

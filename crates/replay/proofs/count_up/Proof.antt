@@ -1,10 +1,10 @@
--- `sites_cases::count_up` is safe and ends: the slice keeps its length. Assumes nothing.
+-- `replay::count_up` is safe and ends: the slice keeps its length. Assumes nothing.
 use mathlib.Core.Path.{_≡_}
 use Prim.Native.Nat.{_-_}
 use lib.ListN.{length}
 use borrow.Author.Needs.{needs}
-use Rattle.sites_cases.proofs.count_up.Statement.{statement}
-use Rattle.sites_cases.proofs.count_up.Tie as tie
+use Rattle.replay.proofs.count_up.Statement.{statement}
+use Rattle.replay.proofs.count_up.Tie as tie
 
 abbrev Inv-loop : tie.InvT-loop
 Inv-loop s₀ first i₀ bits₀ s i bits = length s ≡ length s₀

@@ -1,10 +1,10 @@
--- `densities_cases::front_floats` is safe: the part lies in its slice. Assumes nothing.
+-- `replay::front_floats` is safe: the part lies in its slice. Assumes nothing.
 use mathlib.Core.Path.{sym}
 use native.Mathlib.Omega.{arith}
 use lib.Seq.{length-take-le}
 use borrow.Author.Needs.{needs}
-use Rattle.densities_cases.proofs.front_floats.Statement.{statement}
-use Rattle.densities_cases.proofs.front_floats.Tie as tie
+use Rattle.replay.proofs.front_floats.Statement.{statement}
+use Rattle.replay.proofs.front_floats.Tie as tie
 
 returns : tie.Need-returns
 returns c = search needs
