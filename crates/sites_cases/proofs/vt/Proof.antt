@@ -24,8 +24,8 @@ print-answer-requires c κs = search needs
 front-floats-requires : tie.Need-front-floats-requires
 front-floats-requires c κs = search needs
 
-print-site-requires : tie.Need-print-site-requires
-print-site-requires c κs = search needs
+print-or-digest-requires : tie.Need-print-or-digest-requires
+print-or-digest-requires c κs = search needs
 
 same-length : tie.Need-same-length
 same-length c = search needs
@@ -43,6 +43,6 @@ vt-spec =
     fill-vt-site-data-requires
     print-answer-requires
     front-floats-requires
-    print-site-requires
+    print-or-digest-requires
     same-length
     returns-2)
