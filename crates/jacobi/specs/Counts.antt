@@ -10,7 +10,7 @@ use native.Mathlib.Omega.{arith}
 use Rattle.pairs.specs.declared.Decision.{Decision}
 use Rattle.pairs.specs.declared.Decision.the-variants.{Leave, Turn}
 use Rattle.jacobi.specs.declared.Sweeps.{Sweeps}
-use Rattle.pairs.specs.Gram.{gramTo}
+use Rattle.gram.specs.Gram.{gramTo}
 use Rattle.pairs.specs.Decisions.{decisionOf}
 use Rattle.jacobi.specs.Sweeping.{State, state, counted, begin, noSweeps, pairBy, pairStep, pairsTo, columnsTo, sweepOf, sweepsTo, settled}
 

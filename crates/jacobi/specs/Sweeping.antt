@@ -12,7 +12,7 @@ use Rattle.complex.specs.Loops.{cond-yes, cond-no}
 use Rattle.pairs.specs.declared.Decision.{Decision}
 use Rattle.pairs.specs.declared.Decision.the-variants.{Leave, Turn}
 use Rattle.jacobi.specs.declared.Sweeps.{Sweeps}
-use Rattle.pairs.specs.Gram.{gramTo}
+use Rattle.gram.specs.Gram.{gramTo}
 use Rattle.pairs.specs.Decisions.{decisionOf}
 use Rattle.pairs.specs.Turns.{applied, applied-nothing}
 

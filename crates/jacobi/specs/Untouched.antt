@@ -14,7 +14,7 @@ use Rattle.complex.specs.Zeros.{zeroFloat}
 use Rattle.pairs.specs.declared.Factors.{Factors}
 use Rattle.pairs.specs.declared.Decision.{Decision}
 use Rattle.pairs.specs.declared.Decision.the-variants.{Leave, Turn}
-use Rattle.pairs.specs.Gram.{noSums, oneRow, gramTo}
+use Rattle.gram.specs.Gram.{noSums, oneRow, gramTo}
 use Rattle.pairs.specs.Decisions.{decisionOf}
 use Rattle.pairs.specs.Turns.{factorsOf, newP, newQ, turnRow, turnRows, applied}
 use Rattle.jacobi.specs.Sweeping.{column-fits}

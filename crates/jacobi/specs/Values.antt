@@ -4,7 +4,7 @@ use mathlib.Core.Bool.{Bool, true, false, cond}
 use mathlib.Core.List.{List}
 use Prim.Native.Nat.{ℕ, zero, suc, _+_, _-_, _*_}
 use lib.Ieee.{Float}
-use Rattle.pairs.specs.Gram.{gramTo}
+use Rattle.gram.specs.Gram.{gramTo}
 use Rattle.pairs.specs.Decisions.{decisionOf}
 use Rattle.pairs.specs.Turns.{applied}
 use Rattle.jacobi.specs.declared.Sweeps.{Sweeps}

@@ -64,7 +64,7 @@ fn pair(
 {
     let a = p * m;
     let b = q * m;
-    let d = pairs::decide(pairs::gram_of(work, n * m, a, b, m));
+    let d = pairs::decide(gram::gram_of(work, n * m, a, b, m));
     pairs::apply(work, n * m, a, b, m, d);
     apply_to_v(v, n, p, q, d);
     count(d, s)

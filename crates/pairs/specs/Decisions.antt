@@ -12,7 +12,7 @@ use Rattle.complex.specs.declared.Complex.{Complex}
 use Rattle.complex.specs.Arithmetic.{complexOf, quotient, normSqr, modulusOf}
 use Rattle.complex.specs.Zeros.{zeroFloat}
 use Rattle.pairs.specs.Signs.{not-both, none}
-use Rattle.pairs.specs.declared.GramSums.{GramSums}
+use Rattle.gram.specs.declared.GramSums.{GramSums}
 use Rattle.pairs.specs.declared.Decision.{Decision}
 use Rattle.pairs.specs.declared.Decision.the-variants.{Leave, Turn}
 

@@ -9,7 +9,7 @@ use Rattle.complex.specs.declared.Complex.{Complex}
 use Rattle.complex.specs.Arithmetic.{complexOf, product, sum, conjugate, normSqr}
 use Rattle.complex.specs.Planes.{planeAt}
 use Rattle.complex.specs.Zeros.{zeroFloat}
-use Rattle.pairs.specs.declared.GramSums.{GramSums}
+use Rattle.gram.specs.declared.GramSums.{GramSums}
 
 unfoldable pub noSums : GramSums
 noSums = record { pp = zeroFloat; qq = zeroFloat; pq = complexOf zeroFloat zeroFloat }

@@ -14,8 +14,8 @@ use lib.Seq.{getD-set-same, getD-set-other}
 use Rattle.complex.specs.declared.Complex.{Complex}
 use Rattle.complex.specs.Arithmetic.{complexOf, product, sum, conjugate, normSqr}
 use Rattle.complex.specs.Planes.{planeAt}
-use Rattle.pairs.specs.declared.GramSums.{GramSums}
-use Rattle.pairs.specs.Gram.{oneRow, gramTo}
+use Rattle.gram.specs.declared.GramSums.{GramSums}
+use Rattle.gram.specs.Gram.{oneRow, gramTo}
 
 -- the terms of the rows below w of the columns from the cells a and b on
 pub record Terms (xs : List Float) (c a b w : ℕ) (t : List Float) : Type 0 where

@@ -1,12 +1,12 @@
--- `pairs::fill_terms` meets its contract. The loop's invariant: the terms below j are there. Assumes nothing.
+-- `gram::fill_terms` meets its contract. The loop's invariant: the terms below j are there. Assumes nothing.
 use borrow.Author.Needs.{needs}
 use mathlib.Core.Path.{_≡_}
 use lib.ListN.{set, length-set}
 use Prim.Native.Nat.{_≤_, _-_, _+_}
 use native.Mathlib.Omega.{arith}
-use Rattle.pairs.specs.Terms.{Terms, terms-none, terms-more}
-use Rattle.pairs.proofs.fill_terms.Statement.{statement}
-use Rattle.pairs.proofs.fill_terms.Tie as tie
+use Rattle.gram.specs.Terms.{Terms, terms-none, terms-more}
+use Rattle.gram.proofs.fill_terms.Statement.{statement}
+use Rattle.gram.proofs.fill_terms.Tie as tie
 
 abbrev Inv-loop : tie.InvT-loop
 Inv-loop xs c a b w terms₀ j₀ terms j = (j ≤ w) × Terms xs c a b j terms

@@ -1,14 +1,14 @@
--- `pairs::gram_blocks` meets its contract. The loop's invariant: the sums are those of the rows below r. Assumes nothing.
+-- `gram::gram_blocks` meets its contract. The loop's invariant: the sums are those of the rows below r. Assumes nothing.
 use mathlib.Core.Path.{_≡_}
 use Prim.Native.Nat.{_≤_, _-_}
 use native.Mathlib.Omega.{arith}
 use lib.ListN.{length}
 use Rattle.complex.specs.Loops.{stop}
-use Rattle.pairs.specs.Gram.{gramTo, gramTo-none}
-use Rattle.pairs.specs.Terms.{block-added}
+use Rattle.gram.specs.Gram.{gramTo, gramTo-none}
+use Rattle.gram.specs.Terms.{block-added}
 use borrow.Author.Needs.{needs}
-use Rattle.pairs.proofs.gram_blocks.Statement.{statement}
-use Rattle.pairs.proofs.gram_blocks.Tie as tie
+use Rattle.gram.proofs.gram_blocks.Statement.{statement}
+use Rattle.gram.proofs.gram_blocks.Tie as tie
 
 abbrev Inv-loop : tie.InvT-loop
 Inv-loop xs c a b m terms₀ g₀ r₀ terms g r = (r ≤ m) × (length terms ≡ 128) × (g ≡ gramTo xs c a b r)

@@ -1,11 +1,11 @@
--- `pairs::gram_rows` meets its contract. The loop's invariant: the sums are those of the rows below r. Assumes nothing.
+-- `gram::gram_rows` meets its contract. The loop's invariant: the sums are those of the rows below r. Assumes nothing.
 use borrow.Author.Needs.{needs}
 use mathlib.Core.Path.{_≡_}
 use Prim.Native.Nat.{_≤_, _-_}
 use Rattle.complex.specs.Loops.{stop}
-use Rattle.pairs.specs.Gram.{gramTo, gramTo-none, gramTo-more}
-use Rattle.pairs.proofs.gram_rows.Statement.{statement}
-use Rattle.pairs.proofs.gram_rows.Tie as tie
+use Rattle.gram.specs.Gram.{gramTo, gramTo-none, gramTo-more}
+use Rattle.gram.proofs.gram_rows.Statement.{statement}
+use Rattle.gram.proofs.gram_rows.Tie as tie
 
 abbrev Inv-loop : tie.InvT-loop
 Inv-loop xs c a b m g₀ r₀ g r = (r ≤ m) × (g ≡ gramTo xs c a b r)

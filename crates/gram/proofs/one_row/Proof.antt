@@ -1,8 +1,8 @@
--- `pairs::one_row` meets its contract: what its callees ensure, put together. Assumes nothing.
-use Rattle.pairs.specs.Gram.{oneRow}
+-- `gram::one_row` meets its contract: what its callees ensure, put together. Assumes nothing.
+use Rattle.gram.specs.Gram.{oneRow}
 use borrow.Author.Needs.{needs}
-use Rattle.pairs.proofs.one_row.Statement.{statement}
-use Rattle.pairs.proofs.one_row.Tie as tie
+use Rattle.gram.proofs.one_row.Statement.{statement}
+use Rattle.gram.proofs.one_row.Tie as tie
 
 norm-sqr-requires : tie.Need-norm-sqr-requires
 norm-sqr-requires c κs = search needs

@@ -1,12 +1,12 @@
--- `pairs::add_terms` meets its contract. The loop's invariant: the sums have the terms below j. Assumes nothing.
+-- `gram::add_terms` meets its contract. The loop's invariant: the sums have the terms below j. Assumes nothing.
 use borrow.Author.Needs.{needs}
 use mathlib.Core.Path.{_≡_, sym}
 use Prim.Native.Nat.{_≤_, _-_}
 use native.Mathlib.Omega.{arith}
 use Rattle.complex.specs.Loops.{stop}
-use Rattle.pairs.specs.Terms.{addedTo, addedTo-none, addedTo-more}
-use Rattle.pairs.proofs.add_terms.Statement.{statement}
-use Rattle.pairs.proofs.add_terms.Tie as tie
+use Rattle.gram.specs.Terms.{addedTo, addedTo-none, addedTo-more}
+use Rattle.gram.proofs.add_terms.Statement.{statement}
+use Rattle.gram.proofs.add_terms.Tie as tie
 
 abbrev Inv-loop : tie.InvT-loop
 Inv-loop terms w sums₀ j₀ sums j = (j ≤ w) × (sums ≡ addedTo sums₀ terms j)
