@@ -1,9 +1,10 @@
 -- `gram::fill_terms` meets its contract. The loop's invariant: the terms below j are there. Assumes nothing.
 use borrow.Author.Needs.{needs}
-use mathlib.Core.Path.{_≡_}
+use mathlib.Core.Path.{_≡_, ap, _∙_}
 use lib.ListN.{set, length-set}
 use Prim.Native.Nat.{_≤_, _-_, _+_}
 use native.Mathlib.Omega.{arith}
+use Rattle.complex.specs.Arithmetic.{normSqr}
 use Rattle.gram.specs.Terms.{Terms, terms-none, terms-more}
 use Rattle.gram.proofs.fill_terms.Statement.{statement}
 use Rattle.gram.proofs.fill_terms.Tie as tie
@@ -114,8 +115,8 @@ loop-again c =
     let q = c .before .before .before .before .read-plane2 .ensures in (
       search needs,
       terms-more _ _ _ _ _ (i .1 .room) (omega (arith, c .before .before .before .before .before .before .loop-test .taken, c .before .before .before .before .before .before .before .before .before .before .pre .3)) _ _ _ _ (i .1)
-          (rw (p) at (c .before .norm-sqr .ensures))
-          (rw (q) at (c .norm-sqr2 .ensures))
+          (c .before .norm-sqr .ensures ∙ ap normSqr p)
+          (c .norm-sqr2 .ensures ∙ ap normSqr q)
           (rw (c .before .before .before .conj .ensures, p, q) at (c .before .before .mul .ensures)),
     )
 

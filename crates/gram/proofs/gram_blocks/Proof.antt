@@ -63,7 +63,7 @@ loop-again c =
     )
 
 returns : tie.Need-returns Inv-loop μ-loop
-returns c = stop (gramTo _ _ _ _) (c .before .loop .inv .2) (search needs) (search needs)
+returns c = stop (gramTo _ _ _ _) (c .before .loop .inv .2) (c .before .loop .inv .0) (omega (arith, c .loop-test .left))
 
 pub gram-blocks-spec : {M : Type 1} → statement M
 gram-blocks-spec =
