@@ -5,7 +5,8 @@ ghost use Rattle.answers.specs.Paper.{paper};
 ghost use Rattle.complex.specs.Cells.{components};
 ghost use Rattle.components.specs.Every.{everyAllowed};
 
-// Whether every number of s is allowed. A finite scaled sum settles it at two thirds of the cost. The loop has one way out, so that the back end takes several numbers at once.
+// Whether every number of s is allowed. A finite scaled sum settles it at two thirds of the cost. The loop has one way out, so
+// that the back end takes several numbers at once.
 fn every_allowed(s: &[f64]) -> bool
     ensures { λ r. ⌜ r ≡ everyAllowed (now (s .entry)) ⌝ }
 {

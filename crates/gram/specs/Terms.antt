@@ -57,7 +57,7 @@ abbrev row : List Float → ℕ → Float → Float → Complex → List Float
 row t k x y z = set (set (set (set t k x) (32 + k) y) (64 + k) (z .re)) (96 + k) (z .im)
 
 module _ (t : List Float) (k : ℕ) (x y : Float) (z : Complex) (h : length t ≡ 128) (l : k < 32) where
-  pub row-long : length (row t k x y z) ≡ 128
+  row-long : length (row t k x y z) ≡ 128
   row-long = rw (length-set, length-set, length-set, length-set) h
 
   other : (j : ℕ) → (j ≡ k → ⊥) → (j ≡ 32 + k → ⊥) → (j ≡ 64 + k → ⊥) → (j ≡ 96 + k → ⊥) → getD (row t k x y z) j nan ≡ getD t j nan

@@ -1,20 +1,19 @@
--- A turn of two columns changes no other column, and so neither a sum of another nor a decision on two others. Assumes nothing.
+-- A turn of two columns changes no other column, and so no decision on two others. Assumes nothing.
 use mathlib.Core.Path.{_≡_, refl, ap, ap₂, _∙_}
 use mathlib.Core.List.{List}
 use Prim.Native.Nat.{ℕ, zero, suc, _+_, _*_, _≤_, _<_}
 use native.Mathlib.Nat.{lt-of-not-le}
 use native.Mathlib.Omega.{arith}
-use lib.Ieee.{Float, binary64, nan, add}
+use lib.Ieee.{Float, nan}
 use lib.ListN.{set}
 use lib.Seq.{getD-set-other}
 use Rattle.complex.specs.declared.Complex.{Complex}
-use Rattle.complex.specs.Arithmetic.{complexOf, normSqr}
+use Rattle.complex.specs.Arithmetic.{complexOf}
 use Rattle.complex.specs.Planes.{planeAt, setPlane}
-use Rattle.complex.specs.Zeros.{zeroFloat}
 use Rattle.pairs.specs.declared.Factors.{Factors}
 use Rattle.pairs.specs.declared.Decision.{Decision}
 use Rattle.pairs.specs.declared.Decision.the-variants.{Leave, Turn}
-use Rattle.gram.specs.Gram.{noSums, oneRow, gramTo}
+use Rattle.gram.specs.Gram.{gramTo}
 use Rattle.pairs.specs.Decisions.{decisionOf}
 use Rattle.pairs.specs.Turns.{factorsOf, newP, newQ, turnRow, turnRows, applied}
 use Rattle.jacobi.specs.Sweeping.{column-fits}
@@ -51,7 +50,7 @@ apart m p q r s n hr hs e =
     n (omega (arith, up, down))
 
 -- a column x that is neither of those turned
-column-other : (d : Decision) (m n p q x r : ℕ) (xs : List Float) → p < n → q < n → x < n → (x ≡ p → ⊥) → (x ≡ q → ⊥) → r < m
+pub column-other : (d : Decision) (m n p q x r : ℕ) (xs : List Float) → p < n → q < n → x < n → (x ≡ p → ⊥) → (x ≡ q → ⊥) → r < m
     → planeAt (applied d (n * m) (p * m) (q * m) m xs) (n * m) (x * m + r) ≡ planeAt xs (n * m) (x * m + r)
 unfolding applied
 column-other Leave m n p q x r xs hp hq h np nq hr = refl
@@ -82,32 +81,3 @@ decision-other d m n p q x y xs hp hq hx hy xp xq yp yq =
     (gram-same (applied d (n * m) (p * m) (q * m) m xs) xs (n * m) (x * m) (y * m) m
     (λ r l. column-other d m n p q x r xs hp hq hx xp xq l)
     (λ r l. column-other d m n p q y r xs hp hq hy yp yq l))
-
--- ---- a column's own sum
-
--- the squares of a column's moduli over the rows below k, summed: what the Gram sums of any pair say of either column by itself
-unfoldable pub ownSum : List Float → ℕ → ℕ → ℕ → Float
-ownSum xs c a zero = zeroFloat
-ownSum xs c a (suc k) = add binary64 (ownSum xs c a k) (normSqr (planeAt xs c (a + k)))
-
-pub own-first : (xs : List Float) (c a b k : ℕ) → gramTo xs c a b k .pp ≡ ownSum xs c a k
-unfolding gramTo ownSum noSums oneRow
-own-first xs c a b zero = refl
-own-first xs c a b (suc k) = ap (λ (s : Float). add binary64 s (normSqr (planeAt xs c (a + k)))) (own-first xs c a b k)
-
-pub own-second : (xs : List Float) (c a b k : ℕ) → gramTo xs c a b k .qq ≡ ownSum xs c b k
-unfolding gramTo ownSum noSums oneRow
-own-second xs c a b zero = refl
-own-second xs c a b (suc k) = ap (λ (s : Float). add binary64 s (normSqr (planeAt xs c (b + k)))) (own-second xs c a b k)
-
--- the same cells give the same sum, so that one kept from an earlier look has the bits of one summed anew
-pub own-same : (xs ys : List Float) (c a k : ℕ) → ((r : ℕ) → r < k → planeAt xs c (a + r) ≡ planeAt ys c (a + r)) → ownSum xs c a k ≡ ownSum ys c a k
-unfolding ownSum
-own-same xs ys c a zero f = refl
-own-same xs ys c a (suc k) f = ap₂ (add binary64) (own-same xs ys c a k (λ r l. f r (omega arith))) (ap normSqr (f k (omega arith)))
-
--- A COLUMN THAT IS NOT TURNED KEEPS ITS SUM'S BITS
-pub own-other : (d : Decision) (m n p q x : ℕ) (xs : List Float) → p < n → q < n → x < n → (x ≡ p → ⊥) → (x ≡ q → ⊥)
-    → ownSum (applied d (n * m) (p * m) (q * m) m xs) (n * m) (x * m) m ≡ ownSum xs (n * m) (x * m) m
-own-other d m n p q x xs hp hq hx xp xq =
-    own-same (applied d (n * m) (p * m) (q * m) m xs) xs (n * m) (x * m) m (λ r l. column-other d m n p q x r xs hp hq hx xp xq l)

@@ -3,11 +3,9 @@ use mathlib.Core.List.{List}
 use Prim.Native.Nat.{ℕ, _+_}
 use lib.Ieee.{Float, nan, binary64, ofBits, add, mul}
 use lib.ListN.{getD}
+use Rattle.complex.specs.Zeros.{zeroFloat}
 use Rattle.scaled.specs.declared.Sums.{Sums}
 use Rattle.scaled.specs.Scale.{scale}
-
-abbrev zeroFloat : Float
-zeroFloat = ofBits binary64 0
 
 abbrev pub noSums : Sums
 noSums =

@@ -1,7 +1,7 @@
 -- `gram::fill_terms` meets its contract. The loop's invariant: the terms below j are there. Assumes nothing.
 use borrow.Author.Needs.{needs}
 use mathlib.Core.Path.{_≡_, ap, _∙_}
-use lib.ListN.{set, length-set}
+use lib.ListN.{length-set}
 use Prim.Native.Nat.{_≤_, _-_, _+_}
 use native.Mathlib.Omega.{arith}
 use Rattle.complex.specs.Arithmetic.{normSqr}
@@ -55,16 +55,7 @@ mul-terms-2 : tie.Need-mul-terms-2 Inv-loop μ-loop
 mul-terms-2 c = search needs
 
 slice-write-terms-2 : tie.Need-slice-write-terms-2 Inv-loop μ-loop
-slice-write-terms-2 c =
-    let t = c .before .before .before .before .before .before .before .loop .terms in
-    let j = c .before .before .before .before .before .before .before .loop .j in
-    let x = c .before .norm-sqr .result in
-    let y = c .norm-sqr2 .result in
-    let z = c .before .before .mul .result in
-    let room = c .before .before .before .before .before .before .before .loop .inv .1 .room in
-    let below = c .before .before .before .before .before .before .loop-test .taken in
-    let few = c .before .before .before .before .before .before .before .before .before .before .pre .3 in
-    omega (arith, room, below, few, length-set t j x)
+slice-write-terms-2 c = simp length-set (omega (arith, c .before .before .before .before .before .before .before .loop .inv .1 .room, c .before .before .before .before .before .before .loop-test .taken, c .before .before .before .before .before .before .before .before .before .before .pre .3))
 
 add-terms-2 : tie.Need-add-terms-2 Inv-loop μ-loop
 add-terms-2 c = search needs
@@ -73,16 +64,7 @@ mul-terms-3 : tie.Need-mul-terms-3 Inv-loop μ-loop
 mul-terms-3 c = search needs
 
 slice-write-terms-3 : tie.Need-slice-write-terms-3 Inv-loop μ-loop
-slice-write-terms-3 c =
-    let t = c .before .before .before .before .before .before .before .loop .terms in
-    let j = c .before .before .before .before .before .before .before .loop .j in
-    let x = c .before .norm-sqr .result in
-    let y = c .norm-sqr2 .result in
-    let z = c .before .before .mul .result in
-    let room = c .before .before .before .before .before .before .before .loop .inv .1 .room in
-    let below = c .before .before .before .before .before .before .loop-test .taken in
-    let few = c .before .before .before .before .before .before .before .before .before .before .pre .3 in
-    omega (arith, room, below, few, length-set t j x, length-set (set t j x) (32 + j) y)
+slice-write-terms-3 c = simp length-set (omega (arith, c .before .before .before .before .before .before .before .loop .inv .1 .room, c .before .before .before .before .before .before .loop-test .taken, c .before .before .before .before .before .before .before .before .before .before .pre .3))
 
 add-terms-3 : tie.Need-add-terms-3 Inv-loop μ-loop
 add-terms-3 c = search needs
@@ -91,16 +73,7 @@ mul-terms-4 : tie.Need-mul-terms-4 Inv-loop μ-loop
 mul-terms-4 c = search needs
 
 slice-write-terms-4 : tie.Need-slice-write-terms-4 Inv-loop μ-loop
-slice-write-terms-4 c =
-    let t = c .before .before .before .before .before .before .before .loop .terms in
-    let j = c .before .before .before .before .before .before .before .loop .j in
-    let x = c .before .norm-sqr .result in
-    let y = c .norm-sqr2 .result in
-    let z = c .before .before .mul .result in
-    let room = c .before .before .before .before .before .before .before .loop .inv .1 .room in
-    let below = c .before .before .before .before .before .before .loop-test .taken in
-    let few = c .before .before .before .before .before .before .before .before .before .before .pre .3 in
-    omega (arith, room, below, few, length-set t j x, length-set (set t j x) (32 + j) y, length-set (set (set t j x) (32 + j) y) (64 + j) (z .re))
+slice-write-terms-4 c = simp length-set (omega (arith, c .before .before .before .before .before .before .before .loop .inv .1 .room, c .before .before .before .before .before .before .loop-test .taken, c .before .before .before .before .before .before .before .before .before .before .pre .3))
 
 add-j : tie.Need-add-j Inv-loop μ-loop
 add-j c = search needs

@@ -1,0 +1,2 @@
+-- The laws of `kept_sums`.
+pub mod KeptSums
