@@ -34,6 +34,10 @@ extern "C" {
 double zg_sqrt(double x);
 /* The same on bit patterns; a NaN is 7FF8000000000000. */
 uint64_t zg_sqrt_bits(uint64_t bits);
+/* The modulus of re + i*im: both parts scaled by the power of two that brings the larger to at least 1 and under 2, the
+ * root of the sum of their squares, and that scaled back, each step rounded once. Two zeros give +0.0; with a part that is
+ * not finite it is the root of the sum of the squares unscaled. */
+double zg_modulus(double re, double im);
 /* The sign cleared, that of -0 too. */
 double zg_magnitude(double x);
 /* 1 for +0.0 and above, -1 for -0.0 and below, NaN for NaN. */

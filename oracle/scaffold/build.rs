@@ -1,6 +1,6 @@
 //! Copies the published files into the build folder, where the compiler finds them. Their text stays as it is, except that
 //! a module is added at the end that opens their private calls to the harness (`doors.rs`), and that the build named
-//! `replaced` writes the root of `norm_sqr` for each call of `norm`. The build named `counting` does that too, and counts
+//! `replaced` has the modulus of `modulus.rs` for each call of `norm`. The build named `counting` has that too, and counts
 //! the sweeps begun and the pairs turned.
 
 use std::path::{Path, PathBuf};
@@ -38,9 +38,6 @@ fn main() {
     for (file, name, norms) in FILES {
         let mut text = read(&root.join(file));
         assert_eq!(text.matches(".norm()").count(), norms, "calls of norm in {file}");
-        if build != "published" {
-            text = text.replace(".norm()", ".norm_sqr().sqrt()");
-        }
         if build == "counting" {
             for (mark, call) in [("let mut rotated = false;", "sweep"), ("rotated = true;", "turn")] {
                 let sweeping = matches!(name, "svd" | "schmidt");
@@ -48,9 +45,12 @@ fn main() {
                 text = text.replace(mark, &format!("{mark} crate::count::{call}();"));
             }
         }
-        let door = door_of(&doors, name);
+        text.push_str(&format!("\npub mod door {{\n{}}}\n", door_of(&doors, name)));
+        if build != "published" {
+            text = text.replace(".norm()", ".modulus()") + "\nuse crate::modulus::Modulus;\n";
+        }
         let copy = out.join(format!("{name}.rs"));
-        fs::write(&copy, format!("{text}\npub mod door {{\n{door}}}\n")).unwrap();
+        fs::write(&copy, text).unwrap();
         let module = format!("#[path = {copy:?}]\npub mod {name};\n");
         fs::write(out.join(format!("mod_{name}.rs")), module).unwrap();
     }

@@ -1,8 +1,12 @@
 //! What the supplied text lacks, so that its four files compile: the modules around them, stand-ins for the errors and
-//! limits that they name, `NORM_CLAMP_MIN` and `insert_zero_bit`. No arithmetic of the port stands here.
+//! limits that they name, `NORM_CLAMP_MIN` and `insert_zero_bit`. The modulus that two of the builds have for `norm` is in
+//! `modulus.rs`. No arithmetic of the port stands here.
 #![allow(dead_code, unused_imports)]
 
 pub use num_complex::Complex64;
+
+/// Used by the builds named `replaced` and `counting`.
+pub mod modulus;
 
 pub mod backend {
     /// Stand-in: the commit's value is not in the text supplied.

@@ -26,6 +26,12 @@ def norm_sqr(a):
     return a[0] * a[0] + a[1] * a[1]
 
 
+def modulus(a):
+    """Of two finite parts that are not both zero: scaled so that the larger is at least 1 and under 2, and back."""
+    power = math.frexp(max(abs(a[0]), abs(a[1])))[1] - 1
+    return math.ldexp(math.sqrt(norm_sqr((math.ldexp(a[0], -power), math.ldexp(a[1], -power)))), power)
+
+
 def turn(x, y, c, s, phase):
     """Two cells of the columns p and q, turned. Cosine and sine are complex numbers with imaginary part 0."""
     back = conjugate(phase)
@@ -49,7 +55,7 @@ def singular_values(columns):
                 if norm_sqr(pq) <= tolerance * pp * qq:
                     continue
                 turned = True
-                beta = math.sqrt(norm_sqr(pq))
+                beta = modulus(pq)
                 phase = (pq[0] / beta, pq[1] / beta)
                 tau = (qq - pp) / (2.0 * beta)
                 root = math.sqrt(1.0 + tau * tau)

@@ -3,7 +3,8 @@
 
 The square roots come from whole numbers: a float is a whole number of 2^-1074, the root of a * 2^-1074 is
 the root of a * 2^1074 in the same units, and isqrt gives its floor; of the two floats about it the nearer
-one is chosen by comparing squares. Nothing of the library is called and no hardware root is used.
+one is chosen by comparing squares. Each step of the modulus is a fraction of whole numbers, rounded
+once. Nothing of the library is called and no hardware root is used.
 Run it in the repository's root: python3 tools/vectors/numbers.py"""
 import math, random, struct
 
@@ -42,6 +43,29 @@ def root(bits):
     nearest = low if 4 * square < (low + high) ** 2 else high
     drop = max(nearest.bit_length() - 53, 0)
     return (drop << 52) + (nearest >> drop)
+
+
+def rounded(p, q):
+    """The pattern of the float nearest to p / q, which is at least 0; ties to even, +infinity above the floats."""
+    p <<= 1074
+    drop = max((p // q).bit_length() - 53, 0)
+    q <<= drop
+    nearest, rest = divmod(p, q)
+    nearest += 2 * rest > q or (2 * rest == q and nearest % 2)
+    return min((drop << 52) + nearest, INF)
+
+
+def modulus(re, im):
+    if re & ~SIGN >= INF or im & ~SIGN >= INF:
+        x, y = float_of(re), float_of(im)
+        return root(bits_of(x * x + y * y))
+    larger = max(units(re), units(im))
+    if larger == 0:
+        return 0
+    power = 1 << larger.bit_length() - 1        # in units too
+    scaled = [units(rounded(units(part), power)) for part in (re, im)]
+    squares = [units(rounded(x * x, 1 << 2148)) for x in scaled]
+    return rounded(units(root(rounded(sum(squares), 1 << 1074))) * power, 1 << 2148)
 
 
 def near(bits):
@@ -100,8 +124,37 @@ def arithmetic(words):
     ar, ai, br, bi = map(float_of, words)
     norm = ar * ar + ai * ai
     return [bits_of(v) for v in (ar * br - ai * bi, ar * bi + ai * br, ar + br, ai + bi, ar - br, ai - bi, -ar, -ai, ar, -ai,
-                                 norm)] + [root(bits_of(norm))] + \
+                                 norm)] + [modulus(*words[:2])] + \
         [bits_of(v) for v in (ar * br, ai * br, divide(ar, br), divide(ai, br))]
+
+
+def moduli():
+    """Pairs of parts for the modulus."""
+    def at(low, high):                          # an exponent's field from low to high
+        digits = random.choice([0, (1 << 52) - 1] + 4 * [random.getrandbits(52)])
+        return random.choice([0, SIGN]) | random.randint(low, high) << 52 | digits
+
+    def faint():
+        return random.choice([0, SIGN]) | random.getrandbits(random.randint(1, 52))
+
+    odd = [INF, INF | SIGN, NAN, INF + 1, NAN | SIGN]
+    edges = [0, 1, 2, 3, (1 << 52) - 1, 1 << 52, (1 << 52) + 1, bits_of(1e-170), bits_of(2.0 ** -27), bits_of(2.0 ** -26),
+             bits_of(1.0), bits_of(2.0 ** 512), INF - 1]
+    yield from ((a, b) for a in (0, SIGN) for b in (0, SIGN))
+    yield from ((a, random.choice([0, SIGN]) | b) for a in edges for b in edges)
+    for _ in range(50):
+        yield faint(), faint()                  # both below the normal range
+        yield at(0, 2), at(0, 2)                # about its begin
+        yield bits_of(random.uniform(-1e-169, 1e-169)), bits_of(random.uniform(-1e-169, 1e-169))
+        yield at(1, 511), at(1, 511)            # squares that underflow
+        yield at(1535, 2046), at(1535, 2046)    # squares that overflow
+        yield at(2045, 2046), at(2045, 2046)    # results that may
+        yield at(0, 2046), at(0, 2046)
+        high, apart = random.randint(61, 2046), random.randint(20, 60)
+        yield at(high - apart, high - apart), at(high, high)
+        yield random.choice([0, SIGN]), at(0, 2046)
+        yield random.choice(odd), random.choice(odd + drawn)
+        yield bits_of(random.uniform(-1, 1)), bits_of(random.uniform(-1, 1))
 
 
 cases = [(1, [b], [root(b), root(NAN if float_of(b) != float_of(b) else b)]) for b in root_inputs()]
@@ -111,10 +164,13 @@ cases += [(3, [a, b], [order(a, b)]) for a in drawn[:24] for b in drawn[:24]]
 for _ in range(200):
     words = [random.choice(drawn) for _ in range(4)]
     cases.append((4, words, arithmetic(words)))
+for parts in moduli():
+    words = [*parts, random.choice(drawn), random.choice(drawn)]
+    cases.append((4, words, arithmetic(words)))
 
 with open('crates/numbers_cases/stdin', 'w') as cases_file, open('crates/numbers_cases/stdout', 'w') as expected:
-    print(f'# {len(cases)} cases of the number helpers and the complex record, {sum(k == 1 for k, _, _ in cases)} of them square roots.', file=cases_file)
-    print(f'# Made by tools/vectors/numbers.py with seed {SEED}: roots by whole numbers, the rest by IEEE 754 doubles.', file=cases_file)
+    print(f'# {len(cases)} cases of the number helpers and the complex record, {sum(k == 1 for k, _, _ in cases)} of them square roots and {sum(k == 4 for k, _, _ in cases)} with a modulus.', file=cases_file)
+    print(f'# Made by tools/vectors/numbers.py with seed {SEED}: roots and moduli by whole numbers, the rest by IEEE 754 doubles.', file=cases_file)
     for kind, words, answer in cases:
         print(kind, *('%X' % w for w in words), file=cases_file)
         print(''.join('%016X ' % w for w in answer), file=expected)

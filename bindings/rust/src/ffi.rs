@@ -3,6 +3,7 @@
 extern "C" {
     pub fn zg_sqrt(x: f64) -> f64;
     pub fn zg_sqrt_bits(bits: u64) -> u64;
+    pub fn zg_modulus(re: f64, im: f64) -> f64;
     pub fn zg_magnitude(x: f64) -> f64;
     pub fn zg_sign(x: f64) -> f64;
     pub fn zg_is_finite(x: f64) -> bool;

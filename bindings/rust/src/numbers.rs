@@ -17,6 +17,17 @@ pub fn sqrt_bits(bits: u64) -> u64 {
     unsafe { ffi::zg_sqrt_bits(bits) }
 }
 
+/// The modulus of `re + i im`. Both parts are scaled so that the larger is at least 1 and under 2, and the root of the sum of
+/// their squares is scaled back: tiny parts are not lost and huge ones do not overflow on the way.
+///
+/// ```
+/// assert_eq!(zegrafult::modulus(3e-200, -4e-200), 5e-200);
+/// assert_eq!(zegrafult::modulus(-0.0, -0.0).to_bits(), 0);
+/// ```
+pub fn modulus(re: f64, im: f64) -> f64 {
+    unsafe { ffi::zg_modulus(re, im) }
+}
+
 /// The sign cleared, that of -0 too.
 pub fn magnitude(x: f64) -> f64 {
     unsafe { ffi::zg_magnitude(x) }

@@ -1,7 +1,6 @@
 -- Complex arithmetic on a record of two floats, as 01 has it: each operation of binary64 rounded once, in this order. Assumes nothing.
 use lib.Ieee as Ieee
 use lib.Ieee.{Float, binary64}
-use Rattle.numbers.specs.Root.{sqrtOf}
 use Rattle.complex.specs.declared.Complex.{Complex}
 
 abbrev pub complexOf : Float → Float → Complex
@@ -37,8 +36,3 @@ quotient a k = complexOf (Ieee.div binary64 (a .re) k) (Ieee.div binary64 (a .im
 -- re*re + im*im
 unfoldable pub normSqr : Complex → Float
 normSqr a = Ieee.add binary64 (Ieee.mul binary64 (a .re) (a .re)) (Ieee.mul binary64 (a .im) (a .im))
-
--- the modulus: the root of norm_sqr
-unfoldable pub modulusOf : Complex → Float
-unfolding normSqr
-modulusOf a = sqrtOf (normSqr a)

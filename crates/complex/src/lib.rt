@@ -2,7 +2,7 @@
 ghost use mathlib.Core.Path.{_≡_};
 ghost use Prim.Native.Nat.{_+_, _*_, _<_, _≤_};
 ghost use lib.ListN.{length};
-ghost use Rattle.complex.specs.Arithmetic.{complexOf, product, sum, difference, negation, conjugate, scaled, quotient, normSqr, modulusOf};
+ghost use Rattle.complex.specs.Arithmetic.{complexOf, product, sum, difference, negation, conjugate, scaled, quotient, normSqr};
 ghost use Rattle.complex.specs.Cells.{cellAt, setCell};
 ghost use Rattle.complex.specs.Planes.{planeAt, setPlane};
 ghost use Rattle.complex.specs.Zeros.{zeroed};
@@ -88,13 +88,6 @@ impl Complex {
         ensures { λ r. ⌜ r ≡ normSqr self ⌝ }
     {
         self.re * self.re + self.im * self.im
-    }
-
-    // The root of norm_sqr: the one place that says what a modulus is.
-    pub fn modulus(self) -> f64
-        ensures { λ r. ⌜ r ≡ modulusOf self ⌝ }
-    {
-        numbers::sqrt(self.norm_sqr())
     }
 }
 

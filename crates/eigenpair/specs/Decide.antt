@@ -6,7 +6,8 @@ use lib.Ieee.{Float, binary64, ofBits}
 use Rattle.numbers.specs.Numbers.{magnitudeOf, signOf, oneFloat}
 use Rattle.numbers.specs.Root.{sqrtOf}
 use Rattle.complex.specs.declared.Complex.{Complex}
-use Rattle.complex.specs.Arithmetic.{quotient, modulusOf}
+use Rattle.complex.specs.Arithmetic.{quotient}
+use Rattle.modulus.specs.Modulus.{modulusOf}
 use Rattle.pairs.specs.declared.Decision.{Decision}
 use Rattle.pairs.specs.declared.Decision.the-variants.{Leave, Turn}
 

@@ -54,7 +54,7 @@ pub fn decide(apq: Complex, app: f64, aqq: f64, largest: f64) -> Decision
     ensures { λ r. ⌜ verdict r ≡ verdict (decisionOf apq app aqq largest) ⌝ }
 {
     let near = roots::guess_roots(aqq - app, apq.norm_sqr());
-    let modulus = pairs::modulus_near(apq, near.modulus);
+    let modulus = modulus::modulus_near(apq, near.modulus);
     if left_alone(modulus, app, aqq, largest) {
         return Decision::Leave;
     }

@@ -3,6 +3,7 @@
 // The contract of each is its entry point's: some answer has that number and that place, and with it the
 // entry point's contract holds.
 use answers::Answer;
+use complex::Complex;
 ghost use mathlib.Core.Path.{_≡_};
 ghost use Rattle.answers.specs.Paper.{paper, andThen};
 ghost use Prim.Native.Nat.{_≤_, _*_};
@@ -10,6 +11,8 @@ ghost use lib.ListN.{length};
 ghost use Rattle.exports.specs.Told.{Told, Exported, ExportedWith};
 ghost use lib.Ieee.{binary64, toBits, ofBits};
 ghost use Rattle.numbers.specs.Root.{sqrtOf};
+ghost use Rattle.complex.specs.Arithmetic.{complexOf};
+ghost use Rattle.modulus.specs.Modulus.{modulusOf};
 ghost use Rattle.numbers.specs.Numbers.{magnitudeOf, signOf, finite, totalOrder, orderNumber, allowed, totalLess};
 ghost use Rattle.qubits.specs.Lists.{qubitSet, subsystem};
 ghost use Rattle.offsets.specs.Calls.{RowOffsets, TracedBase};
@@ -110,6 +113,14 @@ pub extern "C" fn zg_total_less(x: f64, y: f64) -> bool
     ensures { λ r. ⌜ r ≡ totalLess x y ⌝ }
 {
     numbers::total_less(x, y)
+}
+
+// The modulus of the complex number re + i im.
+#[no_mangle]
+pub extern "C" fn zg_modulus(re: f64, im: f64) -> f64
+    ensures { λ r. ⌜ r ≡ modulusOf (complexOf re im) ⌝ }
+{
+    modulus::modulus(Complex { re, im })
 }
 
 // ---- lists of qubits

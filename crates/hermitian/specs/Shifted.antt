@@ -6,7 +6,8 @@ use lib.Dec.{eqb}
 use lib.IntN.{pos}
 use lib.Ieee.{Float, binary64, add, mul, lt, ofInt}
 use Rattle.complex.specs.declared.Complex.{Complex}
-use Rattle.complex.specs.Arithmetic.{complexOf, modulusOf}
+use Rattle.complex.specs.Arithmetic.{complexOf}
+use Rattle.modulus.specs.Modulus.{modulusOf}
 use Rattle.complex.specs.Cells.{cellAt, cellsOf}
 use Rattle.complex.specs.Zeros.{zeroFloat}
 use Rattle.numbers.specs.Numbers.{oneFloat}

@@ -9,7 +9,7 @@ use lib.Dec.{eqb}
 use lib.Ieee.{Float}
 use lib.Seq.{drop-nil}
 use Rattle.complex.specs.declared.Complex.{Complex}
-use Rattle.complex.specs.Arithmetic.{modulusOf}
+use Rattle.modulus.specs.Modulus.{modulusOf}
 use Rattle.complex.specs.Cells.{cellAt, cellsOf, written}
 use Rattle.complex.specs.CellLaws.{cell-written}
 use Rattle.complex.specs.Zeros.{zeroFloat}

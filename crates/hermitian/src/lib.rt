@@ -9,7 +9,6 @@ ghost use Prim.Native.Nat.{_*_, _<_, _≤_};
 ghost use lib.ListN.{length, getD, take};
 ghost use lib.Ieee.{nan, binary64, sub};
 ghost use Rattle.answers.specs.Paper.{paper};
-ghost use Rattle.complex.specs.Arithmetic.{modulusOf};
 ghost use Rattle.loading.specs.Numbers.{numbersOf};
 ghost use Rattle.loading.specs.Loading.{planesOf, planesTo};
 ghost use Rattle.order.specs.Places.{Places, placesIn};
@@ -30,15 +29,6 @@ fn larger_of(a: f64, b: f64) -> f64
     a
 }
 
-// The modulus, by a guess from the square alone.
-fn modulus_of(z: Complex) -> f64
-    ensures { λ r. ⌜ r ≡ modulusOf z ⌝ }
-{
-    let x = z.norm_sqr();
-    let y = roots::reciprocal_near(x);
-    pairs::modulus_near(z, roots::sharpened(x, x * y, y))
-}
-
 // The largest modulus of c cells, at least +0.0.
 fn peak(matrix: &[f64], c: usize) -> f64
     requires { ⌜ length (now matrix) ≡ 2 * c ⌝ }
@@ -47,7 +37,7 @@ fn peak(matrix: &[f64], c: usize) -> f64
     let mut most = 0.0;
     for i in 0..c {
         let z = complex::read_cell(matrix, i);
-        most = larger_of(most, modulus_of(z));
+        most = larger_of(most, modulus::modulus(z));
     }
     most
 }

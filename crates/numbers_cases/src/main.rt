@@ -77,7 +77,7 @@ fn arithmetic(text: &[u8], at: usize) -> usize {
     print_complex(a.neg());
     print_complex(a.conj());
     replay::print_word(bits::bits_of(a.norm_sqr()));
-    replay::print_word(bits::bits_of(a.modulus()));
+    replay::print_word(bits::bits_of(modulus::modulus(a)));
     print_complex(a.scale(b.re));
     print_complex(a.div_real(b.re));
     past(text, next)

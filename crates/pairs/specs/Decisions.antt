@@ -9,7 +9,8 @@ use lib.Ieee as Ieee
 use lib.Ieee.{Float, binary64, ofBits}
 use Rattle.numbers.specs.Root.{sqrtOf}
 use Rattle.complex.specs.declared.Complex.{Complex}
-use Rattle.complex.specs.Arithmetic.{complexOf, quotient, normSqr, modulusOf}
+use Rattle.complex.specs.Arithmetic.{complexOf, quotient, normSqr}
+use Rattle.modulus.specs.Modulus.{modulusOf}
 use Rattle.complex.specs.Zeros.{zeroFloat}
 use Rattle.pairs.specs.Signs.{not-both, none}
 use Rattle.gram.specs.declared.GramSums.{GramSums}

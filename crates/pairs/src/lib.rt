@@ -6,7 +6,7 @@ use roots::Guesses;
 ghost use mathlib.Core.Path.{_≡_};
 ghost use Prim.Native.Nat.{_+_, _*_, _<_, _≤_};
 ghost use lib.ListN.{length};
-ghost use Rattle.complex.specs.Arithmetic.{modulusOf, scaled};
+ghost use Rattle.complex.specs.Arithmetic.{scaled};
 ghost use Rattle.complex.specs.Zeros.{zeroFloat};
 ghost use Rattle.pairs.specs.Decisions.{verdict, decisionOf, tangentOf, turnAt};
 ghost use Rattle.pairs.specs.Turns.{factorsOf, newP, newQ, turnRow, turnRows, applied};
@@ -24,13 +24,6 @@ pub enum Decision {
         sine: f64,
         phase: Complex,
     },
-}
-
-// The modulus of z, for which t is a guess.
-pub fn modulus_near(z: Complex, t: f64) -> f64
-    ensures { λ r. ⌜ r ≡ modulusOf z ⌝ }
-{
-    roots::root_near(z.norm_sqr(), t)
 }
 
 // The tangent of the angle: the one of smaller magnitude.
@@ -74,7 +67,7 @@ pub fn decide(g: GramSums) -> Decision
         return Decision::Leave;
     }
     let near = roots::guess_roots(g.qq - g.pp, off);
-    let beta = modulus_near(g.pq, near.modulus);
+    let beta = modulus::modulus_near(g.pq, near.modulus);
     let tau = (g.qq - g.pp) / (2.0 * beta);
     turn_at(g.pq, beta, tangent(tau, near), near)
 }

@@ -1,6 +1,6 @@
 //! The port against the published Rust: the same calls to both, every answer, place, value and lent cell compared.
 //!
-//!     compare SEED COUNT         every small shape, then COUNT drawn calls of each entry point
+//!     compare SEED COUNT         every small shape, then COUNT drawn calls of each entry point, 40 times as many moduli
 //!     compare replay FILE        the calls of FILE, one to a line, as a mismatch prints them
 //!
 //! It ends with status 1 on a mismatch and where the library lacks an entry point. The last line has the count of calls and the seed.
@@ -16,6 +16,9 @@ use harness::small;
 
 /// How many mismatches are shown in full.
 const SHOWN: usize = 20;
+
+/// How many moduli are drawn for one call of another entry point: they take no time.
+const MODULI: usize = 40;
 
 #[derive(Default)]
 struct Tally {
@@ -88,6 +91,7 @@ fn run(seed: u64, count: usize) -> Tally {
         }
         small::each(entry, &mut |call| tally.see(&call));
         let rng = &mut Random::new(seed ^ (entry as u64) << 32);
+        let count = if entry == Entry::modulus { MODULI * count } else { count };
         for drawn in 0..count {
             let bounds = bounds(rng);
             tally.see(&cases::any(rng, entry, bounds));

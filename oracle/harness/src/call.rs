@@ -48,6 +48,7 @@ entries! {
     component_allowed,
     total_less,
     total_order,
+    modulus,
 }
 
 /// What an argument is. Lent slices that a call may write are `mut`.
@@ -94,7 +95,7 @@ impl Entry {
             fill_scaled_vt_data => &[Floats, Floats, Word, Word, Word, Word, MutFloats],
             sqrt | magnitude | sign | is_finite | component_allowed => &[Float],
             sqrt_bits => &[Word],
-            total_less | total_order => &[Float, Float],
+            total_less | total_order | modulus => &[Float, Float],
         }
     }
 

@@ -1,6 +1,7 @@
 //! Inputs: matrices, states and lists of every kind that the paper's sizes allow, and calls damaged in one or two places.
 
 use crate::call::{Arg, Call, Entry, Entry::*, Kind};
+use crate::oracle::NAN;
 use crate::random::Random;
 use crate::table::{self, LARGEST, Role};
 
@@ -349,6 +350,110 @@ pub fn any_bits(rng: &mut Random) -> u64 {
     }
 }
 
+/// How the two parts of a complex number are drawn, for its modulus.
+#[derive(Clone, Copy, Debug, PartialEq, Eq)]
+pub enum Parts {
+    /// In (-1, 1).
+    Ordinary,
+    /// Whole numbers of up to ten digits.
+    Integers,
+    /// The larger below 2^-511: its square is not a normal float.
+    Underflow,
+    /// About 1e-170.
+    Dim,
+    /// The larger at 2^512 or above: its square is infinite.
+    Overflow,
+    /// Exponents that are 20 to 60 apart.
+    Near,
+    /// Any two exponents.
+    Apart,
+    /// One part zero, of either sign.
+    Axis,
+    /// Two zeros of any signs.
+    Nothing,
+    /// Both below the normal range.
+    Subnormal,
+    /// About where the normal range begins.
+    Least,
+    /// The two largest exponents: the result may be above the floats.
+    Largest,
+    /// One part or both infinite or NaN.
+    NotFinite,
+}
+
+pub const PARTS: [Parts; 13] = [
+    Parts::Ordinary,
+    Parts::Integers,
+    Parts::Underflow,
+    Parts::Dim,
+    Parts::Overflow,
+    Parts::Near,
+    Parts::Apart,
+    Parts::Axis,
+    Parts::Nothing,
+    Parts::Subnormal,
+    Parts::Least,
+    Parts::Largest,
+    Parts::NotFinite,
+];
+
+/// A float of either sign whose exponent's field is one of `low` to `high`; its digits are random, or the first or last.
+fn with_field(rng: &mut Random, low: usize, high: usize) -> u64 {
+    let field = rng.within(low, high) as u64;
+    let digits = (1 << 52) - 1;
+    let fraction = match rng.below(12) {
+        0 => 0,
+        1 => digits,
+        2 => rng.below(4) as u64,
+        // Few digits, so that squares and their sum are exact or ties.
+        3 => rng.bits() & digits & !((1 << rng.within(20, 51)) - 1),
+        _ => rng.bits() & digits,
+    };
+    rng.bits() & 1 << 63 | field << 52 | fraction
+}
+
+/// A float below the normal range, of either sign and any length.
+fn subnormal(rng: &mut Random) -> u64 {
+    let size = rng.bits() & ((1 << 52) - 1);
+    rng.bits() & 1 << 63 | size >> rng.below(52)
+}
+
+/// The bits of the two parts of a complex number, either one the larger.
+pub fn parts(rng: &mut Random, kind: Parts) -> [u64; 2] {
+    let two = |rng: &mut Random, low, high| [with_field(rng, low, high), with_field(rng, low, high)];
+    let zero = |rng: &mut Random| rng.bits() & 1 << 63;
+    let mut both = match kind {
+        Parts::Ordinary => [rng.unit().to_bits(), rng.unit().to_bits()],
+        Parts::Integers => [0, 1].map(|_| {
+            let end = rng.pick(&[10usize, 1000, 10_000_000_000]);
+            let x = rng.below(end) as f64;
+            signed(rng, x).to_bits()
+        }),
+        Parts::Underflow => two(rng, 1, 511),
+        Parts::Dim => two(rng, 450, 466),
+        Parts::Overflow => two(rng, 1535, 2044),
+        Parts::Near => {
+            let (field, apart) = (rng.within(61, 2045), rng.within(20, 60));
+            [with_field(rng, field, field), with_field(rng, field - apart, field - apart)]
+        }
+        Parts::Apart => two(rng, 0, 2046),
+        Parts::Axis => [with_field(rng, 0, 2046), zero(rng)],
+        Parts::Nothing => [zero(rng), zero(rng)],
+        Parts::Subnormal => [subnormal(rng), subnormal(rng)],
+        Parts::Least => [with_field(rng, 0, 2), if rng.chance(2) { subnormal(rng) } else { with_field(rng, 0, 2) }],
+        Parts::Largest => two(rng, 2045, 2046),
+        Parts::NotFinite => {
+            let odd = [0x7FF << 52, 0xFFF << 52, NAN, NAN | 1 << 63, 0x7FF << 52 | 1, u64::MAX];
+            let other = if rng.chance(2) { rng.pick(&odd) } else { any_bits(rng) };
+            [rng.pick(&odd), other]
+        }
+    };
+    if rng.chance(2) {
+        both.swap(0, 1);
+    }
+    both
+}
+
 /// A list of singular values as a caller would have it, or anything.
 fn singular_list(rng: &mut Random) -> Vec<u64> {
     let length = rng.below(9);
@@ -496,6 +601,10 @@ pub fn accepted(rng: &mut Random, entry: Entry, bounds: Bounds) -> Call {
             let a = any_bits(rng);
             let b = if rng.chance(3) { a.wrapping_add(rng.below(3) as u64).wrapping_sub(1) } else { any_bits(rng) };
             Call::new(entry, vec![Arg::One(a), Arg::One(b)])
+        }
+        modulus => {
+            let kind = rng.pick(&PARTS);
+            Call::new(entry, parts(rng, kind).map(Arg::One).to_vec())
         }
     }
 }

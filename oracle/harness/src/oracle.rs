@@ -15,7 +15,7 @@ pub struct Result {
     pub empty: bool,
 }
 
-/// The published text, or the one with `norm` replaced.
+/// The published text, or the one with `norm` replaced by the modulus of `scaffold/modulus.rs`.
 #[derive(Clone, Copy, Debug, PartialEq, Eq)]
 pub enum Build {
     Published,
@@ -65,6 +65,7 @@ macro_rules! build {
                     sqrt | sqrt_bits | magnitude | sign | is_finite | component_allowed | total_less | total_order => {
                         done(number_helper(call), vec![])
                     }
+                    modulus => done(one_nan(svd::norm(Complex64::new(call.float(0), call.float(1)))), vec![]),
                 }
             }
 

@@ -147,7 +147,7 @@ fn matrices(rng: &mut Random, entry: Entry, calls: &mut Vec<Call>) {
     for exponent in [200, 100, -268, -269, -270, -280, -536, -537, -538, -1074] {
         calls.push(on_matrix(rng, entry, &whole(&[power(exponent); 4]), 2, 2));
     }
-    // A pair whose phase the paper's modulus makes longer than 1, and sweeps that never grow quiet.
+    // A pair whose phase the root of norm_sqr would make longer than 1, and sweeps that never grow quiet.
     calls.push(on_matrix(rng, entry, &whole(&[0.0, 0.0, -1.0, -1.0, -1.0, -1.0, -1.0, -1.0, 0.0]), 3, 3));
     calls.push(on_matrix(rng, entry, &whole(&[1.0; 18]), 3, 6));
     calls.push(on_matrix(rng, entry, &whole(&[0.0; 4]), 2, 2));

@@ -288,7 +288,7 @@ fn on_numbers(entry: Entry, see: &mut impl FnMut(Call)) {
     words.extend([edge - 1, edge, edge + 1]);
     let signed: Vec<u64> = words.iter().flat_map(|&word| [word, word | 1 << 63]).collect();
     for (at, &word) in signed.iter().enumerate() {
-        if matches!(entry, total_less | total_order) {
+        if matches!(entry, total_less | total_order | modulus) {
             for other in [signed[(at + 1) % signed.len()], word, word ^ 1 << 63, signed[(at * 31 + 7) % signed.len()]] {
                 see(Call::new(entry, vec![Arg::One(word), Arg::One(other)]));
             }
@@ -296,12 +296,35 @@ fn on_numbers(entry: Entry, see: &mut impl FnMut(Call)) {
             see(Call::new(entry, vec![Arg::One(word)]));
         }
     }
+    if entry == modulus {
+        pairs_at_edges(see);
+    }
     if matches!(entry, sqrt | sqrt_bits) {
         // Squares and their neighbours, where a root is exact or just not.
         for x in 1..=2000u64 {
             let square = ((x * x) as f64).to_bits();
             for word in [square - 1, square, square + 1] {
                 see(Call::new(entry, vec![Arg::One(word)]));
+            }
+        }
+    }
+}
+
+/// Every pair of parts at an edge: of the range, of the subnormal numbers, of squares, of what a square leaves in the sum.
+fn pairs_at_edges(see: &mut impl FnMut(Call)) {
+    let mut words =
+        vec![0, 1, 2, 3, f64::INFINITY.to_bits(), f64::NAN.to_bits(), f64::MAX.to_bits(), 1e-170f64.to_bits()];
+    for exponent in
+        [-1074, -1073, -1023, -1022, -1021, -565, -538, -537, -511, -54, -53, -27, -26, 0, 1, 511, 512, 1022, 1023]
+    {
+        let word = cases::power(exponent).to_bits();
+        words.extend([word - 1, word, word + 1]);
+    }
+    for &a in &words {
+        for &b in &words {
+            for signs in 0..4u64 {
+                let parts = [a | (signs & 1) << 63, b | (signs >> 1) << 63];
+                see(Call::new(modulus, parts.map(Arg::One).to_vec()));
             }
         }
     }
@@ -333,7 +356,7 @@ pub fn each(entry: Entry, see: &mut impl FnMut(Call)) {
         | fill_scaled_u_site_data
         | fill_vt_site_data
         | fill_scaled_vt_data => on_bonds(rng, entry, see),
-        sqrt | sqrt_bits | magnitude | sign | is_finite | component_allowed | total_less | total_order => {
+        sqrt | sqrt_bits | magnitude | sign | is_finite | component_allowed | total_less | total_order | modulus => {
             on_numbers(entry, see)
         }
     }

@@ -102,7 +102,8 @@ fn sizes_allowed(call: &Call) -> bool {
         | is_finite
         | component_allowed
         | total_less
-        | total_order => true,
+        | total_order
+        | modulus => true,
     }
 }
 
@@ -152,7 +153,9 @@ pub fn roles(call: &Call) -> Vec<Role> {
             vec![Free]
         }
         cut_rank | widest_block_cut => vec![],
-        sqrt | sqrt_bits | magnitude | sign | is_finite | component_allowed | total_less | total_order => vec![],
+        sqrt | sqrt_bits | magnitude | sign | is_finite | component_allowed | total_less | total_order | modulus => {
+            vec![]
+        }
         _ => list_roles(call),
     }
 }

@@ -43,6 +43,7 @@ unsafe extern "C" {
     pub fn zg_total_less(x: f64, y: f64) -> bool;
     pub fn zg_total_order(x: f64, y: f64) -> u32;
     pub fn zg_component_allowed(x: f64) -> bool;
+    pub fn zg_modulus(re: f64, im: f64) -> f64;
 }
 
 /// A call made ready: copies of its slices, each between guard words. It may be made again and again on the same copies.
@@ -191,6 +192,7 @@ impl Ready<'_> {
             is_finite => ask!(has_zg_is_finite, { self.value = u64::from(zg_is_finite(call.float(0))); never(p) }),
             component_allowed => ask!(has_zg_component_allowed, { self.value = u64::from(zg_component_allowed(call.float(0))); never(p) }),
             total_less => ask!(has_zg_total_less, { self.value = u64::from(zg_total_less(call.float(0), call.float(1))); never(p) }),
+            modulus => ask!(has_zg_modulus, { self.value = zg_modulus(call.float(0), call.float(1)).to_bits(); never(p) }),
             total_order => ask!(has_zg_total_order, { self.value = u64::from(zg_total_order(call.float(0), call.float(1))); never(p) }),
         }
     }

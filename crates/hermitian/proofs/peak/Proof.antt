@@ -21,8 +21,8 @@ loop-holds c = (search needs, peak-none _)
 read-cell-requires : tie.Need-read-cell-requires Inv-loop μ-loop
 read-cell-requires c κs = search needs
 
-modulus-of-requires : tie.Need-modulus-of-requires Inv-loop μ-loop
-modulus-of-requires c κs = search needs
+modulus-requires : tie.Need-modulus-requires Inv-loop μ-loop
+modulus-requires c κs = search needs
 
 larger-of-requires : tie.Need-larger-of-requires Inv-loop μ-loop
 larger-of-requires c κs = search needs
@@ -34,7 +34,7 @@ loop-less : tie.Need-loop-less Inv-loop μ-loop
 loop-less c = search needs
 
 loop-again : tie.Need-loop-again Inv-loop μ-loop
-loop-again c = (search needs, c .larger-of .ensures ∙ peak-more _ _ (c .before .before .before .before .loop .inv .1) (c .before .before .read-cell .ensures) (c .before .modulus-of .ensures))
+loop-again c = (search needs, c .larger-of .ensures ∙ peak-more _ _ (c .before .before .before .before .loop .inv .1) (c .before .before .read-cell .ensures) (c .before .modulus .ensures))
 
 returns : tie.Need-returns Inv-loop μ-loop
 returns c = stop (peakTo (now (c .before .before .before .args .matrix))) (c .before .loop .inv .1) (search needs) (search needs)
@@ -47,7 +47,7 @@ peak-spec =
     μ-loop
     loop-holds
     read-cell-requires
-    modulus-of-requires
+    modulus-requires
     larger-of-requires
     add-i
     loop-less

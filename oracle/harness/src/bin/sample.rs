@@ -8,7 +8,7 @@ use harness::oracle::{Build, outcome};
 use harness::sample;
 
 /// How the oracle's part of a text starts.
-const HEAD: &str = "# Answers of the published Rust, build replaced (norm is the root of norm_sqr), ";
+const HEAD: &str = "# Answers of the published Rust, build replaced";
 
 /// What a folder has from another hand: the text up to the oracle's part, and the lines that it prints.
 fn kept(folder: &str) -> (String, String) {
@@ -26,7 +26,9 @@ fn main() {
     let [kind, seed, folder] = &args[..] else { panic!("usage: sample KIND SEED FOLDER") };
     let calls = sample::cases_of(kind, seed.parse().expect("a seed"));
     let (mut asked, mut printed) = kept(folder);
-    asked.push_str(&format!("{HEAD}seed {seed}.\n# Made by: oracle/sample {kind} {seed}\n"));
+    asked.push_str(&format!(
+        "{HEAD} (norm is the modulus that scales first), seed {seed}.\n# Made by: oracle/sample {kind} {seed}\n"
+    ));
     let mut answers = BTreeMap::new();
     for call in &calls {
         asked.push_str(&sample::asked(kind, call));

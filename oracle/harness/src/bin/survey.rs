@@ -1,8 +1,9 @@
-//! What differs between the two builds, by kind of input: `survey SEED COUNT` prints a table, the smallest inputs of
-//! whole numbers that show a difference, and all states of four qubits with amplitudes 0 and 1.
+//! What differs between the two builds, by kind of input: `survey SEED COUNT` prints a table of the modulus itself beside
+//! `hypot`, with a hundred times COUNT pairs of each kind, a table of the calls, all states of four qubits with amplitudes 0
+//! and 1, and the smallest inputs of whole numbers that show a difference.
 
 use harness::call::{Arg, Call, Entry, Entry::*, Outcome};
-use harness::cases::{self, STYLES, lent, numbers, one};
+use harness::cases::{self, PARTS, STYLES, lent, numbers, one};
 use harness::oracle::{Build, outcome};
 use harness::random::Random;
 use harness::table::{self, Role};
@@ -113,6 +114,56 @@ fn with_lent(rng: &mut Random, entry: Entry, mut args: Vec<Arg>) -> Call {
         }
     }
     call
+}
+
+/// The modulus as published and the one that replaces it, as bits.
+fn moduli(parts: [u64; 2]) -> (u64, u64) {
+    let (a, b) = both(&Call::new(modulus, parts.map(Arg::One).to_vec()));
+    (a.value, b.value)
+}
+
+/// The modulus itself by kind of parts: how many floats lie between the two, and how often only one of them is finite or NaN.
+fn parts(seed: u64, count: usize) {
+    println!("| parts | pairs | differ | by one float | by more | most | only one finite | only one NaN |");
+    println!("|---|---|---|---|---|---|---|---|");
+    for kind in PARTS {
+        let mut rng = Random::new(seed);
+        let (mut differ, mut by_one, mut by_more, mut most, mut finite, mut nan) = (0, 0, 0, 0, 0, 0);
+        for _ in 0..100 * count {
+            let (a, b) = moduli(cases::parts(&mut rng, kind));
+            let of = |bits: u64| f64::from_bits(bits);
+            differ += usize::from(a != b);
+            if of(a).is_nan() != of(b).is_nan() {
+                nan += 1;
+            } else if of(a).is_finite() != of(b).is_finite() {
+                finite += 1;
+            } else {
+                by_one += usize::from(a.abs_diff(b) == 1);
+                by_more += usize::from(a.abs_diff(b) > 1);
+                most = most.max(a.abs_diff(b));
+            }
+        }
+        let pairs = 100 * count;
+        println!("| {kind:?} | {pairs} | {differ} | {by_one} | {by_more} | {most} | {finite} | {nan} |");
+    }
+    println!();
+    let mut found = None;
+    for total in 1..=100 {
+        walk(&mut vec![0; 2], 0, total, &mut |parts| {
+            let parts = [parts[0], parts[1]].map(|part| f64::from(part).to_bits());
+            if found.is_none() && moduli(parts).0 != moduli(parts).1 {
+                found = Some(parts);
+            }
+        });
+    }
+    match found {
+        Some(parts) => {
+            let (a, b) = moduli(parts);
+            println!("modulus: input {:?} published {a:016X} replaced {b:016X}", parts.map(f64::from_bits));
+        }
+        None => println!("modulus: none of the whole ones tried"),
+    }
+    println!();
 }
 
 fn matrices(seed: u64, count: usize) {
@@ -232,7 +283,9 @@ fn whole_states() {
     }
     row.print(dense_schmidt_values, "all 0/1 states of 4 qubits, list 0,1");
     println!();
-    show(&shown.expect("a state that moves"));
+    if let Some(call) = shown {
+        show(&call);
+    }
 }
 
 fn show(call: &Call) {
@@ -258,6 +311,7 @@ fn main() {
     let mut args = std::env::args().skip(1);
     let seed = args.next().map_or(1, |word| word.parse().expect("a seed"));
     let count = args.next().map_or(2000, |word| word.parse().expect("a count"));
+    parts(seed, count);
     println!("| call | kind | calls | differ | values move | far | other count | other answer | values | vectors |");
     println!("|---|---|---|---|---|---|---|---|---|---|");
     matrices(seed, count);
