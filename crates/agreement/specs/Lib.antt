@@ -1,9 +1,6 @@
 pub mod FromCut
-pub mod Once
-pub mod SameDensity
 pub mod Agreement
 pub mod Signs
 pub mod Across
 pub mod Reordered
 pub mod Renumbered
-pub mod Orders

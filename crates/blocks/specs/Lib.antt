@@ -1,4 +1,3 @@
 -- What the contracts of `blocks` cite.
 pub mod Factor
 pub mod FactorLaws
-pub mod AnswerLaws

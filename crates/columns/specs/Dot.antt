@@ -1,9 +1,7 @@
 -- The dot product of a basis column and a vector in four sums: row t of a whole quad of rows goes to the sum t % 4,
 -- a tail of at most three rows goes to the first sum, and the sums are joined as (0 + 1) + (2 + 3). Assumes nothing.
-use mathlib.Core.Path.{_≡_, refl}
 use mathlib.Core.List.{List}
 use Prim.Native.Nat.{ℕ, zero, suc, _+_, _*_, _/_, _%_}
-use native.Mathlib.Numerals.{add-one}
 use lib.Ieee.{Float}
 use Rattle.complex.specs.declared.Complex.{Complex}
 use Rattle.complex.specs.Arithmetic.{complexOf, product, sum, conjugate}
@@ -45,29 +43,3 @@ tailTo q o v s sums (suc k) = addFirst (tailTo q o v s sums k) (term q o v (s + 
 
 unfoldable pub dotOf : List Float → ℕ → List Float → ℕ → Complex
 dotOf q o v rows = joined (tailTo q o v (4 * (rows / 4)) (quadsTo q o v (rows / 4)) (rows % 4))
-
--- ---- laws
-
-pub quadsTo-none : (q : List Float) (o : ℕ) (v : List Float) → noSums ≡ quadsTo q o v 0
-unfolding quadsTo
-quadsTo-none q o v = refl
-
-pub quadsTo-more : (q : List Float) (o : ℕ) (v : List Float) (k : ℕ) {a b : Sums} {x y z w : Complex} → a ≡ quadsTo q o v k
-    → x ≡ term q o v (4 * k) → y ≡ term q o v (4 * k + 1) → z ≡ term q o v (4 * k + 2) → w ≡ term q o v (4 * k + 3)
-    → b ≡ addQuad a x y z w → b ≡ quadsTo q o v (k + 1)
-unfolding quadsTo
-quadsTo-more q o v k e f g h i j = rw (add-one, ← e, ← f, ← g, ← h, ← i) j
-
-pub tailTo-none : (q : List Float) (o : ℕ) (v : List Float) (s : ℕ) (a : Sums) → a ≡ tailTo q o v s a 0
-unfolding tailTo
-tailTo-none q o v s a = refl
-
-pub tailTo-more : (q : List Float) (o : ℕ) (v : List Float) (s : ℕ) (a : Sums) (k : ℕ) {b d : Sums} {x : Complex} → b ≡ tailTo q o v s a k
-    → x ≡ term q o v (s + k) → d ≡ addFirst b x → d ≡ tailTo q o v s a (k + 1)
-unfolding tailTo
-tailTo-more q o v s a k e f g = rw (add-one, ← e, ← f) g
-
-pub dot-made : (q : List Float) (o : ℕ) (v : List Float) (rows n j : ℕ) {a b : Sums} {r : Complex} → n ≡ rows / 4 → j ≡ rows % 4
-    → a ≡ quadsTo q o v n → b ≡ tailTo q o v (4 * n) a j → r ≡ joined b → r ≡ dotOf q o v rows
-unfolding dotOf
-dot-made q o v rows n j e f g h i = rw (← e, ← f, ← g, ← h) i

@@ -2,5 +2,4 @@
 pub mod Dot
 pub mod DotParts
 pub mod Columns
-pub mod ColumnLaws
 pub mod Woven

@@ -1,7 +1,5 @@
 -- What the contracts of `complex` cite.
 pub mod Arithmetic
 pub mod Cells
-pub mod CellLaws
 pub mod Planes
 pub mod Zeros
-pub mod Loops

@@ -1,9 +1,8 @@
 -- A matrix of c cells as planes: all real parts first and then all imaginary parts. Cell i is the numbers at i and c + i. Assumes nothing.
-use mathlib.Core.Path.{_≡_}
 use mathlib.Core.List.{List}
 use Prim.Native.Nat.{ℕ, _+_}
 use lib.Ieee.{Float, nan}
-use lib.ListN.{length, getD, set, length-set}
+use lib.ListN.{getD, set}
 use Rattle.complex.specs.declared.Complex.{Complex}
 use Rattle.complex.specs.Arithmetic.{complexOf}
 
@@ -12,7 +11,3 @@ planeAt xs c i = complexOf (getD xs i nan) (getD xs (c + i) nan)
 
 unfoldable pub setPlane : List Float → ℕ → ℕ → Complex → List Float
 setPlane xs c i z = set (set xs i (z .re)) (c + i) (z .im)
-
-pub length-setPlane : (xs : List Float) (c i : ℕ) (z : Complex) → length (setPlane xs c i z) ≡ length xs
-unfolding setPlane
-length-setPlane xs c i z = simp length-set

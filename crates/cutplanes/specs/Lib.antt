@@ -1,3 +1,2 @@
 -- What the contracts of `cutplanes` cite.
 pub mod CutPlanes
-pub mod CutPlanesLaws

@@ -1,4 +1,3 @@
 -- What the contracts of `diagonals` cite.
-pub mod OwnProduct
 pub mod Corners
 pub mod CornerRows

@@ -1,6 +1,5 @@
 -- The decision on a pair of a Hermitian matrix: leave it, or turn it with a real cosine, a real sine and a phase. Assumes nothing.
-use mathlib.Core.Path.{_≡_}
-use mathlib.Core.Bool.{Bool, true, false, cond}
+use mathlib.Core.Bool.{Bool, true, cond}
 use lib.Ieee as Ieee
 use lib.Ieee.{Float, binary64, ofBits}
 use Rattle.numbers.specs.Numbers.{magnitudeOf, signOf, oneFloat}
@@ -50,36 +49,3 @@ decisionOf apq app aqq largest =
     cond (leftAlone (modulusOf apq) app aqq largest)
     Leave
     (turnAt apq (modulusOf apq) (tangentOf (thetaOf app aqq (modulusOf apq))))
-
--- ---- a law for each way through the code
-
-pub tangent-made : (theta root s m : Float) → root ≡ hypotenuse theta → s ≡ signOf theta → m ≡ magnitudeOf theta
-    → Ieee.div binary64 s (Ieee.add binary64 m root) ≡ tangentOf theta
-unfolding tangentOf
-tangent-made theta root s m e f g = rw (e, f, g)
-
-pub turn-made : (apq : Complex) (modulus t root : Float) (phase : Complex) → root ≡ hypotenuse t → phase ≡ quotient apq modulus
-    → Turn (Ieee.div binary64 oneFloat root) (Ieee.mul binary64 t (Ieee.div binary64 oneFloat root)) phase ≡ turnAt apq modulus t
-unfolding turnAt
-turn-made apq modulus t root phase e f = rw (e, f)
-
-pub alone-pair : (modulus app aqq largest root m : Float) → m ≡ magnitudeOf (Ieee.mul binary64 app aqq) → root ≡ sqrtOf m
-    → Ieee.le modulus (Ieee.mul binary64 tolerance root) ≡ true → true ≡ leftAlone modulus app aqq largest
-unfolding leftAlone
-alone-pair modulus app aqq largest root m e f t = rw (← e, ← f, t)
-
-pub alone-largest : (modulus app aqq largest root m : Float) → m ≡ magnitudeOf (Ieee.mul binary64 app aqq) → root ≡ sqrtOf m
-    → Ieee.le modulus (Ieee.mul binary64 tolerance root) ≡ false → Ieee.le modulus (Ieee.mul binary64 tolerance largest) ≡ leftAlone modulus app aqq largest
-unfolding leftAlone
-alone-largest modulus app aqq largest root m e f t = rw (← e, ← f, t)
-
-pub decision-leave : (apq : Complex) (app aqq largest modulus : Float) {b : Bool} → modulus ≡ modulusOf apq
-    → b ≡ leftAlone modulus app aqq largest → b ≡ true → Leave ≡ decisionOf apq app aqq largest
-unfolding decisionOf
-decision-leave apq app aqq largest modulus e f t = rw (← e, ← f, t)
-
-pub decision-turn : (apq : Complex) (app aqq largest modulus t : Float) {b : Bool} {d : Decision} → modulus ≡ modulusOf apq
-    → b ≡ leftAlone modulus app aqq largest → b ≡ false → t ≡ tangentOf (thetaOf app aqq modulus) → d ≡ turnAt apq modulus t
-    → d ≡ decisionOf apq app aqq largest
-unfolding decisionOf
-decision-turn apq app aqq largest modulus t e f n g h = rw (← e, ← f, n, ← g) h

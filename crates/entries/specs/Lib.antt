@@ -1,5 +1,4 @@
 -- What the contracts of `entries` cite.
-pub mod CellChanges
 pub mod Squares
 pub mod Mirrored
 pub mod Entries

@@ -1,8 +1,6 @@
 -- What an exported call says of its answer. Assumes nothing.
 use mathlib.Core.Path.{_≡_}
-use Prim.Native.Nat.{ℕ, _≤_}
-use native.Mathlib.Omega.{arith}
-use Rattle.answers.specs.declared.Answer.the-variants.{Done, Size, OutOfRange, Twice, Empty, Whole, Length, Component, NoWeight, NotFinite, Malformed}
+use Prim.Native.Nat.{ℕ}
 use Rattle.answers.specs.declared.Answer.{Answer}
 use Rattle.answers.specs.Paper.{paper}
 
@@ -18,17 +16,3 @@ Exported contract number place = (a : Answer) × Told a number place × contract
 -- the same for a call that gives a further result, a count, rank, base or yes and no
 abbrev pub ExportedWith : {R W : Type 0} → (R → Answer) → (R → W) → (R → Type 0) → ℕ → ℕ → W → Type 0
 ExportedWith {R} answer value contract number place result = (k : R) × Told (answer k) number place × (result ≡ value k) × contract k
-
--- the table's numbers are small
-pub paper-small : (a : Answer) → paper a .0 ≤ 10
-paper-small Done = omega arith
-paper-small Size = omega arith
-paper-small (OutOfRange p) = omega arith
-paper-small (Twice p) = omega arith
-paper-small Empty = omega arith
-paper-small Whole = omega arith
-paper-small (Length p) = omega arith
-paper-small (Component p) = omega arith
-paper-small NoWeight = omega arith
-paper-small NotFinite = omega arith
-paper-small Malformed = omega arith

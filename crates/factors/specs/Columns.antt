@@ -1,10 +1,8 @@
 -- What is made of the columns after the sweeps: their norms, the columns scaled to length 1, V's columns conjugated, each in the order of the
 -- norms. Every float operation as the Rust has it. Assumes nothing.
-use mathlib.Core.Path.{_≡_, refl}
-use mathlib.Core.Bool.{Bool, true, cond}
+use mathlib.Core.Bool.{Bool, cond}
 use mathlib.Core.List.{List}
 use Prim.Native.Nat.{ℕ, zero, suc, _+_, _*_, _/_, _%_}
-use native.Mathlib.Numerals.{add-one}
 use lib.ListN.{getD}
 use lib.Ieee as Ieee
 use lib.Ieee.{Float, nan, binary64, ofBits, lt}
@@ -29,10 +27,6 @@ normsOf work rows side = numbersOf side (λ j. sqrtOf (squaresTo work (side * ro
 -- a norm at or below this leaves its column zero. The paper does not give the value: it stands in, and only that it is positive is used
 unfoldable pub normClampMin : Float
 normClampMin = ofBits binary64 0x39b4_484b_feeb_c2a0
-
-pub clamp-positive : lt zeroFloat normClampMin ≡ true
-unfolding normClampMin lt ofBits
-clamp-positive = refl
 
 -- a cell times the reciprocal of its column's norm
 unfoldable pub unitLength : Float → Complex → Complex
@@ -63,14 +57,3 @@ turnsOf v order side wide =
 -- the values, in order
 unfoldable pub sortedOf : List Float → List ℕ → ℕ → List Float
 sortedOf norms order side = numbersOf side (λ j. getD norms (getD order j 0) nan)
-
--- ---- laws
-
-pub squares-none : (work : List Float) (c at : ℕ) → zeroFloat ≡ squaresTo work c at 0
-unfolding squaresTo
-squares-none work c at = refl
-
-pub squares-more : (work : List Float) (c at k : ℕ) {x y : Float} {z : Complex} → x ≡ squaresTo work c at k → z ≡ planeAt work c (at + k) → y ≡ normSqr z
-    → Ieee.add binary64 x y ≡ squaresTo work c at (k + 1)
-unfolding squaresTo
-squares-more work c at k e f g = rw (add-one, ← e, ← f, g)

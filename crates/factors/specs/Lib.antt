@@ -1,3 +1,2 @@
 -- What the contracts of `factors` cite.
 pub mod Columns
-pub mod Grids

@@ -1,3 +1,2 @@
 -- What the contracts of `fills` cite.
 pub mod Sources
-pub mod SourceLaws

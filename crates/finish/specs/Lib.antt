@@ -1,4 +1,3 @@
 -- What the contracts of `finish` cite.
 pub mod Finish
 pub mod Outcome
-pub mod OutcomeLaws

@@ -1,8 +1,6 @@
 -- The Gram sums of two columns that start at the cells a and b of a matrix of c cells: over the rows below a count, in rising order, from +0.0. Assumes nothing.
-use mathlib.Core.Path.{_≡_, refl}
 use mathlib.Core.List.{List}
 use Prim.Native.Nat.{ℕ, zero, suc, _+_}
-use native.Mathlib.Numerals.{add-one}
 use lib.Ieee as Ieee
 use lib.Ieee.{Float, binary64}
 use Rattle.complex.specs.declared.Complex.{Complex}
@@ -27,11 +25,3 @@ oneRow g ap aq =
 unfoldable pub gramTo : List Float → ℕ → ℕ → ℕ → ℕ → GramSums
 gramTo xs c a b zero = noSums
 gramTo xs c a b (suc k) = oneRow (gramTo xs c a b k) (planeAt xs c (a + k)) (planeAt xs c (b + k))
-
-pub gramTo-none : (xs : List Float) (c a b : ℕ) → gramTo xs c a b 0 ≡ noSums
-unfolding gramTo
-gramTo-none xs c a b = refl
-
-pub gramTo-more : (xs : List Float) (c a b k : ℕ) → gramTo xs c a b (k + 1) ≡ oneRow (gramTo xs c a b k) (planeAt xs c (a + k)) (planeAt xs c (b + k))
-unfolding gramTo
-gramTo-more xs c a b k = rw add-one

@@ -1,4 +1,3 @@
 -- What the contracts of `gram_schmidt` cite.
 pub mod Room
 pub mod GramSchmidt
-pub mod GramSchmidtLaws

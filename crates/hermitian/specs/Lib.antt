@@ -1,7 +1,5 @@
 -- What the contracts of `hermitian` cite.
 pub mod Shifted
-pub mod ShiftedLaws
 pub mod Backward
 pub mod Hermitian
 pub mod Steps
-pub mod HermitianLaws

@@ -177,7 +177,7 @@ pub fn settle(work: &mut [f64], v: &mut [f64], m: usize, n: usize) -> Sweeps
 }
 
 // The same on the work matrix alone, where no V is wanted. The contract names an empty V; no V changes the work matrix or the
-// counts (`settled-alike`, specs/Values.antt).
+// counts (`settled-alike`, proofs/Values.antt).
 pub fn settle_alone(work: &mut [f64], m: usize, n: usize) -> Sweeps
     requires { ⌜ ValueRoom m n (length (now work)) ⌝ }
     ensures { λ r. ⌜ state (now (work .exit)) [] r ≡ settled m n (now (work .entry)) [] ⌝ }

@@ -1,4 +1,1 @@
 pub mod Submasks
-pub mod SubmaskLaws
-pub mod BitLaws
-pub mod Visits

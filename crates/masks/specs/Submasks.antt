@@ -9,11 +9,6 @@ unfoldable pub submaskAt : ℕ → ℕ → ℕ → ℕ
 submaskAt zero m j = 0
 submaskAt (suc n) m j = submaskAt n (m / 2) (j / 2 ^ (m % 2)) * 2 + min (m % 2) (j % 2)
 
--- how many submasks m has, among its n lowest digits
-unfoldable pub submaskCount : ℕ → ℕ → ℕ
-submaskCount zero m = 1
-submaskCount (suc n) m = submaskCount n (m / 2) * 2 ^ (m % 2)
-
 -- the way back: the digits of x that stand where m has a 1, packed
 unfoldable pub submaskNumber : ℕ → ℕ → ℕ → ℕ
 submaskNumber zero m x = 0

@@ -2,5 +2,4 @@
 pub mod Places
 pub mod Push
 pub mod Order
-pub mod Comparing
 pub mod Stable

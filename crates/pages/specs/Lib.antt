@@ -1,4 +1,2 @@
 -- What the contracts of `pages` cite.
 pub mod Agree
-pub mod Both
-pub mod AgreeLaws

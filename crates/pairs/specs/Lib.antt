@@ -1,6 +1,4 @@
 -- What the contracts of `pairs` cite, and a case that tells them from a slip.
-pub mod Signs
 pub mod Decisions
 pub mod Turns
 pub mod ZeroProducts
-pub mod SignedZeros

@@ -1,3 +1,2 @@
 -- What the contracts of `qr` cite.
 pub mod Call
-pub mod CallLaws

@@ -1,6 +1,2 @@
 pub mod Lists
-pub mod ListLaws
 pub mod Spread
-pub mod NamedLaws
-pub mod SpreadLaws
-pub mod OtherLaws

@@ -1,3 +1,2 @@
 -- What the contracts of `ranks` cite.
 pub mod Ranks
-pub mod RankLaws

@@ -1,3 +1,1 @@
 pub mod Recount
-pub mod RecountLaws
-pub mod Pages

@@ -1,5 +1,4 @@
 -- What the contracts of `rows` cite.
-pub mod PlaneChanges
 pub mod Gathered
 pub mod TwoRows
 pub mod RowSums

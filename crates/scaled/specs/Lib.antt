@@ -2,4 +2,3 @@
 pub mod Each
 pub mod Scale
 pub mod Eight
-pub mod EightLaws

@@ -1,3 +1,2 @@
 -- What the contracts of `schmidt` cite.
 pub mod Schmidt
-pub mod SchmidtLaws

@@ -1,3 +1,2 @@
 -- What the contracts of `sites` cite.
 pub mod Calls
-pub mod CallLaws

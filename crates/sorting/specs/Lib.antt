@@ -1,3 +1,2 @@
 -- What the downward sort is.
-pub mod Total
 pub mod Sorted

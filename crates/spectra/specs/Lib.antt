@@ -1,6 +1,4 @@
 -- What the contracts of `spectra` cite.
 pub mod Eigenvalues
 pub mod Outcomes
-pub mod OutcomeLaws
 pub mod Density
-pub mod DensityLaws

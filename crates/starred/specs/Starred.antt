@@ -1,27 +1,18 @@
 -- 01's starred cases as one record under one claim, each by computation from the definitions that the contracts cite. Assumes nothing.
-use mathlib.Core.Path.{_≡_, refl}
+use mathlib.Core.Path.{_≡_}
 use mathlib.Core.List.{List, [], _∷_, map}
 use Prim.Native.Nat.{ℕ}
-use native.Mathlib.Nat.{min-zero}
 use lib.Ieee as Ieee
-use lib.Ieee.{Float, binary64, ofBits, toBits, ofFields, odd, round, units}
-use lib.Count.{trailingZeros}
+use lib.Ieee.{Float, binary64, ofBits}
 use lib.ListN.{take}
-use Rattle.numbers.specs.Root.{sqrtOf, rootOf, squared, size, floorRoot, nextRoot}
-use Rattle.complex.specs.Arithmetic.{product, sum, difference, conjugate, scaled, normSqr}
-use Rattle.complex.specs.Cells.{cellsOf}
 use Rattle.complex.specs.Zeros.{zeros}
-use Rattle.columns.specs.Dot.{noSums, addQuad, addFirst, joined, term, quadsTo, tailTo, dotOf}
-use Rattle.columns.specs.Columns.{cellFrom, columnOf, squaresTo, normOf, lessCell, lessened, scaledInto}
-use Rattle.gram_schmidt.specs.GramSchmidt.{projectedBy, projected, passTo, passes, newBasis, kept, judged, factors, addColumn, columnsTo, basisFor, withBasis, factorsOf}
-use Rattle.ranks.specs.Ranks.{firstOrZero, aboveCount, rankOf}
+use Rattle.gram_schmidt.specs.GramSchmidt.{factors, factorsOf}
+use Rattle.ranks.specs.Ranks.{rankOf}
 use Rattle.answers.specs.Paper.{Reply}
-use Rattle.masks.specs.Submasks.{submaskAt}
-use Rattle.qubits.specs.Lists.{stands, placesFrom, subsystem}
-use Rattle.qubits.specs.Spread.{spread, table, otherQubits, maskFrom, rowOffsets, tracedBase}
+use Rattle.qubits.specs.Lists.{subsystem}
+use Rattle.qubits.specs.Spread.{rowOffsets, tracedBase}
 use Rattle.cuts.specs.Cut.{sourceOf}
 use Rattle.eigenpair.specs.Decide.{thetaOf, tangentOf}
-use Rattle.numbers.specs.Numbers.{signOf, magnitudeOf}
 
 abbrev to8 : List ℕ
 to8 = 0 ∷ 1 ∷ 2 ∷ 3 ∷ 4 ∷ 5 ∷ 6 ∷ 7 ∷ []
@@ -78,26 +69,3 @@ pub record Starred : Type 0 where
   -- eigen pair with diagonal +0.0, -0.0 and off-diagonal 1: theta -0.0, t = -1
   pub eigen-theta : thetaOf float0 (Ieee.neg float0) float1 ≡ Ieee.neg float0
   pub eigen-tangent : tangentOf (Ieee.neg float0) ≡ Ieee.neg float1
-
-pub starred : Starred
-unfolding submaskAt maskFrom spread table otherQubits stands placesFrom zeros cellsOf product sum difference conjugate scaled normSqr noSums addQuad addFirst joined term quadsTo tailTo dotOf cellFrom columnOf squaresTo normOf lessCell lessened scaledInto projectedBy projected passTo passes newBasis kept judged addColumn columnsTo basisFor withBasis factorsOf firstOrZero aboveCount rankOf tangentOf signOf magnitudeOf sqrtOf rootOf squared size floorRoot nextRoot ofBits toBits ofFields odd round units trailingZeros Ieee.add Ieee.sub Ieee.mul Ieee.div Ieee.neg Ieee.lt Ieee.sum Ieee.size Ieee.span Ieee.climb
-starred = record {
-  list-2 = refl;
-  list-01 = refl;
-  list-02 = refl;
-  offsets = refl;
-  bases = refl;
-  twice = refl;
-  out = refl;
-  whole = refl;
-  empty = refl;
-  starts = refl;
-  qr-zero = refl;
-  qr-rank = refl;
-  qr-r = refl;
-  rank-halves = refl;
-  rank-zeros = refl;
-  rank-capped = λ values epsilon. min-zero _;
-  eigen-theta = refl;
-  eigen-tangent = refl;
-}

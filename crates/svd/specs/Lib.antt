@@ -1,3 +1,2 @@
 -- What the contracts of `svd` cite.
 pub mod Svd
-pub mod SvdLaws

@@ -1,3 +1,2 @@
 -- What the contracts of `traces` cite.
 pub mod Trace
-pub mod TraceLaws

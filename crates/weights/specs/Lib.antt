@@ -1,4 +1,3 @@
 -- What the contracts of `weights` cite.
 pub mod Weights
 pub mod WeightOutcome
-pub mod WeightLaws

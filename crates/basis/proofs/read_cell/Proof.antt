@@ -1,6 +1,6 @@
 -- `basis::read_cell` meets its contract: the two numbers are the cell of the matrix. Assumes nothing.
 use native.Mathlib.Omega.{arith}
-use Rattle.basis.specs.Matrix.{read-matrix}
+use Rattle.basis.proofs.MatrixLaws.{read-matrix}
 use Rattle.basis.proofs.read_cell.Statement.{statement}
 use Rattle.basis.proofs.read_cell.Tie as tie
 

@@ -3,7 +3,7 @@ use native.Mathlib.Omega.{arith}
 use Prim.Native.Nat.{_+_, _*_}
 use lib.ListN.{length-set}
 use denote.Ref.{now}
-use Rattle.basis.specs.Matrix.{write-matrix}
+use Rattle.basis.proofs.MatrixLaws.{write-matrix}
 use borrow.Author.Needs.{needs}
 use Rattle.basis.proofs.write_cell.Statement.{statement}
 use Rattle.basis.proofs.write_cell.Tie as tie

@@ -1,5 +1,5 @@
 -- `bits::bits_of` meets its contract. A float that differs from itself is the NaN; any other has bits. Assumes nothing.
-use Rattle.bits.specs.Bits.{of-nan, no-nan}
+use Rattle.bits.proofs.Bits.{of-nan, no-nan}
 use borrow.Author.Needs.{needs}
 use Rattle.bits.proofs.bits_of.Statement.{statement}
 use Rattle.bits.proofs.bits_of.Tie as tie

@@ -3,8 +3,8 @@ use mathlib.Core.Path.{sym, _∙_}
 use lib.ListN.{length}
 use denote.Ref.{now}
 use Rattle.answers.proofs.Stopped.{refused, passed, was-done}
-use Rattle.densities.specs.DensityLaws.{side-small}
-use Rattle.blocks.specs.AnswerLaws.{accepted-sizes}
+use Rattle.densities.proofs.DensityLaws.{side-small}
+use Rattle.blocks.proofs.AnswerLaws.{accepted-sizes}
 use borrow.Author.Needs.{needs}
 use Rattle.blocks.proofs.block_answer.Statement.{statement}
 use Rattle.blocks.proofs.block_answer.Tie as tie

@@ -5,7 +5,7 @@ use native.Mathlib.Omega.{arith}
 use lib.ListN.{length, drop}
 use denote.Ref.{now}
 use Rattle.blocks.specs.Factor.{blockIndex}
-use Rattle.blocks.specs.FactorLaws.{index-end, index-small, index-turn, index-all}
+use Rattle.blocks.proofs.FactorLawsLaws.{index-end, index-small, index-turn, index-all}
 use borrow.Author.Needs.{needs}
 use Rattle.blocks.proofs.block_index.Statement.{statement}
 use Rattle.blocks.proofs.block_index.Tie as tie

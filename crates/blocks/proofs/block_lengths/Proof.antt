@@ -1,7 +1,7 @@
 -- `blocks::block_lengths` meets its contract: each way out is the first of the tests that holds. Assumes nothing.
 use native.Mathlib.Omega.{arith}
 use borrow.Author.Tests.{eq-eqb, ne-eqb}
-use Rattle.entries.specs.Mirrored.{square-small}
+use Rattle.entries.proofs.MirroredLaws.{square-small}
 use Rattle.blocks.proofs.block_lengths.Statement.{statement}
 use Rattle.blocks.proofs.block_lengths.Tie as tie
 

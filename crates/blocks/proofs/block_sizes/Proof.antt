@@ -6,7 +6,7 @@ use denote.Ref.{now}
 use Rattle.answers.specs.Paper.{Reply}
 use Rattle.answers.proofs.Stopped.{was-done, stopped-number}
 use Rattle.qubits.specs.Lists.{qubitSet}
-use Rattle.blocks.specs.AnswerLaws.{sizes-places, sizes-side, sizes-good, short-list}
+use Rattle.blocks.proofs.AnswerLaws.{sizes-places, sizes-side, sizes-good, short-list}
 use borrow.Author.Needs.{needs}
 use Rattle.blocks.proofs.block_sizes.Statement.{statement}
 use Rattle.blocks.proofs.block_sizes.Tie as tie

@@ -2,8 +2,8 @@
 use mathlib.Core.Path.{_∙_, ap, refl, sym}
 use Rattle.answers.specs.Paper.{paper}
 use Rattle.answers.proofs.Stopped.{was-done, stopped-number}
-use Rattle.densities.specs.SquareLaws.{place-refused, place-done}
-use Rattle.blocks.specs.AnswerLaws.{accepted-factor}
+use Rattle.densities.proofs.SquareLaws.{place-refused, place-done}
+use Rattle.blocks.proofs.AnswerLaws.{accepted-factor}
 use borrow.Author.Needs.{needs}
 use Rattle.blocks.proofs.multiply_block_factor.Statement.{statement}
 use Rattle.blocks.proofs.multiply_block_factor.Tie as tie

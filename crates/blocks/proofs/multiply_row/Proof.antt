@@ -5,9 +5,10 @@ use native.Mathlib.Omega.{arith}
 use denote.Ref.{now}
 use Rattle.complex.specs.Arithmetic.{product}
 use Rattle.complex.specs.Cells.{cellAt}
-use Rattle.entries.specs.Mirrored.{index-small, cell-in}
+use Rattle.entries.proofs.MirroredLaws.{index-small, cell-in}
 use Rattle.blocks.specs.Factor.{factorEntry}
-use Rattle.blocks.specs.FactorLaws.{factor-in, factor-small, factored-square, RowTurns, row-begin, row-turn, row-end}
+use Rattle.blocks.proofs.FactorLawsLaws.{factor-in, factor-small, factored-square, row-begin, row-turn, row-end}
+use Rattle.blocks.specs.FactorLaws.{RowTurns}
 use borrow.Author.Needs.{needs}
 use Rattle.blocks.proofs.multiply_row.Statement.{statement}
 use Rattle.blocks.proofs.multiply_row.Tie as tie

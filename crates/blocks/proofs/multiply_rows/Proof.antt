@@ -4,7 +4,7 @@ use Prim.Native.Nat.{_-_}
 use native.Mathlib.Omega.{arith}
 use mathlib.Core.Path.{_∙_}
 use Rattle.blocks.specs.Factor.{factorEntry}
-use Rattle.blocks.specs.FactorLaws.{AllTurns, all-begin, all-turn, all-end}
+use Rattle.blocks.proofs.FactorLawsLaws.{AllTurns, all-begin, all-turn, all-end}
 use borrow.Author.Needs.{needs}
 use Rattle.blocks.proofs.multiply_rows.Statement.{statement}
 use Rattle.blocks.proofs.multiply_rows.Tie as tie

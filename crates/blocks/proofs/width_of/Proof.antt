@@ -3,7 +3,7 @@ use mathlib.Core.Path.{_≡_, refl, sym, ap, _∙_}
 use Prim.Native.Nat.{ℕ, _≤_}
 use native.Mathlib.Omega.{arith}
 use Rattle.blocks.specs.Factor.{widthOf}
-use Rattle.blocks.specs.FactorLaws.{width-found, width-next, width-none}
+use Rattle.blocks.proofs.FactorLawsLaws.{width-found, width-next, width-none}
 use borrow.Author.Needs.{needs}
 use Rattle.blocks.proofs.width_of.Statement.{statement}
 use Rattle.blocks.proofs.width_of.Tie as tie

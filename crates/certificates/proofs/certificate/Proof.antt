@@ -2,8 +2,8 @@
 -- Assumes nothing.
 use native.Mathlib.Omega.{arith}
 use Rattle.answers.proofs.Stopped.{stopped-number, was-done}
-use Rattle.certificates.specs.AcceptedLaws.{printed-as, printed-refusal, printed-counts}
-use Rattle.certificates.specs.CertificateLaws.{header-refused, header-fits, header-done}
+use Rattle.certificates.proofs.AcceptedLaws.{printed-as, printed-refusal, printed-counts}
+use Rattle.certificates.proofs.CertificateLaws.{header-refused, header-fits, header-done}
 use borrow.Author.Needs.{needs}
 use Rattle.certificates.proofs.certificate.Statement.{statement}
 use Rattle.certificates.proofs.certificate.Tie as tie

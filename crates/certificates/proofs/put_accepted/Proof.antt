@@ -4,9 +4,9 @@ use mathlib.Core.Path.{refl, ap}
 use native.Mathlib.Omega.{arith}
 use denote.Ref.{now}
 use lib.ListN.{length}
-use Rattle.sides.specs.SideLaws.{is-parted}
-use Rattle.texts.specs.TextLaws.{puts-as}
-use Rattle.certificates.specs.AcceptedLaws.{part-is, side-short, accepted-is, accepted-short}
+use Rattle.sides.proofs.SideLaws.{is-parted}
+use Rattle.texts.proofs.TextLaws.{puts-as}
+use Rattle.certificates.proofs.AcceptedLaws.{part-is, side-short, accepted-is, accepted-short}
 use borrow.Author.Needs.{needs}
 use Rattle.certificates.proofs.put_accepted.Statement.{statement}
 use Rattle.certificates.proofs.put_accepted.Tie as tie

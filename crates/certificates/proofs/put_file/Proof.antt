@@ -4,9 +4,9 @@ use mathlib.Core.Path.{sym, ap}
 use Prim.Native.Nat.{ℕ, _*_}
 use native.Mathlib.Omega.{arith}
 use lib.Seq.{length-take-le}
-use Rattle.cutfile.specs.LayoutLaws.{small-power}
-use Rattle.certificates.specs.AcceptedLaws.{printed-as}
-use Rattle.certificates.specs.CertificateLaws.{decoded}
+use Rattle.cutfile.proofs.LayoutLaws.{small-power}
+use Rattle.certificates.proofs.AcceptedLaws.{printed-as}
+use Rattle.certificates.proofs.CertificateLaws.{decoded}
 use borrow.Author.Needs.{needs}
 use Rattle.certificates.proofs.put_file.Statement.{statement}
 use Rattle.certificates.proofs.put_file.Tie as tie

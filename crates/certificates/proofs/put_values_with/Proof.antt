@@ -8,8 +8,8 @@ use lib.Seq.{length-take-le}
 use Rattle.answers.specs.declared.Answer.{Answer}
 use Rattle.answers.specs.Paper.{paper}
 use Rattle.answers.proofs.Stopped.{stopped-number}
-use Rattle.certificates.specs.AcceptedLaws.{printed-as, printed-refusal}
-use Rattle.certificates.specs.Answered.{count-few, cut-refused, cut-accepted, cut-done}
+use Rattle.certificates.proofs.AcceptedLaws.{printed-as, printed-refusal}
+use Rattle.certificates.proofs.Answered.{count-few, cut-refused, cut-accepted, cut-done}
 use borrow.Author.Needs.{needs}
 use Rattle.certificates.proofs.put_values_with.Statement.{statement}
 use Rattle.certificates.proofs.put_values_with.Tie as tie

@@ -1,8 +1,8 @@
 -- `columns::dot` meets its contract: the parts of the quads put together, then the tail, then the joined sum; the tail is what is left of the rows. Assumes nothing.
 use mathlib.Core.Path.{refl}
 use native.Mathlib.Omega.{arith}
-use Rattle.columns.specs.Dot.{dot-made}
-use Rattle.columns.specs.DotParts.{parts-joined}
+use Rattle.columns.proofs.DotLaws.{dot-made}
+use Rattle.columns.proofs.DotPartsLaws.{parts-joined}
 use borrow.Author.Needs.{needs}
 use Rattle.columns.proofs.dot.Statement.{statement}
 use Rattle.columns.proofs.dot.Tie as tie

@@ -2,9 +2,10 @@
 use mathlib.Core.Path.{_≡_}
 use Prim.Native.Nat.{_-_, _*_, _≤_}
 use native.Mathlib.Omega.{arith}
-use Rattle.complex.specs.Loops.{stop}
+use Rattle.complex.proofs.Loops.{stop}
 use Rattle.basis.specs.Matrix.{matrixOf}
-use Rattle.columns.specs.Dot.{tailTo, tailTo-none, tailTo-more}
+use Rattle.columns.specs.Dot.{tailTo}
+use Rattle.columns.proofs.DotLaws.{tailTo-none, tailTo-more}
 use Rattle.columns.specs.Woven.{woven}
 use borrow.Author.Needs.{needs}
 use Rattle.columns.proofs.dot_tail.Statement.{statement}

@@ -1,6 +1,6 @@
 -- `columns::dot_term` meets its contract: the product of what the callees read. Assumes nothing.
 use native.Mathlib.Omega.{arith}
-use Rattle.columns.specs.Woven.{term-woven}
+use Rattle.columns.proofs.WovenLaws.{term-woven}
 use borrow.Author.Needs.{needs}
 use Rattle.columns.proofs.dot_term.Statement.{statement}
 use Rattle.columns.proofs.dot_term.Tie as tie

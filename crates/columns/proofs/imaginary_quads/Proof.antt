@@ -4,7 +4,8 @@ use Prim.Native.Nat.{_-_, _*_, _≤_}
 use native.Mathlib.Omega.{arith}
 use Rattle.basis.specs.Matrix.{matrixOf}
 use Rattle.columns.specs.Dot.{quadsTo}
-use Rattle.columns.specs.DotParts.{imaginaryParts, imaginary-none, imaginary-more, imaginary-end}
+use Rattle.columns.specs.DotParts.{imaginaryParts}
+use Rattle.columns.proofs.DotPartsLaws.{imaginary-none, imaginary-more, imaginary-end}
 use Rattle.columns.specs.Woven.{woven}
 use Rattle.columns.proofs.imaginary_quads.Statement.{statement}
 use Rattle.columns.proofs.imaginary_quads.Tie as tie

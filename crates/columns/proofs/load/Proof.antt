@@ -2,8 +2,8 @@
 use Prim.Native.Nat.{_-_}
 use native.Mathlib.Omega.{arith}
 use Rattle.columns.specs.Columns.{cellFrom}
-use Rattle.columns.specs.ColumnLaws.{column-cell}
-use Rattle.columns.specs.Woven.{Filled, fill-begin, fill-turn, column-end}
+use Rattle.columns.proofs.ColumnLaws.{column-cell}
+use Rattle.columns.proofs.WovenLaws.{Filled, fill-begin, fill-turn, column-end}
 use Rattle.columns.proofs.load.Statement.{statement}
 use Rattle.columns.proofs.load.Tie as tie
 

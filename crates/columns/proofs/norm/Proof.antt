@@ -1,5 +1,5 @@
 -- `columns::norm` meets its contract: the sum and its root are the callees'. Assumes nothing.
-use Rattle.columns.specs.ColumnLaws.{norm-made}
+use Rattle.columns.proofs.ColumnLaws.{norm-made}
 use borrow.Author.Needs.{needs}
 use Rattle.columns.proofs.norm.Statement.{statement}
 use Rattle.columns.proofs.norm.Tie as tie

@@ -1,5 +1,5 @@
 -- `columns::norm_near` meets its contract: the sum and its root are the callees', and the guess says nothing. Assumes nothing.
-use Rattle.columns.specs.ColumnLaws.{norm-made}
+use Rattle.columns.proofs.ColumnLaws.{norm-made}
 use borrow.Author.Needs.{needs}
 use Rattle.columns.proofs.norm_near.Statement.{statement}
 use Rattle.columns.proofs.norm_near.Tie as tie

@@ -4,7 +4,8 @@ use Prim.Native.Nat.{_-_, _*_, _≤_}
 use native.Mathlib.Omega.{arith}
 use Rattle.basis.specs.Matrix.{matrixOf}
 use Rattle.columns.specs.Dot.{quadsTo}
-use Rattle.columns.specs.DotParts.{realParts, real-none, real-more, real-end}
+use Rattle.columns.specs.DotParts.{realParts}
+use Rattle.columns.proofs.DotPartsLaws.{real-none, real-more, real-end}
 use Rattle.columns.specs.Woven.{woven}
 use Rattle.columns.proofs.real_quads.Statement.{statement}
 use Rattle.columns.proofs.real_quads.Tie as tie

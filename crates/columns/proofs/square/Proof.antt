@@ -2,10 +2,11 @@
 use mathlib.Core.Path.{_≡_}
 use Prim.Native.Nat.{_-_, _≤_}
 use native.Mathlib.Omega.{arith}
-use Rattle.complex.specs.Loops.{stop}
+use Rattle.complex.proofs.Loops.{stop}
 use Rattle.columns.specs.Columns.{squaresTo}
-use Rattle.columns.specs.ColumnLaws.{squares-none}
-use Rattle.columns.specs.Woven.{woven, squares-woven}
+use Rattle.columns.proofs.ColumnLaws.{squares-none}
+use Rattle.columns.specs.Woven.{woven}
+use Rattle.columns.proofs.WovenLaws.{squares-woven}
 use borrow.Author.Needs.{needs}
 use Rattle.columns.proofs.square.Statement.{statement}
 use Rattle.columns.proofs.square.Tie as tie

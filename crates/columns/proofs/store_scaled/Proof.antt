@@ -4,10 +4,11 @@ use mathlib.Core.Path.{_≡_, refl}
 use native.Mathlib.Omega.{arith}
 use Rattle.basis.specs.Matrix.{matrixOf}
 use lib.ListN.{length}
-use Rattle.complex.specs.Loops.{stop}
+use Rattle.complex.proofs.Loops.{stop}
 use Rattle.columns.specs.Columns.{scaledInto}
-use Rattle.columns.specs.ColumnLaws.{scaled-none}
-use Rattle.columns.specs.Woven.{woven, scaled-woven}
+use Rattle.columns.proofs.ColumnLaws.{scaled-none}
+use Rattle.columns.specs.Woven.{woven}
+use Rattle.columns.proofs.WovenLaws.{scaled-woven}
 use borrow.Author.Needs.{needs}
 use Rattle.columns.proofs.store_scaled.Statement.{statement}
 use Rattle.columns.proofs.store_scaled.Tie as tie

@@ -3,7 +3,8 @@ use Prim.Native.Nat.{_-_, _*_}
 use native.Mathlib.Omega.{arith}
 use Rattle.basis.specs.Matrix.{matrixOf}
 use Rattle.columns.specs.Columns.{lessCell}
-use Rattle.columns.specs.Woven.{woven, Filled, fill-begin, fill-turn, less-cell, less-end}
+use Rattle.columns.specs.Woven.{woven}
+use Rattle.columns.proofs.WovenLaws.{Filled, fill-begin, fill-turn, less-cell, less-end}
 use borrow.Author.Needs.{needs}
 use Rattle.columns.proofs.subtract.Statement.{statement}
 use Rattle.columns.proofs.subtract.Tie as tie

@@ -5,8 +5,9 @@ use Prim.Native.Nat.{ℕ, _≤_, _-_}
 use native.Mathlib.Omega.{arith}
 use lib.ListN.{length, length-set}
 use denote.Ref.{now}
-use Rattle.complex.specs.Loops.{stop}
-use Rattle.complex.specs.Zeros.{zeroed, zeroed-none, zeroed-more}
+use Rattle.complex.proofs.Loops.{stop}
+use Rattle.complex.specs.Zeros.{zeroed}
+use Rattle.complex.proofs.ZerosLaws.{zeroed-none, zeroed-more}
 use Rattle.complex.proofs.zero_first.Statement.{statement}
 use Rattle.complex.proofs.zero_first.Tie as tie
 

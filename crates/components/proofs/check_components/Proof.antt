@@ -1,7 +1,7 @@
 -- `components::check_components` meets its contract: where every number is allowed nothing is refused. Assumes nothing.
 use mathlib.Core.Path.{sym, _∙_}
 use borrow.Author.Needs.{needs}
-use Rattle.components.specs.Every.{every-done}
+use Rattle.components.proofs.EveryLaws.{every-done}
 use Rattle.components.proofs.check_components.Statement.{statement}
 use Rattle.components.proofs.check_components.Tie as tie
 

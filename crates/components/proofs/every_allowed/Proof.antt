@@ -6,7 +6,8 @@ use native.Mathlib.Omega.{arith}
 use lib.ListN.{length, drop}
 use denote.Ref.{now}
 use borrow.Author.Needs.{needs}
-use Rattle.components.specs.Every.{everyAllowed, every-more, every-end, every-of-each}
+use Rattle.components.specs.Every.{everyAllowed}
+use Rattle.components.proofs.EveryLaws.{every-more, every-end, every-of-each}
 use Rattle.components.proofs.every_allowed.Statement.{statement}
 use Rattle.components.proofs.every_allowed.Tie as tie
 

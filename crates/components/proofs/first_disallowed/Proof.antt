@@ -6,7 +6,7 @@ use Prim.Native.Nat.{_≤_, _-_}
 use native.Mathlib.Omega.{arith}
 use lib.ListN.{length, drop}
 use Rattle.complex.specs.Cells.{components}
-use Rattle.complex.specs.CellLaws.{components-bad, components-good, components-end}
+use Rattle.complex.proofs.CellLaws.{components-bad, components-good, components-end}
 use Rattle.components.proofs.first_disallowed.Statement.{statement}
 use Rattle.components.proofs.first_disallowed.Tie as tie
 

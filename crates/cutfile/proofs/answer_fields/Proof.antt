@@ -3,7 +3,7 @@
 use mathlib.Core.Path.{sym, _∙_}
 use Rattle.answers.proofs.Stopped.{refused, passed, was-done}
 use Rattle.cutfile.specs.Layout.{fieldsAnswer}
-use Rattle.cutfile.specs.LayoutLaws.{size-small, offsets-small}
+use Rattle.cutfile.proofs.LayoutLaws.{size-small, offsets-small}
 use borrow.Author.Needs.{needs}
 use Rattle.cutfile.proofs.answer_fields.Statement.{statement}
 use Rattle.cutfile.proofs.answer_fields.Tie as tie

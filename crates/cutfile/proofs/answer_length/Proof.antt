@@ -2,7 +2,7 @@
 -- Assumes nothing.
 use mathlib.Core.Path.{refl, sym, _∙_}
 use Rattle.cutfile.specs.Layout.{lengthAnswer}
-use Rattle.cutfile.specs.LayoutLaws.{differs-too, agrees-too}
+use Rattle.cutfile.proofs.LayoutLaws.{differs-too, agrees-too}
 use borrow.Author.Needs.{needs}
 use Rattle.cutfile.proofs.answer_length.Statement.{statement}
 use Rattle.cutfile.proofs.answer_length.Tie as tie

@@ -2,7 +2,7 @@
 -- Assumes nothing.
 use borrow.Author.Tests.{lt-ltb, le-ltb}
 use Rattle.cutfile.specs.Layout.{offsetsAnswer}
-use Rattle.cutfile.specs.LayoutLaws.{differs, agrees, differs-too, agrees-too}
+use Rattle.cutfile.proofs.LayoutLaws.{differs, agrees, differs-too, agrees-too}
 use borrow.Author.Needs.{needs}
 use Rattle.cutfile.proofs.answer_offsets.Statement.{statement}
 use Rattle.cutfile.proofs.answer_offsets.Tie as tie

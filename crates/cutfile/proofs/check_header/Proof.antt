@@ -5,7 +5,7 @@ use native.Mathlib.Omega.{arith}
 use Rattle.answers.specs.Paper.{paper}
 use Rattle.answers.specs.declared.Answer.the-variants.{Malformed}
 use Rattle.answers.proofs.Stopped.{stopped-number}
-use Rattle.cutfile.specs.LayoutLaws.{header-short, header-mark, header-is, refusal, acceptance}
+use Rattle.cutfile.proofs.LayoutLaws.{header-short, header-mark, header-is, refusal, acceptance}
 use borrow.Author.Needs.{needs}
 use Rattle.cutfile.proofs.check_header.Statement.{statement}
 use Rattle.cutfile.proofs.check_header.Tie as tie

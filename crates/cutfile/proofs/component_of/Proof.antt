@@ -1,7 +1,7 @@
 -- `cutfile::component_of` meets its contract. One comparison tells a NaN's pattern.
 -- Assumes nothing.
 use lib.Ieee.{ofBits, nanBits}
-use Rattle.cutfile.specs.LayoutLaws.{component-nan, no-nan, component-else}
+use Rattle.cutfile.proofs.LayoutLaws.{component-nan, no-nan, component-else}
 use Rattle.cutfile.proofs.component_of.Statement.{statement}
 use Rattle.cutfile.proofs.component_of.Tie as tie
 

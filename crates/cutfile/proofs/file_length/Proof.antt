@@ -1,7 +1,7 @@
 -- `cutfile::file_length` meets its contract. 2 to the n is at most 512.
 -- Assumes nothing.
 use native.Mathlib.Omega.{arith}
-use Rattle.cutfile.specs.LayoutLaws.{small-power}
+use Rattle.cutfile.proofs.LayoutLaws.{small-power}
 use borrow.Author.Needs.{needs}
 use Rattle.cutfile.proofs.file_length.Statement.{statement}
 use Rattle.cutfile.proofs.file_length.Tie as tie

@@ -3,9 +3,9 @@
 use mathlib.Core.Path.{_∙_, ap}
 use Prim.Native.Nat.{_-_}
 use native.Mathlib.Omega.{arith}
-use Rattle.qubits.specs.NamedLaws.{pow-small}
+use Rattle.qubits.proofs.NamedLaws.{pow-small}
 use Rattle.cutplanes.specs.CutPlanes.{shown}
-use Rattle.cutplanes.specs.CutPlanesLaws.{Column, column-begin, source-in, cell-in, column-turn, column-end}
+use Rattle.cutplanes.proofs.CutPlanesLaws.{Column, column-begin, source-in, cell-in, column-turn, column-end}
 use borrow.Author.Needs.{needs}
 use Rattle.cutplanes.proofs.fill_column.Statement.{statement}
 use Rattle.cutplanes.proofs.fill_column.Tie as tie

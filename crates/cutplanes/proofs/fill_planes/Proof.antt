@@ -2,8 +2,8 @@
 -- Assumes nothing.
 use Prim.Native.Nat.{_-_}
 use native.Mathlib.Omega.{arith}
-use Rattle.qubits.specs.NamedLaws.{pow-small}
-use Rattle.cutplanes.specs.CutPlanesLaws.{Columns, columns-begin, column-ready, columns-turn, columns-end}
+use Rattle.qubits.proofs.NamedLaws.{pow-small}
+use Rattle.cutplanes.proofs.CutPlanesLaws.{Columns, columns-begin, column-ready, columns-turn, columns-end}
 use borrow.Author.Needs.{needs}
 use Rattle.cutplanes.proofs.fill_planes.Statement.{statement}
 use Rattle.cutplanes.proofs.fill_planes.Tie as tie

@@ -1,6 +1,6 @@
 -- `cutplanes::gather_work` meets its contract: a wide cut's masks change places. Assumes nothing.
 use mathlib.Core.Path.{_∙_}
-use Rattle.cutplanes.specs.CutPlanesLaws.{turned, wide-is, square-is}
+use Rattle.cutplanes.proofs.CutPlanesLaws.{turned, wide-is, square-is}
 use borrow.Author.Needs.{needs}
 use Rattle.cutplanes.proofs.gather_work.Statement.{statement}
 use Rattle.cutplanes.proofs.gather_work.Tie as tie

@@ -4,7 +4,7 @@ use borrow.Author.Tests.{lt-ltb, le-ltb, eq-eqb, ne-eqb}
 use mathlib.Core.Path.{_≡_}
 use native.Mathlib.Omega.{arith}
 use Prim.Native.Nat.{_*_, _^_, _≤_, _<_}
-use Rattle.qubits.specs.NamedLaws.{pow-small}
+use Rattle.qubits.proofs.NamedLaws.{pow-small}
 use Rattle.cuts.proofs.cut_lengths.Statement.{statement}
 use Rattle.cuts.proofs.cut_lengths.Tie as tie
 

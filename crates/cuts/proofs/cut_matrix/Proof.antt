@@ -6,9 +6,9 @@ use denote.Ref.{now}
 use Rattle.answers.specs.Paper.{Reply, paper, andThen}
 use Rattle.answers.proofs.Stopped.{refused, passed, was-done, stopped-number}
 use Rattle.sides.specs.Sides.{cutRefusal, Parted}
-use Rattle.sides.specs.SideLaws.{is-parted}
+use Rattle.sides.proofs.SideLaws.{is-parted}
 use Rattle.cuts.specs.Cut.{cutLengths}
-use Rattle.cuts.specs.CutLaws.{cut-refused, cut-done, lengths-done}
+use Rattle.cuts.proofs.CutLaws.{cut-refused, cut-done, lengths-done}
 use borrow.Author.Needs.{needs}
 use Rattle.cuts.proofs.cut_matrix.Statement.{statement}
 use Rattle.cuts.proofs.cut_matrix.Tie as tie

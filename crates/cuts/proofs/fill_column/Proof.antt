@@ -2,8 +2,8 @@
 -- Assumes nothing.
 use Prim.Native.Nat.{_-_}
 use native.Mathlib.Omega.{arith}
-use Rattle.qubits.specs.NamedLaws.{pow-small}
-use Rattle.cuts.specs.CutLaws.{Column, column-begin, source-in, cell-in, column-turn, column-end}
+use Rattle.qubits.proofs.NamedLaws.{pow-small}
+use Rattle.cuts.proofs.CutLaws.{Column, column-begin, source-in, cell-in, column-turn, column-end}
 use borrow.Author.Needs.{needs}
 use Rattle.cuts.proofs.fill_column.Statement.{statement}
 use Rattle.cuts.proofs.fill_column.Tie as tie

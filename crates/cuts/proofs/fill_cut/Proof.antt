@@ -2,8 +2,8 @@
 -- Assumes nothing.
 use Prim.Native.Nat.{_-_}
 use native.Mathlib.Omega.{arith}
-use Rattle.qubits.specs.NamedLaws.{pow-small}
-use Rattle.cuts.specs.CutLaws.{Columns, columns-begin, column-ready, columns-turn, columns-end}
+use Rattle.qubits.proofs.NamedLaws.{pow-small}
+use Rattle.cuts.proofs.CutLaws.{Columns, columns-begin, column-ready, columns-turn, columns-end}
 use borrow.Author.Needs.{needs}
 use Rattle.cuts.proofs.fill_cut.Statement.{statement}
 use Rattle.cuts.proofs.fill_cut.Tie as tie

@@ -1,6 +1,6 @@
 -- `cuts::gather` meets its contract: the sides are the cut's. Assumes nothing.
 use denote.Ref.{now}
-use Rattle.cuts.specs.CutLaws.{ready-sides, gathered}
+use Rattle.cuts.proofs.CutLaws.{ready-sides, gathered}
 use borrow.Author.Needs.{needs}
 use Rattle.cuts.proofs.gather.Statement.{statement}
 use Rattle.cuts.proofs.gather.Tie as tie

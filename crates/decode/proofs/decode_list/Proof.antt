@@ -8,7 +8,7 @@ use lib.ListN.{length, set}
 use denote.Ref.{now}
 use Rattle.cutfile.specs.Layout.{entryAt}
 use Rattle.decode.specs.Tables.{filled}
-use Rattle.decode.specs.TablesLaws.{filled-none, length-filled, filled-more}
+use Rattle.decode.proofs.TablesLaws.{filled-none, length-filled, filled-more}
 use borrow.Author.Needs.{needs}
 use Rattle.decode.proofs.decode_list.Statement.{statement}
 use Rattle.decode.proofs.decode_list.Tie as tie

@@ -8,9 +8,9 @@ use lib.Ieee.{Float, nan}
 use lib.ListN.{length, set}
 use denote.Ref.{now}
 use Rattle.cutfile.specs.Layout.{componentAt}
-use Rattle.cutfile.specs.LayoutLaws.{small-power, of-parts}
+use Rattle.cutfile.proofs.LayoutLaws.{small-power, of-parts}
 use Rattle.decode.specs.Tables.{filled}
-use Rattle.decode.specs.TablesLaws.{filled-none, length-filled, filled-more}
+use Rattle.decode.proofs.TablesLaws.{filled-none, length-filled, filled-more}
 use borrow.Author.Needs.{needs}
 use Rattle.decode.proofs.decode_state.Statement.{statement}
 use Rattle.decode.proofs.decode_state.Tie as tie

@@ -7,7 +7,7 @@ use denote.Ref.{now}
 use Rattle.answers.specs.Paper.{paper}
 use Rattle.answers.proofs.Stopped.{was-done, stopped-number}
 use Rattle.complex.specs.Zeros.{zeroed}
-use Rattle.densities.specs.DensityLaws.{accepted, side-small, density-refused, density-done}
+use Rattle.densities.proofs.DensityLaws.{accepted, side-small, density-refused, density-done}
 use borrow.Author.Needs.{needs}
 use Rattle.densities.proofs.dense_reduced_density.Statement.{statement}
 use Rattle.densities.proofs.dense_reduced_density.Tie as tie

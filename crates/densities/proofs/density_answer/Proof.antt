@@ -5,10 +5,10 @@ use native.Mathlib.Omega.{arith}
 use lib.ListN.{length}
 use denote.Ref.{now}
 use Rattle.answers.proofs.Stopped.{refused, passed, was-done}
-use Rattle.qubits.specs.NamedLaws.{pow-small}
-use Rattle.offsets.specs.CallLaws.{density-listed}
+use Rattle.qubits.proofs.NamedLaws.{pow-small}
+use Rattle.offsets.proofs.CallLaws.{density-listed}
 use Rattle.densities.specs.Density.{densityLengths}
-use Rattle.densities.specs.DensityLaws.{side-small}
+use Rattle.densities.proofs.DensityLaws.{side-small}
 use borrow.Author.Needs.{needs}
 use Rattle.densities.proofs.density_answer.Statement.{statement}
 use Rattle.densities.proofs.density_answer.Tie as tie

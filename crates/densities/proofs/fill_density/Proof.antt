@@ -3,7 +3,7 @@ use denote.Ref.{now}
 use lib.ListN.{length}
 use native.Mathlib.Omega.{arith}
 use lib.Pow.{pow-pos}
-use Rattle.densities.specs.DensityLaws.{side-small, density-square, density-few, density-ready, density-end}
+use Rattle.densities.proofs.DensityLaws.{side-small, density-square, density-few, density-ready, density-end}
 use borrow.Author.Needs.{needs}
 use Rattle.densities.proofs.fill_density.Statement.{statement}
 use Rattle.densities.proofs.fill_density.Tie as tie

@@ -2,7 +2,7 @@
 use mathlib.Core.Path.{_∙_, ap, refl, sym}
 use Rattle.answers.specs.Paper.{paper}
 use Rattle.answers.proofs.Stopped.{was-done, stopped-number}
-use Rattle.densities.specs.SquareLaws.{square-done, place-refused, place-done}
+use Rattle.densities.proofs.SquareLaws.{square-done, place-refused, place-done}
 use borrow.Author.Needs.{needs}
 use Rattle.densities.proofs.mirror_lower_triangle.Statement.{statement}
 use Rattle.densities.proofs.mirror_lower_triangle.Tie as tie

@@ -2,8 +2,8 @@
 use mathlib.Core.Path.{refl, _∙_}
 use Prim.Native.Nat.{_+_, _-_}
 use native.Mathlib.Omega.{arith}
-use Rattle.entries.specs.Blocks.{reached}
-use Rattle.diagonals.specs.Corners.{CornerTurns, corner-begin, corner-turn, corner-end, turned-same}
+use Rattle.entries.proofs.BlocksLaws.{reached}
+use Rattle.diagonals.proofs.CornersLaws.{CornerTurns, corner-begin, corner-turn, corner-end, turned-same}
 use borrow.Author.Needs.{needs}
 use Rattle.diagonals.proofs.corner_sums.Statement.{statement}
 use Rattle.diagonals.proofs.corner_sums.Tie as tie

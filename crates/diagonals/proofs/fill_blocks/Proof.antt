@@ -1,8 +1,9 @@
 -- `diagonals::fill_blocks` meets its contract. The loop's invariant is that of `Filled`, its turn that of `CornerRows`. Assumes nothing.
 use Prim.Native.Nat.{_-_}
 use native.Mathlib.Omega.{arith}
-use Rattle.entries.specs.Filled.{tableEntry, LowerTurns, lower-begin, lower-end}
-use Rattle.diagonals.specs.CornerRows.{corner-lower}
+use Rattle.entries.specs.Filled.{tableEntry, LowerTurns}
+use Rattle.entries.proofs.FilledLaws.{lower-begin, lower-end}
+use Rattle.diagonals.proofs.CornerRowsLaws.{corner-lower}
 use borrow.Author.Needs.{needs}
 use Rattle.diagonals.proofs.fill_blocks.Statement.{statement}
 use Rattle.diagonals.proofs.fill_blocks.Tie as tie

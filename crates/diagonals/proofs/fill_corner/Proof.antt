@@ -3,9 +3,10 @@ use mathlib.Core.Path.{_∙_}
 use Prim.Native.Nat.{_+_, _*_}
 use native.Mathlib.Omega.{arith}
 use denote.Ref.{now}
-use Rattle.entries.specs.Mirrored.{index-small, cell-in}
-use Rattle.entries.specs.Filled.{tableEntry, ready-reach}
-use Rattle.diagonals.specs.CornerRows.{corner-written, corner-filled}
+use Rattle.entries.proofs.MirroredLaws.{index-small, cell-in}
+use Rattle.entries.specs.Filled.{tableEntry}
+use Rattle.entries.proofs.FilledLaws.{ready-reach}
+use Rattle.diagonals.proofs.CornerRowsLaws.{corner-written, corner-filled}
 use borrow.Author.Needs.{needs}
 use Rattle.diagonals.proofs.fill_corner.Statement.{statement}
 use Rattle.diagonals.proofs.fill_corner.Tie as tie

@@ -4,9 +4,11 @@ use mathlib.Core.Path.{_≡_, _∙_}
 use mathlib.Core.Logic.{⊎-elim}
 use Prim.Native.Nat.{_*_, _+_, _-_, _≤_, _<_}
 use native.Mathlib.Omega.{arith}
-use Rattle.eigenpair.specs.Turn.{cell-fits}
-use Rattle.eigenpair.specs.CellPlanes.{asPlanes, plane-re}
-use Rattle.eigen.specs.Sweeping.{largestTo, largest-none, largest-more, largest-same}
+use Rattle.eigenpair.proofs.TurnLaws.{cell-fits}
+use Rattle.eigenpair.specs.CellPlanes.{asPlanes}
+use Rattle.eigenpair.proofs.CellPlanesLaws.{plane-re}
+use Rattle.eigen.specs.Sweeping.{largestTo}
+use Rattle.eigen.proofs.SweepingLaws.{largest-none, largest-more, largest-same}
 use borrow.Author.Needs.{needs}
 use Rattle.eigen.proofs.largest_diagonal.Statement.{statement}
 use Rattle.eigen.proofs.largest_diagonal.Tie as tie

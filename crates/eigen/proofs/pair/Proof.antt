@@ -2,11 +2,11 @@
 use mathlib.Core.Path.{_∙_}
 use Prim.Native.Nat.{_*_, _+_, _<_}
 use native.Mathlib.Omega.{arith}
-use Rattle.pairs.specs.Decisions.{verdict-one}
+use Rattle.pairs.proofs.DecisionsLaws.{verdict-one}
 use denote.Ref.{now}
-use Rattle.eigenpair.specs.CellPlanes.{plane-read, plane-re}
-use Rattle.eigenpair.specs.Turn.{cell-fits}
-use Rattle.eigen.specs.Sweeping.{pair-made}
+use Rattle.eigenpair.proofs.CellPlanesLaws.{plane-read, plane-re}
+use Rattle.eigenpair.proofs.TurnLaws.{cell-fits}
+use Rattle.eigen.proofs.SweepingLaws.{pair-made}
 use borrow.Author.Needs.{needs}
 use Rattle.eigen.proofs.pair.Statement.{statement}
 use Rattle.eigen.proofs.pair.Tie as tie

@@ -4,7 +4,8 @@ use Prim.Native.Nat.{_+_, _-_, _*_, _≤_, _<_}
 use native.Mathlib.Omega.{arith}
 use lib.ListN.{length}
 use Rattle.eigenpair.specs.CellPlanes.{asPlanes}
-use Rattle.eigen.specs.Sweeping.{state, pairsTo, pairs-none, pairs-more}
+use Rattle.eigen.specs.Sweeping.{state, pairsTo}
+use Rattle.eigen.proofs.SweepingLaws.{pairs-none, pairs-more}
 use borrow.Author.Needs.{needs}
 use Rattle.eigen.proofs.row.Statement.{statement}
 use Rattle.eigen.proofs.row.Tie as tie

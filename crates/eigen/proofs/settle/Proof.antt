@@ -4,7 +4,8 @@ use Prim.Native.Nat.{_-_, _*_, _≤_}
 use native.Mathlib.Omega.{arith}
 use lib.ListN.{length}
 use Rattle.eigenpair.specs.CellPlanes.{asPlanes}
-use Rattle.eigen.specs.Sweeping.{state, settled, sweepsTo, settled-start, sweeps-done, sweeps-more, sweeps-quiet}
+use Rattle.eigen.specs.Sweeping.{state, settled, sweepsTo}
+use Rattle.eigen.proofs.SweepingLaws.{settled-start, sweeps-done, sweeps-more, sweeps-quiet}
 use borrow.Author.Needs.{needs}
 use Rattle.eigen.proofs.settle.Statement.{statement}
 use Rattle.eigen.proofs.settle.Tie as tie

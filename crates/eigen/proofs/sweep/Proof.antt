@@ -4,7 +4,8 @@ use Prim.Native.Nat.{_+_, _-_, _*_, _≤_}
 use native.Mathlib.Omega.{arith}
 use lib.ListN.{length}
 use Rattle.eigenpair.specs.CellPlanes.{asPlanes}
-use Rattle.eigen.specs.Sweeping.{state, rowsTo, rows-none, rows-more, sweep-made}
+use Rattle.eigen.specs.Sweeping.{state, rowsTo}
+use Rattle.eigen.proofs.SweepingLaws.{rows-none, rows-more, sweep-made}
 use borrow.Author.Needs.{needs}
 use Rattle.eigen.proofs.sweep.Statement.{statement}
 use Rattle.eigen.proofs.sweep.Tie as tie

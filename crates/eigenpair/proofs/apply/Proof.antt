@@ -1,5 +1,6 @@
 -- `eigenpair::apply` meets its contract: one case of the definition for each case of the decision. Assumes nothing.
-use Rattle.eigenpair.specs.Turn.{applied, applied-turn}
+use Rattle.eigenpair.specs.Turn.{applied}
+use Rattle.eigenpair.proofs.TurnLaws.{applied-turn}
 use borrow.Author.Needs.{needs}
 use Rattle.eigenpair.proofs.apply.Statement.{statement}
 use Rattle.eigenpair.proofs.apply.Tie as tie

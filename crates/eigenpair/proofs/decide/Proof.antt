@@ -1,7 +1,7 @@
 -- `eigenpair::decide` meets its contract: a law for each way through the code. Assumes nothing.
 use mathlib.Core.Path.{ap}
 use Rattle.pairs.specs.Decisions.{verdict}
-use Rattle.eigenpair.specs.Decide.{decision-leave, decision-turn}
+use Rattle.eigenpair.proofs.DecideLaws.{decision-leave, decision-turn}
 use borrow.Author.Needs.{needs}
 use Rattle.eigenpair.proofs.decide.Statement.{statement}
 use Rattle.eigenpair.proofs.decide.Tie as tie

@@ -1,5 +1,5 @@
 -- `eigenpair::left_alone` meets its contract: a law for each way through the code. Assumes nothing.
-use Rattle.eigenpair.specs.Decide.{alone-pair, alone-largest}
+use Rattle.eigenpair.proofs.DecideLaws.{alone-pair, alone-largest}
 use borrow.Author.Needs.{needs}
 use Rattle.eigenpair.proofs.left_alone.Statement.{statement}
 use Rattle.eigenpair.proofs.left_alone.Tie as tie

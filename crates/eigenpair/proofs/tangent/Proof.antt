@@ -1,5 +1,5 @@
 -- `eigenpair::tangent` meets its contract: the calls are the definition's steps. Assumes nothing.
-use Rattle.eigenpair.specs.Decide.{tangent-made}
+use Rattle.eigenpair.proofs.DecideLaws.{tangent-made}
 use borrow.Author.Needs.{needs}
 use Rattle.eigenpair.proofs.tangent.Statement.{statement}
 use Rattle.eigenpair.proofs.tangent.Tie as tie

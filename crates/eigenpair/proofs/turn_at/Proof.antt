@@ -1,5 +1,5 @@
 -- `eigenpair::turn_at` meets its contract: the calls are the definition's steps. Assumes nothing.
-use Rattle.eigenpair.specs.Decide.{turn-made}
+use Rattle.eigenpair.proofs.DecideLaws.{turn-made}
 use borrow.Author.Needs.{needs}
 use Rattle.eigenpair.proofs.turn_at.Statement.{statement}
 use Rattle.eigenpair.proofs.turn_at.Tie as tie

@@ -1,8 +1,8 @@
 -- `eigenpair::turn_pair` meets its contract: the columns with the conjugate phase and then the rows. Assumes nothing.
 use Prim.Native.Nat.{_+_, _*_, _≤_}
 use native.Mathlib.Omega.{arith}
-use Rattle.jacobi.specs.Sweeping.{column-fits}
-use Rattle.eigenpair.specs.Turn.{turned-made}
+use Rattle.jacobi.proofs.SweepingLaws.{column-fits}
+use Rattle.eigenpair.proofs.TurnLaws.{turned-made}
 use borrow.Author.Needs.{needs}
 use Rattle.eigenpair.proofs.turn_pair.Statement.{statement}
 use Rattle.eigenpair.proofs.turn_pair.Tie as tie

@@ -1,5 +1,5 @@
 -- `eigenpair::turn_two` meets its contract: both cells are read before either is written, and what is done to cells is done to their planes. Assumes nothing.
-use Rattle.eigenpair.specs.Turn.{two-made}
+use Rattle.eigenpair.proofs.TurnLaws.{two-made}
 use borrow.Author.Needs.{needs}
 use Rattle.eigenpair.proofs.turn_two.Statement.{statement}
 use Rattle.eigenpair.proofs.turn_two.Tie as tie

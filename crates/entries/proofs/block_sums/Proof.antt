@@ -2,7 +2,7 @@
 use native.Mathlib.Omega.{arith}
 use mathlib.Core.Path.{refl, _∙_}
 use Prim.Native.Nat.{_+_, _-_}
-use Rattle.entries.specs.Blocks.{SumTurns, sums-begin, sums-turn, sums-end, reached, turn-same}
+use Rattle.entries.proofs.BlocksLaws.{SumTurns, sums-begin, sums-turn, sums-end, reached, turn-same}
 use borrow.Author.Needs.{needs}
 use Rattle.entries.proofs.block_sums.Statement.{statement}
 use Rattle.entries.proofs.block_sums.Tie as tie

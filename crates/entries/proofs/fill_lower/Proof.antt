@@ -1,7 +1,8 @@
 -- `entries::fill_lower` meets its contract. The loop's invariant and its turn are those of `Filled`. Assumes nothing.
 use Prim.Native.Nat.{_-_}
 use native.Mathlib.Omega.{arith}
-use Rattle.entries.specs.Filled.{tableEntry, LowerTurns, lower-begin, lower-turn, lower-end}
+use Rattle.entries.specs.Filled.{tableEntry, LowerTurns}
+use Rattle.entries.proofs.FilledLaws.{lower-begin, lower-turn, lower-end}
 use borrow.Author.Needs.{needs}
 use Rattle.entries.proofs.fill_lower.Statement.{statement}
 use Rattle.entries.proofs.fill_lower.Tie as tie

@@ -1,7 +1,8 @@
 -- `entries::fill_offsets` meets its contract. The loop's invariant and its turn are those of `EntryLaws`. Assumes nothing.
 use Prim.Native.Nat.{_-_}
 use native.Mathlib.Omega.{arith}
-use Rattle.entries.specs.EntryLaws.{OffsetTurns, offset-begin, offset-turn, offset-end}
+use Rattle.entries.specs.EntryLaws.{OffsetTurns}
+use Rattle.entries.proofs.EntryLawsLaws.{offset-begin, offset-turn, offset-end}
 use borrow.Author.Needs.{needs}
 use Rattle.entries.proofs.fill_offsets.Statement.{statement}
 use Rattle.entries.proofs.fill_offsets.Tie as tie

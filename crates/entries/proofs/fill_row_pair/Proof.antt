@@ -7,7 +7,8 @@ use native.Mathlib.Omega.{arith}
 use Rattle.entries.specs.declared.Block.{Block}
 use Rattle.entries.specs.Blocks.{blockSums}
 use Rattle.entries.specs.Pairs.{setPair}
-use Rattle.entries.specs.Filled.{tableEntry, PairTurns, pair-begin, pair-turn, pair-end, ready-reach}
+use Rattle.entries.specs.Filled.{tableEntry, PairTurns}
+use Rattle.entries.proofs.FilledLaws.{pair-begin, pair-turn, pair-end, ready-reach}
 use borrow.Author.Needs.{needs}
 use Rattle.entries.proofs.fill_row_pair.Statement.{statement}
 use Rattle.entries.proofs.fill_row_pair.Tie as tie

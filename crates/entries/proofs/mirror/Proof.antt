@@ -1,7 +1,7 @@
 -- `entries::mirror` meets its contract. The loop's invariant and its turn are those of `Mirrored`. Assumes nothing.
 use Prim.Native.Nat.{_-_}
 use native.Mathlib.Omega.{arith}
-use Rattle.entries.specs.Mirrored.{RowTurns, row-begin, row-turn, row-end, mirror-end}
+use Rattle.entries.proofs.MirroredLaws.{RowTurns, row-begin, row-turn, row-end, mirror-end}
 use borrow.Author.Needs.{needs}
 use Rattle.entries.proofs.mirror.Statement.{statement}
 use Rattle.entries.proofs.mirror.Tie as tie

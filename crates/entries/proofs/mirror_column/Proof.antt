@@ -3,7 +3,8 @@ use Prim.Native.Nat.{_+_, _-_}
 use native.Mathlib.Omega.{arith}
 use mathlib.Core.Path.{_∙_, ap}
 use Rattle.complex.specs.Arithmetic.{conjugate}
-use Rattle.entries.specs.Mirrored.{ColumnTurns, column-begin, column-turn, column-end, index-small, cell-in}
+use Rattle.entries.specs.Mirrored.{ColumnTurns}
+use Rattle.entries.proofs.MirroredLaws.{column-begin, column-turn, column-end, index-small, cell-in}
 use borrow.Author.Needs.{needs}
 use Rattle.entries.proofs.mirror_column.Statement.{statement}
 use Rattle.entries.proofs.mirror_column.Tie as tie

@@ -5,7 +5,7 @@ use lib.Ieee.{Float}
 use Prim.Native.Nat.{_+_, _*_}
 use native.Mathlib.Omega.{arith}
 use Rattle.complex.specs.Cells.{setCell}
-use Rattle.entries.specs.Mirrored.{index-small, cell-in}
+use Rattle.entries.proofs.MirroredLaws.{index-small, cell-in}
 use Rattle.entries.specs.Pairs.{setPair}
 use borrow.Author.Needs.{needs}
 use Rattle.entries.proofs.write_pair.Statement.{statement}

@@ -1,5 +1,5 @@
 -- `exports::told` meets its contract. Assumes nothing.
-use Rattle.exports.specs.Told.{paper-small}
+use Rattle.exports.proofs.ToldLaws.{paper-small}
 use borrow.Author.Needs.{needs}
 use Rattle.exports.proofs.told.Statement.{statement}
 use Rattle.exports.proofs.told.Tie as tie

@@ -5,10 +5,11 @@ use native.Mathlib.Omega.{arith}
 use lib.ListN.{length, length-set}
 use denote.Ref.{now}
 use Rattle.numbers.specs.Root.{sqrtOf}
-use Rattle.complex.specs.Loops.{stop}
-use Rattle.loading.specs.Numbers.{filled, filled-none, filled-all, column-fits}
+use Rattle.complex.proofs.Loops.{stop}
+use Rattle.loading.specs.Numbers.{filled}
+use Rattle.loading.proofs.NumbersLaws.{filled-none, filled-all, column-fits}
 use Rattle.factors.specs.Columns.{squaresTo, normsOf}
-use Rattle.factors.specs.Grids.{filled-turn}
+use Rattle.factors.proofs.Grids.{filled-turn}
 use borrow.Author.Needs.{needs}
 use Rattle.factors.proofs.norms.Statement.{statement}
 use Rattle.factors.proofs.norms.Tie as tie

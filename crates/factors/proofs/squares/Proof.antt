@@ -1,8 +1,9 @@
 -- `factors::squares` meets its contract. The invariant: the sum so far is that of the first r rows. Assumes nothing.
 use mathlib.Core.Path.{_≡_}
 use Prim.Native.Nat.{_-_, _≤_}
-use Rattle.complex.specs.Loops.{stop}
-use Rattle.factors.specs.Columns.{squaresTo, squares-none, squares-more}
+use Rattle.complex.proofs.Loops.{stop}
+use Rattle.factors.specs.Columns.{squaresTo}
+use Rattle.factors.proofs.ColumnsLaws.{squares-none, squares-more}
 use borrow.Author.Needs.{needs}
 use Rattle.factors.proofs.squares.Statement.{statement}
 use Rattle.factors.proofs.squares.Tie as tie

@@ -4,13 +4,13 @@ use Prim.Native.Nat.{_+_, _*_, _-_, _≤_}
 use native.Mathlib.Omega.{arith}
 use lib.ListN.{length, getD, length-drop}
 use denote.Ref.{now}
-use Rattle.complex.specs.Loops.{stop}
+use Rattle.complex.proofs.Loops.{stop}
 use Rattle.complex.specs.Cells.{written}
 use Rattle.complex.specs.Planes.{planeAt}
 use Rattle.order.specs.Places.{placesIn}
-use Rattle.loading.specs.Numbers.{column-fits}
+use Rattle.loading.proofs.NumbersLaws.{column-fits}
 use Rattle.factors.specs.Columns.{turnOf, inColumns, turnsOf}
-use Rattle.factors.specs.Grids.{columns-none, columns-more, columns-all}
+use Rattle.factors.proofs.Grids.{columns-none, columns-more, columns-all}
 use borrow.Author.Needs.{needs}
 use Rattle.factors.proofs.write_turns.Statement.{statement}
 use Rattle.factors.proofs.write_turns.Tie as tie

@@ -5,11 +5,12 @@ use native.Mathlib.Omega.{arith}
 use lib.ListN.{length, getD, length-set}
 use lib.Ieee.{nan}
 use denote.Ref.{now}
-use Rattle.complex.specs.Loops.{stop}
+use Rattle.complex.proofs.Loops.{stop}
 use Rattle.order.specs.Places.{placesIn}
-use Rattle.loading.specs.Numbers.{filled, filled-none, filled-all}
+use Rattle.loading.specs.Numbers.{filled}
+use Rattle.loading.proofs.NumbersLaws.{filled-none, filled-all}
 use Rattle.factors.specs.Columns.{sortedOf}
-use Rattle.factors.specs.Grids.{filled-turn}
+use Rattle.factors.proofs.Grids.{filled-turn}
 use borrow.Author.Needs.{needs}
 use Rattle.factors.proofs.write_values.Statement.{statement}
 use Rattle.factors.proofs.write_values.Tie as tie

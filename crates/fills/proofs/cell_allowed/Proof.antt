@@ -1,5 +1,5 @@
 -- `fills::cell_allowed` meets its contract: both components, the real one first. Assumes nothing.
-use Rattle.fills.specs.SourceLaws.{both-allowed, not-allowed}
+use Rattle.fills.proofs.SourceLaws.{both-allowed, not-allowed}
 use borrow.Author.Needs.{needs}
 use Rattle.fills.proofs.cell_allowed.Statement.{statement}
 use Rattle.fills.proofs.cell_allowed.Tie as tie

@@ -3,7 +3,7 @@ use mathlib.Core.Path.{_≡_}
 use Prim.Native.Nat.{_+_, _-_, _≤_}
 use borrow.Author.Tests.{not-true, not-false}
 use Rattle.fills.specs.Sources.{cellsFrom}
-use Rattle.fills.specs.SourceLaws.{cells-begin, cell-bad, cell-good, cells-end}
+use Rattle.fills.proofs.SourceLaws.{cells-begin, cell-bad, cell-good, cells-end}
 use borrow.Author.Needs.{needs}
 use Rattle.fills.proofs.check_cells.Statement.{statement}
 use Rattle.fills.proofs.check_cells.Tie as tie

@@ -4,7 +4,7 @@ use Prim.Native.Nat.{_-_, _≤_}
 use native.Mathlib.Omega.{arith}
 use Rattle.answers.proofs.Stopped.{refused, passed}
 use Rattle.fills.specs.Sources.{linesFrom}
-use Rattle.fills.specs.SourceLaws.{line-fits, lines-begin, lines-next, lines-end}
+use Rattle.fills.proofs.SourceLaws.{line-fits, lines-begin, lines-next, lines-end}
 use borrow.Author.Needs.{needs}
 use Rattle.fills.proofs.check_lines.Statement.{statement}
 use Rattle.fills.proofs.check_lines.Tie as tie

@@ -3,9 +3,9 @@ use mathlib.Core.Path.{_≡_, refl}
 use Prim.Native.Nat.{_-_, _≤_}
 use native.Mathlib.Omega.{arith}
 use lib.ListN.{length}
-use Rattle.complex.specs.Loops.{stop}
+use Rattle.complex.proofs.Loops.{stop}
 use Rattle.fills.specs.Sources.{putLine, strided}
-use Rattle.fills.specs.SourceLaws.{put-none, put-more, strided-cell}
+use Rattle.fills.proofs.SourceLaws.{put-none, put-more, strided-cell}
 use borrow.Author.Needs.{needs}
 use Rattle.fills.proofs.copy_line.Statement.{statement}
 use Rattle.fills.proofs.copy_line.Tie as tie

@@ -5,7 +5,7 @@ use native.Mathlib.Omega.{arith}
 use lib.ListN.{length}
 use Rattle.complex.specs.Cells.{written}
 use Rattle.fills.specs.Sources.{siteCell, isometryCell}
-use Rattle.fills.specs.SourceLaws.{line-fits, site-none, site-more, site-end, isometry-cell}
+use Rattle.fills.proofs.SourceLaws.{line-fits, site-none, site-more, site-end, isometry-cell}
 use borrow.Author.Needs.{needs}
 use Rattle.fills.proofs.fill_isometry.Statement.{statement}
 use Rattle.fills.proofs.fill_isometry.Tie as tie

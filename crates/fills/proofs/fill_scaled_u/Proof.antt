@@ -5,7 +5,7 @@ use native.Mathlib.Omega.{arith}
 use lib.ListN.{length}
 use Rattle.complex.specs.Cells.{written}
 use Rattle.fills.specs.Sources.{siteCell, scaledUCell}
-use Rattle.fills.specs.SourceLaws.{line-fits, site-none, site-more, site-end, scaled-u-cell}
+use Rattle.fills.proofs.SourceLaws.{line-fits, site-none, site-more, site-end, scaled-u-cell}
 use borrow.Author.Needs.{needs}
 use Rattle.fills.proofs.fill_scaled_u.Statement.{statement}
 use Rattle.fills.proofs.fill_scaled_u.Tie as tie

@@ -2,9 +2,9 @@
 use mathlib.Core.Path.{_≡_, refl}
 use Prim.Native.Nat.{_-_, _≤_}
 use lib.ListN.{length}
-use Rattle.complex.specs.Loops.{stop}
+use Rattle.complex.proofs.Loops.{stop}
 use Rattle.fills.specs.Sources.{putLine, stridedProduct}
-use Rattle.fills.specs.SourceLaws.{put-none, put-more, product-cell}
+use Rattle.fills.proofs.SourceLaws.{put-none, put-more, product-cell}
 use borrow.Author.Needs.{needs}
 use Rattle.fills.proofs.product_line.Statement.{statement}
 use Rattle.fills.proofs.product_line.Tie as tie

@@ -1,5 +1,5 @@
 -- `finish::finish_refusal` meets its contract: each test is the paper's, in its order. Assumes nothing.
-use Rattle.finish.specs.OutcomeLaws.{refusal-1, refusal-6, refusal-7}
+use Rattle.finish.proofs.OutcomeLaws.{refusal-1, refusal-6, refusal-7}
 use mathlib.Core.Path.{_∙_}
 use borrow.Author.Needs.{needs}
 use Rattle.finish.proofs.finish_refusal.Statement.{statement}

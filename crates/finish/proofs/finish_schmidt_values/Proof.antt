@@ -1,6 +1,6 @@
 -- `finish::finish_schmidt_values` meets its contract: it is refused, or its end is that of the finish. Assumes nothing.
 use Rattle.answers.proofs.Stopped.{passed, was-done, stopped-number}
-use Rattle.finish.specs.OutcomeLaws.{outcome-refused, outcome-finished, refusal-room}
+use Rattle.finish.proofs.OutcomeLaws.{outcome-refused, outcome-finished, refusal-room}
 use borrow.Author.Needs.{needs}
 use Rattle.finish.proofs.finish_schmidt_values.Statement.{statement}
 use Rattle.finish.proofs.finish_schmidt_values.Tie as tie

@@ -1,6 +1,6 @@
 -- `finish::finish_sorted` meets its contract: at each way out the tests passed are those of the answer. Assumes nothing.
 use native.Mathlib.Omega.{arith}
-use Rattle.finish.specs.OutcomeLaws.{within, sorted-none, sorted-infinite, sorted-done}
+use Rattle.finish.proofs.OutcomeLaws.{within, sorted-none, sorted-infinite, sorted-done}
 use borrow.Author.Needs.{needs}
 use Rattle.finish.proofs.finish_sorted.Statement.{statement}
 use Rattle.finish.proofs.finish_sorted.Tie as tie

@@ -4,7 +4,7 @@ use mathlib.Core.Path.{sym}
 use native.Mathlib.Omega.{arith}
 use denote.Ref.{now}
 use lib.Seq.{length-take-le}
-use Rattle.finish.specs.OutcomeLaws.{finished-made}
+use Rattle.finish.proofs.OutcomeLaws.{finished-made}
 use borrow.Author.Needs.{needs}
 use Rattle.finish.proofs.finish_values.Statement.{statement}
 use Rattle.finish.proofs.finish_values.Tie as tie

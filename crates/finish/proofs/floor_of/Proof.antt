@@ -1,5 +1,5 @@
 -- `finish::floor_of` meets its contract: by the first value, or by there being none. Assumes nothing.
-use Rattle.finish.specs.OutcomeLaws.{floor-none, floor-some}
+use Rattle.finish.proofs.OutcomeLaws.{floor-none, floor-some}
 use borrow.Author.Needs.{needs}
 use Rattle.finish.proofs.floor_of.Statement.{statement}
 use Rattle.finish.proofs.floor_of.Tie as tie

@@ -7,7 +7,7 @@ use lib.ListN.{length, drop, length-append, length-drop}
 use lib.Seq.{length-take-le, take-at}
 use denote.Ref.{now}
 use Rattle.values.specs.Lists.{allFinite}
-use Rattle.finish.specs.OutcomeLaws.{scaled-made}
+use Rattle.finish.proofs.OutcomeLaws.{scaled-made}
 use borrow.Author.Needs.{needs}
 use Rattle.finish.proofs.scale_kept.Statement.{statement}
 use Rattle.finish.proofs.scale_kept.Tie as tie

@@ -3,8 +3,9 @@ use borrow.Author.Needs.{needs}
 use mathlib.Core.Path.{_≡_, sym}
 use Prim.Native.Nat.{_≤_, _-_}
 use native.Mathlib.Omega.{arith}
-use Rattle.complex.specs.Loops.{stop}
-use Rattle.gram.specs.Terms.{addedTo, addedTo-none, addedTo-more}
+use Rattle.complex.proofs.Loops.{stop}
+use Rattle.gram.specs.Terms.{addedTo}
+use Rattle.gram.proofs.TermsLaws.{addedTo-none, addedTo-more}
 use Rattle.gram.proofs.add_terms.Statement.{statement}
 use Rattle.gram.proofs.add_terms.Tie as tie
 

@@ -5,7 +5,8 @@ use lib.ListN.{length-set}
 use Prim.Native.Nat.{_≤_, _-_, _+_}
 use native.Mathlib.Omega.{arith}
 use Rattle.complex.specs.Arithmetic.{normSqr}
-use Rattle.gram.specs.Terms.{Terms, terms-none, terms-more}
+use Rattle.gram.specs.Terms.{Terms}
+use Rattle.gram.proofs.TermsLaws.{terms-none, terms-more}
 use Rattle.gram.proofs.fill_terms.Statement.{statement}
 use Rattle.gram.proofs.fill_terms.Tie as tie
 

@@ -3,9 +3,10 @@ use mathlib.Core.Path.{_≡_}
 use Prim.Native.Nat.{_≤_, _-_}
 use native.Mathlib.Omega.{arith}
 use lib.ListN.{length}
-use Rattle.complex.specs.Loops.{stop}
-use Rattle.gram.specs.Gram.{gramTo, gramTo-none}
-use Rattle.gram.specs.Terms.{block-added}
+use Rattle.complex.proofs.Loops.{stop}
+use Rattle.gram.specs.Gram.{gramTo}
+use Rattle.gram.proofs.GramLaws.{gramTo-none}
+use Rattle.gram.proofs.TermsLaws.{block-added}
 use borrow.Author.Needs.{needs}
 use Rattle.gram.proofs.gram_blocks.Statement.{statement}
 use Rattle.gram.proofs.gram_blocks.Tie as tie

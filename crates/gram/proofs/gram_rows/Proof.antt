@@ -2,8 +2,9 @@
 use borrow.Author.Needs.{needs}
 use mathlib.Core.Path.{_≡_}
 use Prim.Native.Nat.{_≤_, _-_}
-use Rattle.complex.specs.Loops.{stop}
-use Rattle.gram.specs.Gram.{gramTo, gramTo-none, gramTo-more}
+use Rattle.complex.proofs.Loops.{stop}
+use Rattle.gram.specs.Gram.{gramTo}
+use Rattle.gram.proofs.GramLaws.{gramTo-none, gramTo-more}
 use Rattle.gram.proofs.gram_rows.Statement.{statement}
 use Rattle.gram.proofs.gram_rows.Tie as tie
 

@@ -1,7 +1,7 @@
 -- `gram_schmidt::judge` meets its contract: each way out is one case of `judged`. Assumes nothing.
 use native.Mathlib.Omega.{arith}
-use Rattle.gram_schmidt.specs.Room.{line-fits}
-use Rattle.gram_schmidt.specs.GramSchmidtLaws.{judge-full, judge-kept, judge-dropped}
+use Rattle.gram_schmidt.proofs.RoomLaws.{line-fits}
+use Rattle.gram_schmidt.proofs.GramSchmidtLaws.{judge-full, judge-kept, judge-dropped}
 use borrow.Author.Needs.{needs}
 use Rattle.gram_schmidt.proofs.judge.Statement.{statement}
 use Rattle.gram_schmidt.proofs.judge.Tie as tie

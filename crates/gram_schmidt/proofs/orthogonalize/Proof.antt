@@ -5,7 +5,7 @@ use lib.ListN.{length}
 use Rattle.basis.specs.Matrix.{matrixOf}
 use Rattle.columns.specs.Woven.{woven}
 use Rattle.gram_schmidt.specs.GramSchmidt.{held, passes}
-use Rattle.gram_schmidt.specs.GramSchmidtLaws.{turn-stop, turn-go, turn-spent}
+use Rattle.gram_schmidt.proofs.GramSchmidtLaws.{turn-stop, turn-go, turn-spent}
 use borrow.Author.Needs.{needs}
 use Rattle.gram_schmidt.proofs.orthogonalize.Statement.{statement}
 use Rattle.gram_schmidt.proofs.orthogonalize.Tie as tie

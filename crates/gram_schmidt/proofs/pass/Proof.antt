@@ -3,12 +3,12 @@ use mathlib.Core.Path.{_≡_, refl}
 use Prim.Native.Nat.{_-_, _≤_}
 use lib.ListN.{length}
 use native.Mathlib.Omega.{arith}
-use Rattle.complex.specs.Loops.{stop}
+use Rattle.complex.proofs.Loops.{stop}
 use Rattle.basis.specs.Matrix.{matrixOf}
 use Rattle.columns.specs.Woven.{woven}
 use Rattle.gram_schmidt.specs.GramSchmidt.{held, passTo}
-use Rattle.gram_schmidt.specs.GramSchmidtLaws.{pass-none, pass-more}
-use Rattle.gram_schmidt.specs.Room.{line-fits}
+use Rattle.gram_schmidt.proofs.GramSchmidtLaws.{pass-none, pass-more}
+use Rattle.gram_schmidt.proofs.RoomLaws.{line-fits}
 use borrow.Author.Needs.{needs}
 use Rattle.gram_schmidt.proofs.pass.Statement.{statement}
 use Rattle.gram_schmidt.proofs.pass.Tie as tie

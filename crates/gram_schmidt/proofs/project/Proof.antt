@@ -1,5 +1,5 @@
 -- `gram_schmidt::project` meets its contract: the dot product, the subtraction and the sum in r are the callees'. Assumes nothing.
-use Rattle.gram_schmidt.specs.GramSchmidtLaws.{project-made}
+use Rattle.gram_schmidt.proofs.GramSchmidtLaws.{project-made}
 use borrow.Author.Needs.{needs}
 use Rattle.gram_schmidt.proofs.project.Statement.{statement}
 use Rattle.gram_schmidt.proofs.project.Tie as tie

@@ -1,6 +1,6 @@
 -- `gram_schmidt::residual_of` meets its contract: without a basis column a pass changes nothing. Assumes nothing.
 use native.Mathlib.Omega.{arith}
-use Rattle.gram_schmidt.specs.GramSchmidtLaws.{first-stop}
+use Rattle.gram_schmidt.proofs.GramSchmidtLaws.{first-stop}
 use borrow.Author.Needs.{needs}
 use Rattle.gram_schmidt.proofs.residual_of.Statement.{statement}
 use Rattle.gram_schmidt.proofs.residual_of.Tie as tie

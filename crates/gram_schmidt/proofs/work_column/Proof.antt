@@ -1,5 +1,5 @@
 -- `gram_schmidt::work_column` meets its contract: the column, its norm and its passes are the callees'. Assumes nothing.
-use Rattle.gram_schmidt.specs.GramSchmidtLaws.{column-worked}
+use Rattle.gram_schmidt.proofs.GramSchmidtLaws.{column-worked}
 use borrow.Author.Needs.{needs}
 use Rattle.gram_schmidt.proofs.work_column.Statement.{statement}
 use Rattle.gram_schmidt.proofs.work_column.Tie as tie

@@ -2,7 +2,7 @@
 use native.Mathlib.Nat.{mul-le-mul}
 use mathlib.Core.Path.{_∙_}
 use native.Mathlib.Omega.{arith}
-use Rattle.hermitian.specs.HermitianLaws.{tests-low, tests-high, tests-matrix, tests-values, tests-vectors, tests-scratch, tests-cells}
+use Rattle.hermitian.proofs.HermitianLaws.{tests-low, tests-high, tests-matrix, tests-values, tests-vectors, tests-scratch, tests-cells}
 use borrow.Author.Needs.{needs}
 use Rattle.hermitian.proofs.check.Statement.{statement}
 use Rattle.hermitian.proofs.check.Tie as tie

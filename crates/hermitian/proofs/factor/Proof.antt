@@ -3,7 +3,7 @@ use mathlib.Core.Path.{sym, _∙_}
 use native.Mathlib.Nat.{mul-le-mul}
 use native.Mathlib.Omega.{arith}
 use lib.Seq.{length-take-le}
-use Rattle.hermitian.specs.Steps.{rising-places, factored-made}
+use Rattle.hermitian.proofs.StepsLaws.{rising-places, factored-made}
 use borrow.Author.Needs.{needs}
 use Rattle.hermitian.proofs.factor.Statement.{statement}
 use Rattle.hermitian.proofs.factor.Tie as tie

@@ -1,6 +1,6 @@
 -- `hermitian::finish` meets its contract: all finite, or both lists zero. Assumes nothing.
 use mathlib.Core.Path.{refl, sym, _∙_}
-use Rattle.hermitian.specs.HermitianLaws.{finished-good, finished-bad}
+use Rattle.hermitian.proofs.HermitianLaws.{finished-good, finished-bad}
 use borrow.Author.Needs.{needs}
 use Rattle.hermitian.proofs.finish.Statement.{statement}
 use Rattle.hermitian.proofs.finish.Tie as tie

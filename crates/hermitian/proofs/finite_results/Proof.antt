@@ -1,7 +1,7 @@
 -- `hermitian::finite_results` meets its contract: one list after the other. Assumes nothing.
 use mathlib.Core.Path.{sym, _∙_}
 use borrow.Author.Tests.{not-true, not-false}
-use Rattle.hermitian.specs.HermitianLaws.{finite-first, finite-second}
+use Rattle.hermitian.proofs.HermitianLaws.{finite-first, finite-second}
 use borrow.Author.Needs.{needs}
 use Rattle.hermitian.proofs.finite_results.Statement.{statement}
 use Rattle.hermitian.proofs.finite_results.Tie as tie

@@ -7,7 +7,7 @@ use lib.ListN.{length}
 use lib.Seq.{length-take-le}
 use denote.Ref.{now}
 use Rattle.answers.proofs.Stopped.{passed, was-done, stopped-number}
-use Rattle.hermitian.specs.HermitianLaws.{Accepted, accepted, eigen-worked, eigen-refused}
+use Rattle.hermitian.proofs.HermitianLaws.{Accepted, accepted, eigen-worked, eigen-refused}
 use borrow.Author.Needs.{needs}
 use Rattle.hermitian.proofs.hermitian_eigen.Statement.{statement}
 use Rattle.hermitian.proofs.hermitian_eigen.Tie as tie

@@ -5,11 +5,12 @@ use native.Mathlib.Nat.{mul-le-mul}
 use native.Mathlib.Omega.{arith}
 use lib.ListN.{length}
 use denote.Ref.{now}
-use Rattle.complex.specs.Loops.{stop}
-use Rattle.loading.specs.Numbers.{column-fits}
-use Rattle.loading.specs.Loading.{planesTo, planes-none, planes-more}
+use Rattle.complex.proofs.Loops.{stop}
+use Rattle.loading.proofs.NumbersLaws.{column-fits}
+use Rattle.loading.specs.Loading.{planesTo}
+use Rattle.loading.proofs.LoadingLaws.{planes-none, planes-more}
 use Rattle.hermitian.specs.Shifted.{shiftedCell, shiftedAt}
-use Rattle.hermitian.specs.ShiftedLaws.{shifted-at}
+use Rattle.hermitian.proofs.ShiftedLaws.{shifted-at}
 use borrow.Author.Needs.{needs}
 use Rattle.hermitian.proofs.load_column.Statement.{statement}
 use Rattle.hermitian.proofs.load_column.Tie as tie

@@ -4,8 +4,9 @@ use Prim.Native.Nat.{_*_, _-_, _≤_}
 use native.Mathlib.Nat.{zero-mul}
 use lib.ListN.{length}
 use denote.Ref.{now}
-use Rattle.complex.specs.Loops.{stop}
-use Rattle.loading.specs.Loading.{planesTo, planes-none, planes-column, planes-all}
+use Rattle.complex.proofs.Loops.{stop}
+use Rattle.loading.specs.Loading.{planesTo}
+use Rattle.loading.proofs.LoadingLaws.{planes-none, planes-column, planes-all}
 use Rattle.hermitian.specs.Shifted.{shiftedAt}
 use borrow.Author.Needs.{needs}
 use Rattle.hermitian.proofs.load_shifted.Statement.{statement}

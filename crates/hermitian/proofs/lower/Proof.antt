@@ -3,12 +3,13 @@ use mathlib.Core.Path.{_≡_, refl, ap, _∙_}
 use Prim.Native.Nat.{_-_, _≤_}
 use lib.ListN.{length, getD, length-set}
 use lib.Ieee.{nan, binary64, sub}
-use Rattle.complex.specs.Loops.{stop}
+use Rattle.complex.proofs.Loops.{stop}
 use denote.Ref.{now}
 use native.Mathlib.Omega.{arith}
-use Rattle.loading.specs.Numbers.{filled, filled-none, filled-all}
-use Rattle.factors.specs.Grids.{filled-turn}
-use Rattle.hermitian.specs.Steps.{past-filled}
+use Rattle.loading.specs.Numbers.{filled}
+use Rattle.loading.proofs.NumbersLaws.{filled-none, filled-all}
+use Rattle.factors.proofs.Grids.{filled-turn}
+use Rattle.hermitian.proofs.StepsLaws.{past-filled}
 use borrow.Author.Needs.{needs}
 use Rattle.hermitian.proofs.lower.Statement.{statement}
 use Rattle.hermitian.proofs.lower.Tie as tie

@@ -1,10 +1,10 @@
 -- `hermitian::peak` meets its contract. The invariant: the largest modulus of the first i cells. Assumes nothing.
 use mathlib.Core.Path.{_≡_, _∙_}
 use Prim.Native.Nat.{_-_, _≤_}
-use Rattle.complex.specs.Loops.{stop}
+use Rattle.complex.proofs.Loops.{stop}
 use denote.Ref.{now}
 use Rattle.hermitian.specs.Shifted.{peakTo}
-use Rattle.hermitian.specs.ShiftedLaws.{peak-none, peak-more}
+use Rattle.hermitian.proofs.ShiftedLaws.{peak-none, peak-more}
 use borrow.Author.Needs.{needs}
 use Rattle.hermitian.proofs.peak.Statement.{statement}
 use Rattle.hermitian.proofs.peak.Tie as tie

@@ -1,6 +1,6 @@
 -- `hermitian::rank_rising` meets its contract: both lists that the ranking left are turned round. Assumes nothing.
 use native.Mathlib.Omega.{arith}
-use Rattle.hermitian.specs.Steps.{rising-made}
+use Rattle.hermitian.proofs.StepsLaws.{rising-made}
 use borrow.Author.Needs.{needs}
 use Rattle.hermitian.proofs.rank_rising.Statement.{statement}
 use Rattle.hermitian.proofs.rank_rising.Tie as tie

@@ -3,7 +3,7 @@ use mathlib.Core.Path.{_≡_, refl, ap, _∙_}
 use Prim.Native.Nat.{_-_, _≤_}
 use lib.ListN.{length, length-set}
 use native.Mathlib.Omega.{arith}
-use Rattle.hermitian.specs.Backward.{exchangesTo, exchanges-none, exchanges-more, exchanges-all}
+use Rattle.hermitian.proofs.BackwardLaws.{exchangesTo, exchanges-none, exchanges-more, exchanges-all}
 use borrow.Author.Needs.{needs}
 use Rattle.hermitian.proofs.reverse.Statement.{statement}
 use Rattle.hermitian.proofs.reverse.Tie as tie

@@ -1,7 +1,7 @@
 -- `hermitian::shift_of` meets its contract: the peak times the side, plus 1. Assumes nothing.
 use native.Mathlib.Nat.{mul-le-mul}
 use native.Mathlib.Omega.{arith}
-use Rattle.order.specs.Places.{small-in}
+use Rattle.order.proofs.PlacesLaws.{small-in}
 use Rattle.hermitian.specs.Shifted.{shiftOf}
 use Rattle.hermitian.proofs.shift_of.Statement.{statement}
 use Rattle.hermitian.proofs.shift_of.Tie as tie

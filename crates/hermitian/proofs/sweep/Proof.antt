@@ -1,7 +1,7 @@
 -- `hermitian::sweep` meets its contract: the sweeps on the shifted matrix, and no V changes the work matrix. Assumes nothing.
 use native.Mathlib.Nat.{mul-le-mul}
 use native.Mathlib.Omega.{arith}
-use Rattle.hermitian.specs.Steps.{sweep-made}
+use Rattle.hermitian.proofs.StepsLaws.{sweep-made}
 use borrow.Author.Needs.{needs}
 use Rattle.hermitian.proofs.sweep.Statement.{statement}
 use Rattle.hermitian.proofs.sweep.Tie as tie

@@ -1,8 +1,8 @@
 -- `hermitian::work` meets its contract: the shift, the factors, the values lowered, scratch zeroed, and the finite test. Assumes nothing.
 use denote.Ref.{now}
 use mathlib.Core.Path.{_∙_}
-use Rattle.hermitian.specs.Steps.{values-made, vectors-made}
-use Rattle.hermitian.specs.HermitianLaws.{worked}
+use Rattle.hermitian.proofs.StepsLaws.{values-made, vectors-made}
+use Rattle.hermitian.proofs.HermitianLaws.{worked}
 use borrow.Author.Needs.{needs}
 use Rattle.hermitian.proofs.work.Statement.{statement}
 use Rattle.hermitian.proofs.work.Tie as tie

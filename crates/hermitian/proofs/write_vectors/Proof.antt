@@ -4,7 +4,7 @@ use Prim.Native.Nat.{_*_}
 use native.Mathlib.Omega.{arith}
 use denote.Ref.{now}
 use lib.Seq.{length-take-le}
-use Rattle.thin.specs.Thin.{part-length}
+use Rattle.thin.proofs.ThinLaws.{part-length}
 use borrow.Author.Needs.{needs}
 use Rattle.hermitian.proofs.write_vectors.Statement.{statement}
 use Rattle.hermitian.proofs.write_vectors.Tie as tie

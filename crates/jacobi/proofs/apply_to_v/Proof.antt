@@ -3,7 +3,7 @@ use Prim.Native.Nat.{_+_, _*_, _≤_}
 use native.Mathlib.Nat.{mul-le-mul, pos-of-ne-zero}
 use native.Mathlib.Omega.{arith}
 use borrow.Author.Needs.{needs}
-use Rattle.jacobi.specs.Sweeping.{column-fits, v-none}
+use Rattle.jacobi.proofs.SweepingLaws.{column-fits, v-none}
 use Rattle.jacobi.proofs.apply_to_v.Statement.{statement}
 use Rattle.jacobi.proofs.apply_to_v.Tie as tie
 

@@ -3,9 +3,11 @@ use mathlib.Core.Path.{_≡_, refl, _∙_}
 use Prim.Native.Nat.{_+_, _-_, _≤_, _<_}
 use lib.ListN.{length}
 use native.Mathlib.Omega.{arith}
-use Rattle.jacobi.specs.Counts.{pair-after}
-use Rattle.jacobi.specs.Sweeping.{state, pairsTo, pairs-none, pairs-more, v-kept}
-use Rattle.jacobi.specs.Marks.{look, Seen, seen-into, seen-column, seen-at}
+use Rattle.jacobi.proofs.Counts.{pair-after}
+use Rattle.jacobi.specs.Sweeping.{state, pairsTo}
+use Rattle.jacobi.proofs.SweepingLaws.{pairs-none, pairs-more, v-kept}
+use Rattle.jacobi.specs.Marks.{look, Seen}
+use Rattle.jacobi.proofs.MarksLaws.{seen-into, seen-column, seen-at}
 use Rattle.jacobi.proofs.column.Statement.{statement}
 use Rattle.jacobi.proofs.column.Tie as tie
 

@@ -3,9 +3,11 @@ use mathlib.Core.Path.{_≡_, refl, sym, _∙_}
 use Prim.Native.Nat.{_+_, _-_, _*_, _≤_}
 use lib.ListN.{length}
 use native.Mathlib.Omega.{arith}
-use Rattle.jacobi.specs.Counts.{sweep-after, pairs-few}
-use Rattle.jacobi.specs.Sweeping.{state, settled, sweepsTo, settled-start, sweeps-done, sweeps-more, sweeps-quiet, v-kept}
-use Rattle.jacobi.specs.Marks.{look, Seen, seen-first, seen-at}
+use Rattle.jacobi.proofs.Counts.{sweep-after, pairs-few}
+use Rattle.jacobi.specs.Sweeping.{state, settled, sweepsTo}
+use Rattle.jacobi.proofs.SweepingLaws.{settled-start, sweeps-done, sweeps-more, sweeps-quiet, v-kept}
+use Rattle.jacobi.specs.Marks.{look, Seen}
+use Rattle.jacobi.proofs.MarksLaws.{seen-first, seen-at}
 use borrow.Author.Needs.{needs}
 use Rattle.jacobi.proofs.settle.Statement.{statement}
 use Rattle.jacobi.proofs.settle.Tie as tie

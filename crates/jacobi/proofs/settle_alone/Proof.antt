@@ -1,6 +1,6 @@
 -- `jacobi::settle_alone` meets its contract: the sweeps keep an empty V empty. Assumes nothing.
 use borrow.Author.Needs.{needs}
-use Rattle.jacobi.specs.Sweeping.{state-alone}
+use Rattle.jacobi.proofs.SweepingLaws.{state-alone}
 use Rattle.jacobi.proofs.settle_alone.Statement.{statement}
 use Rattle.jacobi.proofs.settle_alone.Tie as tie
 

@@ -3,9 +3,11 @@ use mathlib.Core.Path.{_≡_, refl, _∙_}
 use Prim.Native.Nat.{_+_, _-_, _≤_}
 use lib.ListN.{length}
 use native.Mathlib.Omega.{arith}
-use Rattle.jacobi.specs.Counts.{pairsBelow, pairs-few, pairs-after, turned-more}
-use Rattle.jacobi.specs.Sweeping.{state, sweep-made, columnsTo, columns-none, columns-more, v-kept}
-use Rattle.jacobi.specs.Marks.{look, Seen, seen-sweep, seen-at}
+use Rattle.jacobi.proofs.Counts.{pairsBelow, pairs-few, pairs-after, turned-more}
+use Rattle.jacobi.specs.Sweeping.{state, columnsTo}
+use Rattle.jacobi.proofs.SweepingLaws.{sweep-made, columns-none, columns-more, v-kept}
+use Rattle.jacobi.specs.Marks.{look, Seen}
+use Rattle.jacobi.proofs.MarksLaws.{seen-sweep, seen-at}
 use borrow.Author.Needs.{needs}
 use Rattle.jacobi.proofs.sweep.Statement.{statement}
 use Rattle.jacobi.proofs.sweep.Tie as tie

@@ -4,7 +4,7 @@ use Prim.Native.Nat.{_+_, _*_, _<_}
 use denote.Ref.{now}
 use lib.ListN.{length}
 use lib.Seq.{lt-length-set}
-use Rattle.jacobi.specs.Marks.{seen-old, seen-left, seen-turned, seen-same, uncounted, done-to, passed-over}
+use Rattle.jacobi.proofs.MarksLaws.{seen-old, seen-left, seen-turned, seen-same, uncounted, done-to, passed-over}
 use borrow.Author.Needs.{needs}
 use Rattle.jacobi.proofs.visit.Statement.{statement}
 use Rattle.jacobi.proofs.visit.Tie as tie

@@ -3,8 +3,8 @@ use Prim.Native.Nat.{_-_, _*_}
 use native.Mathlib.Omega.{arith}
 use Rattle.basis.specs.Matrix.{matrixOf}
 use Rattle.columns.specs.Columns.{cellFrom}
-use Rattle.columns.specs.ColumnLaws.{column-cell}
-use Rattle.columns.specs.Woven.{Filled, fill-begin, fill-turn, column-end}
+use Rattle.columns.proofs.ColumnLaws.{column-cell}
+use Rattle.columns.proofs.WovenLaws.{Filled, fill-begin, fill-turn, column-end}
 use Rattle.laying.proofs.copy_column.Statement.{statement}
 use Rattle.laying.proofs.copy_column.Tie as tie
 

@@ -3,9 +3,9 @@ use Prim.Native.Nat.{_-_, _≤_}
 use mathlib.Core.Path.{_≡_, refl, _∙_}
 use native.Mathlib.Omega.{arith}
 use lib.ListN.{length}
-use Rattle.complex.specs.Loops.{stop}
-use Rattle.basis.specs.Matrix.{before}
-use Rattle.laying.specs.Laying.{laidOut, laid-none, laid-more, laid-all}
+use Rattle.complex.proofs.Loops.{stop}
+use Rattle.basis.proofs.MatrixLaws.{before}
+use Rattle.laying.proofs.LayingLaws.{laidOut, laid-none, laid-more, laid-all}
 use Rattle.laying.proofs.lay_out.Statement.{statement}
 use Rattle.laying.proofs.lay_out.Tie as tie
 

@@ -3,9 +3,10 @@ use Prim.Native.Nat.{_-_, _≤_}
 use mathlib.Core.Path.{_≡_, refl}
 use native.Mathlib.Omega.{arith}
 use lib.ListN.{length}
-use Rattle.complex.specs.Loops.{stop}
+use Rattle.complex.proofs.Loops.{stop}
 use Rattle.columns.specs.Woven.{woven}
-use Rattle.laying.specs.Laying.{placedInto, placed-none, placed-row}
+use Rattle.laying.specs.Laying.{placedInto}
+use Rattle.laying.proofs.LayingLaws.{placed-none, placed-row}
 use borrow.Author.Needs.{needs}
 use Rattle.laying.proofs.place_column.Statement.{statement}
 use Rattle.laying.proofs.place_column.Tie as tie

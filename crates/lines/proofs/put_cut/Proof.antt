@@ -4,7 +4,7 @@ use native.Mathlib.Omega.{arith}
 use lib.ListN.{length-append}
 use Rattle.texts.specs.Text.{itemText}
 use Rattle.lines.specs.Lines.{cutWord, blank, cutLine}
-use Rattle.texts.specs.TextLaws.{length-item, puts-then}
+use Rattle.texts.proofs.TextLaws.{length-item, puts-then}
 use borrow.Author.Needs.{needs}
 use Rattle.lines.proofs.put_cut.Statement.{statement}
 use Rattle.lines.proofs.put_cut.Tie as tie

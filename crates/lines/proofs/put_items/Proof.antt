@@ -7,8 +7,8 @@ use native.Mathlib.Omega.{arith}
 use lib.ListN.{length}
 use Rattle.texts.specs.Text.{Puts}
 use Rattle.lines.specs.Lines.{items}
-use Rattle.texts.specs.TextLaws.{puts-as}
-use Rattle.lines.specs.LineLaws.{items-none, items-room, items-turn}
+use Rattle.texts.proofs.TextLaws.{puts-as}
+use Rattle.lines.proofs.LineLaws.{items-none, items-room, items-turn}
 use borrow.Author.Needs.{needs}
 use Rattle.lines.proofs.put_items.Statement.{statement}
 use Rattle.lines.proofs.put_items.Tie as tie

@@ -5,8 +5,8 @@ use mathlib.Core.List.{_++_}
 use denote.Ref.{now}
 use lib.ListN.{length, length-append}
 use Rattle.lines.specs.Lines.{cutLine, sideLine, valueLines, listing}
-use Rattle.texts.specs.TextLaws.{puts-then}
-use Rattle.lines.specs.LineLaws.{length-cut, length-side, length-values}
+use Rattle.texts.proofs.TextLaws.{puts-then}
+use Rattle.lines.proofs.LineLaws.{length-cut, length-side, length-values}
 use borrow.Author.Needs.{needs}
 use Rattle.lines.proofs.put_listing.Statement.{statement}
 use Rattle.lines.proofs.put_listing.Tie as tie

@@ -2,7 +2,7 @@
 -- Assumes nothing.
 use mathlib.Core.Path.{ap₂}
 use Rattle.texts.specs.Text.{pairLine}
-use Rattle.texts.specs.TextLaws.{puts-as}
+use Rattle.texts.proofs.TextLaws.{puts-as}
 use Rattle.lines.specs.Lines.{refusedWord, refusedLine}
 use borrow.Author.Needs.{needs}
 use Rattle.lines.proofs.put_refused.Statement.{statement}

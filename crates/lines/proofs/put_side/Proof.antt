@@ -4,8 +4,8 @@ use native.Mathlib.Omega.{arith}
 use denote.Ref.{now}
 use lib.ListN.{length, length-append}
 use Rattle.lines.specs.Lines.{sideWord, items, sideLine}
-use Rattle.texts.specs.TextLaws.{puts-then}
-use Rattle.lines.specs.LineLaws.{length-items}
+use Rattle.texts.proofs.TextLaws.{puts-then}
+use Rattle.lines.proofs.LineLaws.{length-items}
 use borrow.Author.Needs.{needs}
 use Rattle.lines.proofs.put_side.Statement.{statement}
 use Rattle.lines.proofs.put_side.Tie as tie

@@ -5,7 +5,7 @@ use mathlib.Core.List.{_++_}
 use lib.ListN.{length-append}
 use Rattle.texts.specs.Text.{itemText, hex}
 use Rattle.lines.specs.Lines.{valueWord, blank, valueLine}
-use Rattle.texts.specs.TextLaws.{length-item, length-hex, puts-then}
+use Rattle.texts.proofs.TextLaws.{length-item, length-hex, puts-then}
 use borrow.Author.Needs.{needs}
 use Rattle.lines.proofs.put_value.Statement.{statement}
 use Rattle.lines.proofs.put_value.Tie as tie

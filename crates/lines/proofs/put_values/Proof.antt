@@ -7,8 +7,8 @@ use denote.Ref.{now}
 use lib.ListN.{length}
 use Rattle.texts.specs.Text.{Puts}
 use Rattle.lines.specs.Lines.{valueLines}
-use Rattle.texts.specs.TextLaws.{puts-as}
-use Rattle.lines.specs.LineLaws.{values-none, values-room, values-turn}
+use Rattle.texts.proofs.TextLaws.{puts-as}
+use Rattle.lines.proofs.LineLaws.{values-none, values-room, values-turn}
 use borrow.Author.Needs.{needs}
 use Rattle.lines.proofs.put_values.Statement.{statement}
 use Rattle.lines.proofs.put_values.Tie as tie

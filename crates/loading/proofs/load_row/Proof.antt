@@ -5,9 +5,10 @@ use native.Mathlib.Nat.{mul-comm}
 use native.Mathlib.Omega.{arith}
 use lib.ListN.{length}
 use denote.Ref.{now}
-use Rattle.complex.specs.Loops.{stop}
-use Rattle.loading.specs.Numbers.{column-fits}
-use Rattle.loading.specs.Loading.{conjugateTransposed, planesTo, planes-none, planes-more, transposed-at}
+use Rattle.complex.proofs.Loops.{stop}
+use Rattle.loading.proofs.NumbersLaws.{column-fits}
+use Rattle.loading.specs.Loading.{conjugateTransposed, planesTo}
+use Rattle.loading.proofs.LoadingLaws.{planes-none, planes-more, transposed-at}
 use borrow.Author.Needs.{needs}
 use Rattle.loading.proofs.load_row.Statement.{statement}
 use Rattle.loading.proofs.load_row.Tie as tie

@@ -3,9 +3,10 @@ use mathlib.Core.Path.{_≡_, refl, _∙_}
 use Prim.Native.Nat.{_-_, _≤_}
 use lib.ListN.{length}
 use denote.Ref.{now}
-use Rattle.complex.specs.Loops.{stop}
+use Rattle.complex.proofs.Loops.{stop}
 use Rattle.complex.specs.Cells.{cellAt}
-use Rattle.loading.specs.Loading.{planesTo, planes-none, planes-next, planes-all}
+use Rattle.loading.specs.Loading.{planesTo}
+use Rattle.loading.proofs.LoadingLaws.{planes-none, planes-next, planes-all}
 use borrow.Author.Needs.{needs}
 use Rattle.loading.proofs.load_tall.Statement.{statement}
 use Rattle.loading.proofs.load_tall.Tie as tie

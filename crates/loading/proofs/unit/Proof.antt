@@ -4,9 +4,10 @@ use Prim.Native.Nat.{_+_, _*_, _-_, _≤_}
 use native.Mathlib.Omega.{arith}
 use lib.ListN.{length, length-set}
 use denote.Ref.{now}
-use Rattle.complex.specs.Loops.{stop}
-use Rattle.loading.specs.Numbers.{column-fits}
-use Rattle.loading.specs.Loading.{unitTo, unit-none, unit-more, unit-all}
+use Rattle.complex.proofs.Loops.{stop}
+use Rattle.loading.proofs.NumbersLaws.{column-fits}
+use Rattle.loading.specs.Loading.{unitTo}
+use Rattle.loading.proofs.LoadingLaws.{unit-none, unit-more, unit-all}
 use borrow.Author.Needs.{needs}
 use Rattle.loading.proofs.unit.Statement.{statement}
 use Rattle.loading.proofs.unit.Tie as tie

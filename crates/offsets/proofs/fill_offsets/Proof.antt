@@ -6,7 +6,7 @@ use native.Mathlib.Omega.{arith}
 use lib.ListN.{length, length-set}
 use Rattle.qubits.specs.Spread.{table, rowOffset}
 use Rattle.offsets.specs.Calls.{fronted}
-use Rattle.offsets.specs.CallLaws.{table-none, table-more, table-end}
+use Rattle.offsets.proofs.CallLaws.{table-none, table-more, table-end}
 use borrow.Author.Needs.{needs}
 use Rattle.offsets.proofs.fill_offsets.Statement.{statement}
 use Rattle.offsets.proofs.fill_offsets.Tie as tie

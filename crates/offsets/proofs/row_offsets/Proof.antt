@@ -6,7 +6,7 @@ use borrow.Author.Tests.{lt-ltb, le-ltb}
 use lib.ListN.{length}
 use denote.Ref.{now}
 use Rattle.answers.proofs.Stopped.{refused, passed, was-done, stopped-number}
-use Rattle.offsets.specs.CallLaws.{density-listed, offsets-refused, offsets-done}
+use Rattle.offsets.proofs.CallLaws.{density-listed, offsets-refused, offsets-done}
 use borrow.Author.Needs.{needs}
 use Rattle.offsets.proofs.row_offsets.Statement.{statement}
 use Rattle.offsets.proofs.row_offsets.Tie as tie

@@ -2,7 +2,7 @@
 use mathlib.Core.Path.{refl, sym, ap, _∙_}
 use Rattle.answers.specs.Paper.{paper}
 use Rattle.answers.proofs.Stopped.{was-done, stopped-number}
-use Rattle.offsets.specs.CallLaws.{traced-listed, traced-refused, traced-done}
+use Rattle.offsets.proofs.CallLaws.{traced-listed, traced-refused, traced-done}
 use borrow.Author.Needs.{needs}
 use Rattle.offsets.proofs.traced_base.Statement.{statement}
 use Rattle.offsets.proofs.traced_base.Tie as tie

@@ -4,7 +4,7 @@ use borrow.Author.Tests.{lt-ltb, le-ltb}
 use Rattle.answers.proofs.Stopped.{refused, passed, was-done}
 use denote.Ref.{now}
 use lib.ListN.{length}
-use Rattle.offsets.specs.CallLaws.{sizes-done}
+use Rattle.offsets.proofs.CallLaws.{sizes-done}
 use borrow.Author.Needs.{needs}
 use Rattle.offsets.proofs.traced_refusal.Statement.{statement}
 use Rattle.offsets.proofs.traced_refusal.Tie as tie

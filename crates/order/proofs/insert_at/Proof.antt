@@ -4,7 +4,8 @@ use mathlib.Core.Path.{_≡_, refl, sym, _∙_}
 use Prim.Native.Nat.{_-_, _≤_, _<_}
 use lib.ListN.{length, length-set}
 use native.Mathlib.Omega.{arith}
-use Rattle.order.specs.Push.{pushAt, pushAt-more, pushAt-done}
+use Rattle.order.specs.Push.{pushAt}
+use Rattle.order.proofs.PushLaws.{pushAt-more, pushAt-done}
 use Rattle.order.proofs.insert_at.Statement.{statement}
 use Rattle.order.proofs.insert_at.Tie as tie
 

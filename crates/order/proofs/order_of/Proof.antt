@@ -5,8 +5,10 @@ use native.Mathlib.Omega.{arith}
 use lib.ListN.{length, take}
 use lib.Seq.{length-take-le, take-all}
 use denote.Ref.{now}
-use Rattle.order.specs.Places.{placesOf, placesIn, Places, below-more, places-back, small-in}
-use Rattle.order.specs.Order.{orderTo, seatOf, order-none, order-below, order-more, seat-le, length-order}
+use Rattle.order.specs.Places.{placesOf, placesIn, Places}
+use Rattle.order.proofs.PlacesLaws.{below-more, places-back, small-in}
+use Rattle.order.specs.Order.{orderTo, seatOf}
+use Rattle.order.proofs.OrderLaws.{order-none, order-below, order-more, seat-le, length-order}
 use borrow.Author.Needs.{needs}
 use Rattle.order.proofs.order_of.Statement.{statement}
 use Rattle.order.proofs.order_of.Tie as tie

@@ -1,5 +1,5 @@
 -- `order::read_place` meets its contract: a small whole number comes back from its float. Assumes nothing.
-use Rattle.order.specs.Places.{castable, read-back, read-low}
+use Rattle.order.proofs.PlacesLaws.{castable, read-back, read-low}
 use borrow.Author.Needs.{needs}
 use Rattle.order.proofs.read_place.Statement.{statement}
 use Rattle.order.proofs.read_place.Tie as tie

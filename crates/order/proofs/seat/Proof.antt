@@ -4,8 +4,10 @@ use Prim.Native.Nat.{_+_, _-_, _≤_}
 use native.Mathlib.Omega.{arith}
 use lib.ListN.{length, drop}
 use denote.Ref.{now}
-use Rattle.order.specs.Places.{placesIn, length-placesIn}
-use Rattle.order.specs.Order.{seatOf, seat-end, seat-here, seat-past}
+use Rattle.order.specs.Places.{placesIn}
+use Rattle.order.proofs.PlacesLaws.{length-placesIn}
+use Rattle.order.specs.Order.{seatOf}
+use Rattle.order.proofs.OrderLaws.{seat-end, seat-here, seat-past}
 use borrow.Author.Needs.{needs}
 use Rattle.order.proofs.seat.Statement.{statement}
 use Rattle.order.proofs.seat.Tie as tie

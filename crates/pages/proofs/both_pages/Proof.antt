@@ -3,7 +3,7 @@ use native.Mathlib.Omega.{arith}
 use mathlib.Core.Path.{refl, sym}
 use lib.Seq.{length-take-le}
 use Rattle.answers.proofs.Stopped.{stopped-number}
-use Rattle.pages.specs.AgreeLaws.{state-fits, both-refused, both-done}
+use Rattle.pages.proofs.AgreeLaws.{state-fits, both-refused, both-done}
 use borrow.Author.Needs.{needs}
 use Rattle.pages.proofs.both_pages.Statement.{statement}
 use Rattle.pages.proofs.both_pages.Tie as tie

@@ -1,7 +1,7 @@
 -- `pages::compare` meets its contract at each way out: both densities are written over 8192 zeros. Assumes nothing.
 use mathlib.Core.Path.{refl}
 use Rattle.answers.proofs.Stopped.{stopped-number}
-use Rattle.pages.specs.AgreeLaws.{compared-refused, compared-done}
+use Rattle.pages.proofs.AgreeLaws.{compared-refused, compared-done}
 use borrow.Author.Needs.{needs}
 use Rattle.pages.proofs.compare.Statement.{statement}
 use Rattle.pages.proofs.compare.Tie as tie

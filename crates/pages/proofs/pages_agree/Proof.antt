@@ -1,7 +1,7 @@
 -- `pages::pages_agree` meets its contract at each way out: the sizes, then both pages. Assumes nothing.
 use denote.Ref.{now}
 use Rattle.answers.proofs.Stopped.{stopped-number}
-use Rattle.pages.specs.AgreeLaws.{pages-refused, pages-done}
+use Rattle.pages.proofs.AgreeLaws.{pages-refused, pages-done}
 use borrow.Author.Needs.{needs}
 use Rattle.pages.proofs.pages_agree.Statement.{statement}
 use Rattle.pages.proofs.pages_agree.Tie as tie

@@ -1,6 +1,6 @@
 -- `pages::same_again` meets its contract at each way out. Assumes nothing.
 use Rattle.answers.proofs.Stopped.{stopped-number}
-use Rattle.pages.specs.AgreeLaws.{again-refused, again-done}
+use Rattle.pages.proofs.AgreeLaws.{again-refused, again-done}
 use borrow.Author.Needs.{needs}
 use Rattle.pages.proofs.same_again.Statement.{statement}
 use Rattle.pages.proofs.same_again.Tie as tie

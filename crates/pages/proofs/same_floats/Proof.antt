@@ -5,7 +5,7 @@ use Prim.Native.Nat.{_≤_, _-_}
 use native.Mathlib.Omega.{arith}
 use lib.ListN.{length, drop}
 use Rattle.pages.specs.Agree.{sameFloats}
-use Rattle.pages.specs.AgreeLaws.{same-short, same-turn, same-stop, same-end}
+use Rattle.pages.proofs.AgreeLaws.{same-short, same-turn, same-stop, same-end}
 use borrow.Author.Needs.{needs}
 use Rattle.pages.proofs.same_floats.Statement.{statement}
 use Rattle.pages.proofs.same_floats.Tie as tie

@@ -1,6 +1,7 @@
 -- `pairs::apply` meets its contract: one case of the definition for each case of the decision. Assumes nothing.
-use Rattle.pairs.specs.Turns.{applied, applied-turn}
-use Rattle.pairs.specs.ZeroProducts.{factors-real}
+use Rattle.pairs.specs.Turns.{applied}
+use Rattle.pairs.proofs.TurnsLaws.{applied-turn}
+use Rattle.pairs.proofs.ZeroProductsLaws.{factors-real}
 use borrow.Author.Needs.{needs}
 use Rattle.pairs.proofs.apply.Statement.{statement}
 use Rattle.pairs.proofs.apply.Tie as tie

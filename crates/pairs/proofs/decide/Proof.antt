@@ -1,6 +1,7 @@
 -- `pairs::decide` meets its contract: a law for each way through the code. Assumes nothing.
 use mathlib.Core.Path.{ap}
-use Rattle.pairs.specs.Decisions.{verdict, decision-leave, decision-turn}
+use Rattle.pairs.specs.Decisions.{verdict}
+use Rattle.pairs.proofs.DecisionsLaws.{decision-leave, decision-turn}
 use borrow.Author.Needs.{needs}
 use Rattle.pairs.proofs.decide.Statement.{statement}
 use Rattle.pairs.proofs.decide.Tie as tie

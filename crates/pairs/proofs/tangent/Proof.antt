@@ -1,6 +1,6 @@
 -- `pairs::tangent` meets its contract: a law for each branch, and the size of tau is the same however its sign is tested. Assumes nothing.
 use mathlib.Core.Logic.{_⊎_, inl, inr, ⊎-elim}
-use Rattle.pairs.specs.Decisions.{Size, tangent-up, tangent-down}
+use Rattle.pairs.proofs.DecisionsLaws.{Size, tangent-up, tangent-down}
 use borrow.Author.Needs.{needs}
 use Rattle.pairs.proofs.tangent.Statement.{statement}
 use Rattle.pairs.proofs.tangent.Tie as tie

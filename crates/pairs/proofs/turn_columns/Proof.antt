@@ -4,8 +4,9 @@ use mathlib.Core.Path.{_≡_, refl}
 use Prim.Native.Nat.{ℕ, _≤_, _-_}
 use lib.ListN.{length}
 use denote.Ref.{now}
-use Rattle.complex.specs.Loops.{stop}
-use Rattle.pairs.specs.Turns.{turnRows, turnRows-none, turnRows-more}
+use Rattle.complex.proofs.Loops.{stop}
+use Rattle.pairs.specs.Turns.{turnRows}
+use Rattle.pairs.proofs.TurnsLaws.{turnRows-none, turnRows-more}
 use Rattle.pairs.proofs.turn_columns.Statement.{statement}
 use Rattle.pairs.proofs.turn_columns.Tie as tie
 

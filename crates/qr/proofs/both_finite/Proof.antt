@@ -1,5 +1,5 @@
 -- `qr::both_finite` meets its contract: the second list counts where the first is finite. Assumes nothing.
-use Rattle.qr.specs.CallLaws.{both-yes, both-no}
+use Rattle.qr.proofs.CallLaws.{both-yes, both-no}
 use borrow.Author.Needs.{needs}
 use Rattle.qr.proofs.both_finite.Statement.{statement}
 use Rattle.qr.proofs.both_finite.Tie as tie

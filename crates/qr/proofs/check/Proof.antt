@@ -2,7 +2,7 @@
 use mathlib.Core.Path.{sym, _∙_}
 use Rattle.answers.proofs.Stopped.{refused, passed, was-done}
 use Rattle.qr.specs.Call.{refusal}
-use Rattle.qr.specs.CallLaws.{sizes-done}
+use Rattle.qr.proofs.CallLaws.{sizes-done}
 use borrow.Author.Needs.{needs}
 use Rattle.qr.proofs.check.Statement.{statement}
 use Rattle.qr.proofs.check.Tie as tie

@@ -1,6 +1,6 @@
 -- `qr::check_lengths` meets its contract: each way out is one test of the row. Assumes nothing.
 use native.Mathlib.Omega.{arith}
-use Rattle.qr.specs.CallLaws.{q-cells, r-cells, q-same, r-same, rows-within, length-0, length-1, length-2, length-3, length-ok}
+use Rattle.qr.proofs.CallLaws.{q-cells, r-cells, q-same, r-same, rows-within, length-0, length-1, length-2, length-3, length-ok}
 use borrow.Author.Needs.{needs}
 use Rattle.qr.proofs.check_lengths.Statement.{statement}
 use Rattle.qr.proofs.check_lengths.Tie as tie

@@ -1,7 +1,7 @@
 -- `qr::check_sizes` meets its contract: each way out is one test of the row; a side above 4,096 makes the product so. Assumes nothing.
 use native.Mathlib.Omega.{arith}
 use native.Mathlib.Nat.{mul-le-mul}
-use Rattle.qr.specs.CallLaws.{no-rows, no-cols, too-many, sized, rows-within, cols-within}
+use Rattle.qr.proofs.CallLaws.{no-rows, no-cols, too-many, sized, rows-within, cols-within}
 use Rattle.qr.proofs.check_sizes.Statement.{statement}
 use Rattle.qr.proofs.check_sizes.Tie as tie
 

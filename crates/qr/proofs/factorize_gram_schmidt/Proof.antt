@@ -9,7 +9,7 @@ use Rattle.answers.proofs.Stopped.{was-done, stopped-number}
 use Rattle.complex.specs.Zeros.{zeros}
 use Rattle.gram_schmidt.specs.Room.{Room}
 use Rattle.qr.specs.Call.{Sized, refusal}
-use Rattle.qr.specs.CallLaws.{Long, q-cells, r-cells, q-same, r-same, rows-within, refusal-sized, refusal-long, parts-room, room-some, call-refused, call-passed, call-worked}
+use Rattle.qr.proofs.CallLaws.{Long, q-cells, r-cells, q-same, r-same, rows-within, refusal-sized, refusal-long, parts-room, room-some, call-refused, call-passed, call-worked}
 use borrow.Author.Needs.{needs}
 use Rattle.qr.proofs.factorize_gram_schmidt.Statement.{statement}
 use Rattle.qr.proofs.factorize_gram_schmidt.Tie as tie

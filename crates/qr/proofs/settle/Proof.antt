@@ -1,6 +1,6 @@
 -- `qr::settle` meets its contract: both lists are finite, or both are cleared. Assumes nothing.
 use mathlib.Core.Path.{sym, _∙_}
-use Rattle.qr.specs.CallLaws.{settled, cleared}
+use Rattle.qr.proofs.CallLaws.{settled, cleared}
 use borrow.Author.Needs.{needs}
 use Rattle.qr.proofs.settle.Statement.{statement}
 use Rattle.qr.proofs.settle.Tie as tie

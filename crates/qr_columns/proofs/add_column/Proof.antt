@@ -1,7 +1,7 @@
 -- `qr_columns::add_column` meets its contract: a column worked and then judged is `addColumn`. Assumes nothing.
 use native.Mathlib.Omega.{arith}
-use Rattle.gram_schmidt.specs.Room.{line-fits}
-use Rattle.gram_schmidt.specs.GramSchmidtLaws.{column-added}
+use Rattle.gram_schmidt.proofs.RoomLaws.{line-fits}
+use Rattle.gram_schmidt.proofs.GramSchmidtLaws.{column-added}
 use native.Mathlib.Nat.{mul-le-mul-right}
 use borrow.Author.Needs.{needs}
 use Rattle.qr_columns.proofs.add_column.Statement.{statement}

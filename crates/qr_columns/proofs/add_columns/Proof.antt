@@ -3,10 +3,10 @@ use native.Mathlib.Omega.{arith}
 use mathlib.Core.Path.{_≡_, refl}
 use Prim.Native.Nat.{_-_, _≤_}
 use lib.ListN.{length}
-use Rattle.complex.specs.Loops.{stop}
+use Rattle.complex.proofs.Loops.{stop}
 use Rattle.basis.specs.Matrix.{matrixOf}
 use Rattle.gram_schmidt.specs.GramSchmidt.{factors, columnsTo}
-use Rattle.gram_schmidt.specs.GramSchmidtLaws.{columns-none, columns-more}
+use Rattle.gram_schmidt.proofs.GramSchmidtLaws.{columns-none, columns-more}
 use borrow.Author.Needs.{needs}
 use Rattle.qr_columns.proofs.add_columns.Statement.{statement}
 use Rattle.qr_columns.proofs.add_columns.Tie as tie

@@ -1,8 +1,8 @@
 -- `qr_columns::build` meets its contract: both slices start as zeros, and the columns are the callee's. Assumes nothing.
 use mathlib.Core.Path.{refl, _∙_}
 use denote.Ref.{now}
-use Rattle.gram_schmidt.specs.Room.{room-kept}
-use Rattle.qr_columns.specs.Whole.{built}
+use Rattle.gram_schmidt.proofs.RoomLaws.{room-kept}
+use Rattle.qr_columns.proofs.Whole.{built}
 use borrow.Author.Needs.{needs}
 use Rattle.qr_columns.proofs.build.Statement.{statement}
 use Rattle.qr_columns.proofs.build.Tie as tie

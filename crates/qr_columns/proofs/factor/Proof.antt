@@ -1,8 +1,8 @@
 -- `qr_columns::factor` meets its contract: the columns, their cells and the basis are the callees'. Assumes nothing.
 use mathlib.Core.Path.{refl, _∙_}
 use native.Mathlib.Omega.{arith}
-use Rattle.gram_schmidt.specs.Room.{room-kept}
-use Rattle.qr_columns.specs.Whole.{factor-made}
+use Rattle.gram_schmidt.proofs.RoomLaws.{room-kept}
+use Rattle.qr_columns.proofs.Whole.{factor-made}
 use borrow.Author.Needs.{needs}
 use Rattle.qr_columns.proofs.factor.Statement.{statement}
 use Rattle.qr_columns.proofs.factor.Tie as tie

@@ -1,5 +1,5 @@
 -- `qr_columns::with_basis` meets its contract: the two ways are the two cases of `basisFor`. Assumes nothing.
-use Rattle.gram_schmidt.specs.GramSchmidtLaws.{basis-first, basis-kept}
+use Rattle.gram_schmidt.proofs.GramSchmidtLaws.{basis-first, basis-kept}
 use borrow.Author.Needs.{needs}
 use Rattle.qr_columns.proofs.with_basis.Statement.{statement}
 use Rattle.qr_columns.proofs.with_basis.Tie as tie

@@ -1,7 +1,7 @@
 -- `qubits::insert_zero_bit` meets its contract: what is shifted up still fits. Assumes nothing.
 use native.Mathlib.Omega.{arith}
 use lib.Pow.{pow-pos}
-use Rattle.qubits.specs.SpreadLaws.{insert-code}
+use Rattle.qubits.proofs.SpreadLaws.{insert-code}
 use borrow.Author.Needs.{needs}
 use Rattle.qubits.proofs.insert_zero_bit.Statement.{statement}
 use Rattle.qubits.proofs.insert_zero_bit.Tie as tie

@@ -8,7 +8,7 @@ use lib.ListN.{length, drop}
 use lib.Bits.{or-lt, bitOr}
 use lib.Pow.{pow-lt, pow-pos}
 use Rattle.qubits.specs.Spread.{named, maskFrom}
-use Rattle.qubits.specs.NamedLaws.{mask-end, mask-more}
+use Rattle.qubits.proofs.NamedLaws.{mask-end, mask-more}
 use Rattle.qubits.proofs.mask_of.Statement.{statement}
 use Rattle.qubits.proofs.mask_of.Tie as tie
 

@@ -6,7 +6,7 @@ use native.Mathlib.Omega.{arith}
 use lib.ListN.{length, drop, getD}
 use lib.Bits.{bitOr}
 use Rattle.qubits.specs.Spread.{rowOffset, spread}
-use Rattle.qubits.specs.SpreadLaws.{spread-turn, bit-code, offset-begin, offset-end}
+use Rattle.qubits.proofs.SpreadLaws.{spread-turn, bit-code, offset-begin, offset-end}
 use borrow.Author.Needs.{needs}
 use Rattle.qubits.proofs.row_offset.Statement.{statement}
 use Rattle.qubits.proofs.row_offset.Tie as tie

@@ -4,8 +4,8 @@ use mathlib.Core.Path.{sym, _∙_}
 use mathlib.Core.Logic.{⊎-elim}
 use Prim.Native.Nat.{_<_, _-_}
 use native.Mathlib.Omega.{arith}
-use Rattle.qubits.specs.SpreadLaws.{Inserted, insert-begin, insert-turn, insert-past, insert-end, insert-room}
-use Rattle.qubits.specs.OtherLaws.{others-length, small-index}
+use Rattle.qubits.proofs.SpreadLaws.{Inserted, insert-begin, insert-turn, insert-past, insert-end, insert-room}
+use Rattle.qubits.proofs.OtherLaws.{others-length, small-index}
 use borrow.Author.Needs.{needs}
 use Rattle.qubits.proofs.traced_base_of.Statement.{statement}
 use Rattle.qubits.proofs.traced_base_of.Tie as tie

@@ -10,7 +10,7 @@ use lib.ListN.{length, drop}
 use lib.Seq.{length-take-le}
 use Rattle.answers.specs.Paper.{done, refuse, andThen}
 use Rattle.qubits.specs.Lists.{placesFrom, qubitSet}
-use Rattle.qubits.specs.ListLaws.{places-out, places-twice, places-past, places-end}
+use Rattle.qubits.proofs.ListLaws.{places-out, places-twice, places-past, places-end}
 use Rattle.qubits.proofs.validate_qubit_set.Statement.{statement}
 use Rattle.qubits.proofs.validate_qubit_set.Tie as tie
 

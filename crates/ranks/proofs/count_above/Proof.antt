@@ -4,7 +4,7 @@ use Prim.Native.Nat.{_+_, _-_, _≤_}
 use native.Mathlib.Omega.{arith}
 use lib.ListN.{length, drop}
 use Rattle.ranks.specs.Ranks.{aboveCount}
-use Rattle.ranks.specs.RankLaws.{above-more, above-stop, above-end}
+use Rattle.ranks.proofs.RankLaws.{above-more, above-stop, above-end}
 use borrow.Author.Needs.{needs}
 use Rattle.ranks.proofs.count_above.Statement.{statement}
 use Rattle.ranks.proofs.count_above.Tie as tie

@@ -1,7 +1,7 @@
 -- `ranks::cut_after` meets its contract: both sides are at most 2^28, so nothing wraps. Assumes nothing.
 use Prim.Native.Nat.{_+_, _-_}
 use native.Mathlib.Omega.{arith}
-use Rattle.ranks.specs.RankLaws.{side-fits, after-made}
+use Rattle.ranks.proofs.RankLaws.{side-fits, after-made}
 use borrow.Author.Needs.{needs}
 use Rattle.ranks.proofs.cut_after.Statement.{statement}
 use Rattle.ranks.proofs.cut_after.Tie as tie

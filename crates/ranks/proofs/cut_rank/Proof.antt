@@ -3,7 +3,7 @@ use mathlib.Core.Path.{sym, ap, _∙_}
 use native.Mathlib.Omega.{arith}
 use Rattle.answers.specs.Paper.{paper}
 use Rattle.answers.proofs.Stopped.{was-done, stopped-number}
-use Rattle.ranks.specs.RankLaws.{ranked-refused, ranked-done, cut-done, cut-made}
+use Rattle.ranks.proofs.RankLaws.{ranked-refused, ranked-done, cut-done, cut-made}
 use borrow.Author.Needs.{needs}
 use Rattle.ranks.proofs.cut_rank.Statement.{statement}
 use Rattle.ranks.proofs.cut_rank.Tie as tie

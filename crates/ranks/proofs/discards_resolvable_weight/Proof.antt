@@ -1,5 +1,5 @@
 -- `ranks::discards_resolvable_weight` meets its contract: there is no next value, or it is compared. Assumes nothing.
-use Rattle.ranks.specs.RankLaws.{discards-none, discards-next}
+use Rattle.ranks.proofs.RankLaws.{discards-none, discards-next}
 use borrow.Author.Needs.{needs}
 use Rattle.ranks.proofs.discards_resolvable_weight.Statement.{statement}
 use Rattle.ranks.proofs.discards_resolvable_weight.Tie as tie

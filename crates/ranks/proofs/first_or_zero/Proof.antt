@@ -1,5 +1,5 @@
 -- `ranks::first_or_zero` meets its contract: the first value, or 0.0 of none. Assumes nothing.
-use Rattle.ranks.specs.RankLaws.{first-none, first-some}
+use Rattle.ranks.proofs.RankLaws.{first-none, first-some}
 use borrow.Author.Needs.{needs}
 use Rattle.ranks.proofs.first_or_zero.Statement.{statement}
 use Rattle.ranks.proofs.first_or_zero.Tie as tie

@@ -1,5 +1,5 @@
 -- `ranks::truncated_svd_rank` meets its contract: the count over the threshold, within 1 and the cap. Assumes nothing.
-use Rattle.ranks.specs.RankLaws.{rank-made}
+use Rattle.ranks.proofs.RankLaws.{rank-made}
 use borrow.Author.Needs.{needs}
 use Rattle.ranks.proofs.truncated_svd_rank.Statement.{statement}
 use Rattle.ranks.proofs.truncated_svd_rank.Tie as tie

@@ -2,7 +2,7 @@
 use mathlib.Core.Path.{sym, ap, _∙_}
 use Rattle.answers.specs.Paper.{paper}
 use Rattle.answers.proofs.Stopped.{was-done, stopped-number}
-use Rattle.ranks.specs.RankLaws.{ranked-refused, ranked-done, widest-done, widest-made}
+use Rattle.ranks.proofs.RankLaws.{ranked-refused, ranked-done, widest-done, widest-made}
 use borrow.Author.Needs.{needs}
 use Rattle.ranks.proofs.widest_block_cut.Statement.{statement}
 use Rattle.ranks.proofs.widest_block_cut.Tie as tie

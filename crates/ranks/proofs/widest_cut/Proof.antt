@@ -1,9 +1,9 @@
 -- `ranks::widest_cut` meets its contract. The loop's invariant: the widest of the first k cuts. Assumes nothing.
 use mathlib.Core.Path.{_≡_}
 use Prim.Native.Nat.{_-_, _≤_}
-use Rattle.complex.specs.Loops.{stop}
+use Rattle.complex.proofs.Loops.{stop}
 use Rattle.ranks.specs.Ranks.{widestTo}
-use Rattle.ranks.specs.RankLaws.{widest-none, widest-more}
+use Rattle.ranks.proofs.RankLaws.{widest-none, widest-more}
 use borrow.Author.Needs.{needs}
 use Rattle.ranks.proofs.widest_cut.Statement.{statement}
 use Rattle.ranks.proofs.widest_cut.Tie as tie

@@ -3,7 +3,7 @@ use mathlib.Core.Path.{refl, sym, _∙_, ap}
 use denote.Ref.{now}
 use Rattle.answers.specs.Paper.{paper}
 use Rattle.answers.proofs.Stopped.{was-done, stopped-number}
-use Rattle.recount.specs.RecountLaws.{recount-accepted, recount-refused, recount-done}
+use Rattle.recount.proofs.RecountLaws.{recount-accepted, recount-refused, recount-done}
 use borrow.Author.Needs.{needs}
 use Rattle.recount.proofs.density_from_cut.Statement.{statement}
 use Rattle.recount.proofs.density_from_cut.Tie as tie

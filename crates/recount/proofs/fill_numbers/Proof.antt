@@ -5,7 +5,7 @@ use Prim.Native.Nat.{ℕ, _*_, _-_}
 use native.Mathlib.Omega.{arith}
 use Rattle.masks.specs.Submasks.{submaskNumber}
 use Rattle.recount.specs.Recount.{Numbers}
-use Rattle.recount.specs.RecountLaws.{numbers-begin, numbers-turn, numbers-end, scaled-small}
+use Rattle.recount.proofs.RecountLaws.{numbers-begin, numbers-turn, numbers-end, scaled-small}
 use borrow.Author.Needs.{needs}
 use Rattle.recount.proofs.fill_numbers.Statement.{statement}
 use Rattle.recount.proofs.fill_numbers.Tie as tie

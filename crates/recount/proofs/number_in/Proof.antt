@@ -3,7 +3,7 @@
 use mathlib.Core.Path.{sym, _∙_}
 use Prim.Native.Nat.{_-_}
 use native.Mathlib.Omega.{arith}
-use Rattle.recount.specs.RecountLaws.{Packed, packed-begin, packed-small, packed-one, packed-none, packed-end, digit-is, no-digit}
+use Rattle.recount.proofs.RecountLaws.{Packed, packed-begin, packed-small, packed-one, packed-none, packed-end, digit-is, no-digit}
 use borrow.Author.Needs.{needs}
 use Rattle.recount.proofs.number_in.Statement.{statement}
 use Rattle.recount.proofs.number_in.Tie as tie

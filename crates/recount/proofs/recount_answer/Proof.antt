@@ -6,10 +6,10 @@ use lib.ListN.{length}
 use denote.Ref.{now}
 use Rattle.answers.specs.Paper.{paper}
 use Rattle.answers.proofs.Stopped.{refused, passed, was-done}
-use Rattle.qubits.specs.NamedLaws.{pow-small}
+use Rattle.qubits.proofs.NamedLaws.{pow-small}
 use Rattle.recount.specs.Recount.{recountLengths}
-use Rattle.densities.specs.DensityLaws.{side-small}
-use Rattle.recount.specs.RecountLaws.{sizes-done}
+use Rattle.densities.proofs.DensityLaws.{side-small}
+use Rattle.recount.proofs.RecountLaws.{sizes-done}
 use borrow.Author.Needs.{needs}
 use Rattle.recount.proofs.recount_answer.Statement.{statement}
 use Rattle.recount.proofs.recount_answer.Tie as tie

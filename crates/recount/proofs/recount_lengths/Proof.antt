@@ -1,7 +1,7 @@
 -- `recount::recount_lengths` meets its contract. Assumes nothing.
 use borrow.Author.Tests.{lt-ltb, le-ltb, eq-eqb, ne-eqb}
 use native.Mathlib.Omega.{arith}
-use Rattle.entries.specs.Mirrored.{square-small}
+use Rattle.entries.proofs.MirroredLaws.{square-small}
 use borrow.Author.Needs.{needs}
 use Rattle.recount.proofs.recount_lengths.Statement.{statement}
 use Rattle.recount.proofs.recount_lengths.Tie as tie

@@ -3,8 +3,8 @@
 use native.Mathlib.Omega.{arith}
 use denote.Ref.{now}
 use lib.ListN.{length}
-use Rattle.densities.specs.DensityLaws.{side-small}
-use Rattle.recount.specs.RecountLaws.{layout-room, layout-is, layout-scale, recount-square, recount-ready, recount-end}
+use Rattle.densities.proofs.DensityLaws.{side-small}
+use Rattle.recount.proofs.RecountLaws.{layout-room, layout-is, layout-scale, recount-square, recount-ready, recount-end}
 use borrow.Author.Needs.{needs}
 use Rattle.recount.proofs.sum_from_cut.Statement.{statement}
 use Rattle.recount.proofs.sum_from_cut.Tie as tie

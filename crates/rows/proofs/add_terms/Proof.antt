@@ -1,5 +1,5 @@
 -- `rows::add_terms` meets its contract. The loop's invariant and its turn are those of `TwoRows`. Assumes nothing.
-use Rattle.rows.specs.TwoRows.{added-same}
+use Rattle.rows.proofs.TwoRowsLaws.{added-same}
 use Rattle.complex.specs.Planes.{setPlane}
 use lib.Ieee.{Float}
 use Prim.Native.Nat.{_+_}
@@ -7,7 +7,8 @@ use mathlib.Core.List.{List}
 use mathlib.Core.Path.{_∙_, ap}
 use Prim.Native.Nat.{_≤_, _-_}
 use native.Mathlib.Omega.{arith}
-use Rattle.rows.specs.TwoRows.{TermTurns, term-begin, term-turn, term-end}
+use Rattle.rows.specs.TwoRows.{TermTurns}
+use Rattle.rows.proofs.TwoRowsLaws.{term-begin, term-turn, term-end}
 use borrow.Author.Needs.{needs}
 use Rattle.rows.proofs.add_terms.Statement.{statement}
 use Rattle.rows.proofs.add_terms.Tie as tie

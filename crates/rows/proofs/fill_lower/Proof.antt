@@ -1,7 +1,7 @@
 -- `rows::fill_lower` meets its contract: the entries from the planes are those of the state. Assumes nothing.
 use denote.Ref.{now}
 use borrow.Author.Needs.{needs}
-use Rattle.rows.specs.RowSums.{lower-from-planes}
+use Rattle.rows.proofs.RowSumsLaws.{lower-from-planes}
 use Rattle.rows.proofs.fill_lower.Statement.{statement}
 use Rattle.rows.proofs.fill_lower.Tie as tie
 

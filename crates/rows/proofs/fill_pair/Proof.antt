@@ -1,7 +1,7 @@
 -- `rows::fill_pair` meets its contract: the sums of both rows, and each row written. Assumes nothing.
 use mathlib.Core.Path.{refl}
 use native.Mathlib.Omega.{arith}
-use Rattle.rows.specs.RowSums.{zero-sums, pair-written}
+use Rattle.rows.proofs.RowSumsLaws.{zero-sums, pair-written}
 use borrow.Author.Needs.{needs}
 use Rattle.rows.proofs.fill_pair.Statement.{statement}
 use Rattle.rows.proofs.fill_pair.Tie as tie

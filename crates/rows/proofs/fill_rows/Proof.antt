@@ -1,7 +1,8 @@
 -- `rows::fill_rows` meets its contract. The loop's invariant and its turn are those of `Filled`. Assumes nothing.
 use Prim.Native.Nat.{_-_}
 use native.Mathlib.Omega.{arith}
-use Rattle.entries.specs.Filled.{LowerTurns, lower-begin, lower-turn, lower-end}
+use Rattle.entries.specs.Filled.{LowerTurns}
+use Rattle.entries.proofs.FilledLaws.{lower-begin, lower-turn, lower-end}
 use Rattle.rows.specs.RowSums.{planeEntry}
 use borrow.Author.Needs.{needs}
 use Rattle.rows.proofs.fill_rows.Statement.{statement}

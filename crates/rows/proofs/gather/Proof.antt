@@ -2,7 +2,7 @@
 use mathlib.Core.Path.{sym, _∙_}
 use Prim.Native.Nat.{_-_}
 use native.Mathlib.Omega.{arith}
-use Rattle.rows.specs.Gathered.{GatherTurns, gather-begin, gather-room, gather-reach, gather-turn, gather-end}
+use Rattle.rows.proofs.GatheredLaws.{GatherTurns, gather-begin, gather-room, gather-reach, gather-turn, gather-end}
 use borrow.Author.Needs.{needs}
 use Rattle.rows.proofs.gather.Statement.{statement}
 use Rattle.rows.proofs.gather.Tie as tie

@@ -1,7 +1,8 @@
 -- `rows::gather_one` meets its contract. The loop's invariant and its turn are those of `Gathered`. Assumes nothing.
 use Prim.Native.Nat.{_≤_, _-_}
 use native.Mathlib.Omega.{arith}
-use Rattle.rows.specs.Gathered.{OneTurns, one-begin, one-turn, one-end}
+use Rattle.rows.specs.Gathered.{OneTurns}
+use Rattle.rows.proofs.GatheredLaws.{one-begin, one-turn, one-end}
 use borrow.Author.Needs.{needs}
 use Rattle.rows.proofs.gather_one.Statement.{statement}
 use Rattle.rows.proofs.gather_one.Tie as tie

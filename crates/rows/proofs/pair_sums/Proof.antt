@@ -2,8 +2,9 @@
 use mathlib.Core.Path.{sym, _∙_}
 use Prim.Native.Nat.{_≤_, _-_}
 use native.Mathlib.Omega.{arith}
-use Rattle.rows.specs.Gathered.{gather-room}
-use Rattle.rows.specs.RowSums.{PairSums, sums-begin, sums-turn, sums-end}
+use Rattle.rows.proofs.GatheredLaws.{gather-room}
+use Rattle.rows.specs.RowSums.{PairSums}
+use Rattle.rows.proofs.RowSumsLaws.{sums-begin, sums-turn, sums-end}
 use borrow.Author.Needs.{needs}
 use Rattle.rows.proofs.pair_sums.Statement.{statement}
 use Rattle.rows.proofs.pair_sums.Tie as tie

@@ -1,8 +1,9 @@
 -- `rows::write_row` meets its contract. The loop's invariant and its turn are those of `RowSums`. Assumes nothing.
 use Prim.Native.Nat.{_≤_, _-_}
 use native.Mathlib.Omega.{arith}
-use Rattle.entries.specs.Mirrored.{index-small, cell-in}
-use Rattle.rows.specs.RowSums.{RowTurns, row-begin, row-turn, row-end}
+use Rattle.entries.proofs.MirroredLaws.{index-small, cell-in}
+use Rattle.rows.specs.RowSums.{RowTurns}
+use Rattle.rows.proofs.RowSumsLaws.{row-begin, row-turn, row-end}
 use borrow.Author.Needs.{needs}
 use Rattle.rows.proofs.write_row.Statement.{statement}
 use Rattle.rows.proofs.write_row.Tie as tie

@@ -7,7 +7,7 @@ use native.Mathlib.Omega.{arith}
 use borrow.Author.Needs.{needs}
 use lib.ListN.{length}
 use Rattle.numbers.specs.Numbers.{finite}
-use Rattle.scaled.specs.EightLaws.{Holds, holds-first, holds-more, holds-all}
+use Rattle.scaled.proofs.EightLaws.{Holds, holds-first, holds-more, holds-all}
 use Rattle.scaled.proofs.scaled_sum_finite.Statement.{statement}
 use Rattle.scaled.proofs.scaled_sum_finite.Tie as tie
 

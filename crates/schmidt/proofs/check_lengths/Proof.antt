@@ -1,7 +1,7 @@
 -- `schmidt::check_lengths` meets its contract: one test after the other. Assumes nothing.
 use native.Mathlib.Omega.{arith}
-use Rattle.qubits.specs.NamedLaws.{pow-small}
-use Rattle.schmidt.specs.SchmidtLaws.{lengths-0, lengths-2, lengths-3, lengths-good}
+use Rattle.qubits.proofs.NamedLaws.{pow-small}
+use Rattle.schmidt.proofs.SchmidtLaws.{lengths-0, lengths-2, lengths-3, lengths-good}
 use borrow.Author.Needs.{needs}
 use Rattle.schmidt.proofs.check_lengths.Statement.{statement}
 use Rattle.schmidt.proofs.check_lengths.Tie as tie

@@ -7,11 +7,11 @@ use lib.ListN.{length}
 use lib.Seq.{length-take-le}
 use denote.Ref.{now}
 use Rattle.answers.proofs.Stopped.{refused, was-done, stopped-number}
-use Rattle.qubits.specs.NamedLaws.{pow-small}
+use Rattle.qubits.proofs.NamedLaws.{pow-small}
 use Rattle.sides.specs.Sides.{cutRefusal, Parted}
-use Rattle.sides.specs.SideLaws.{is-parted}
+use Rattle.sides.proofs.SideLaws.{is-parted}
 use Rattle.schmidt.specs.Schmidt.{tests, rest}
-use Rattle.schmidt.specs.SchmidtLaws.{rest-done, sides-few, sized, schmidt-refused, tests-rest, schmidt-worked}
+use Rattle.schmidt.proofs.SchmidtLaws.{rest-done, sides-few, sized, schmidt-refused, tests-rest, schmidt-worked}
 use borrow.Author.Needs.{needs}
 use Rattle.schmidt.proofs.dense_schmidt_values.Statement.{statement}
 use Rattle.schmidt.proofs.dense_schmidt_values.Tie as tie

@@ -1,5 +1,5 @@
 -- `schmidt::finish_finite` meets its contract: values that are not finite are answered 9, else the finish decides. Assumes nothing.
-use Rattle.schmidt.specs.SchmidtLaws.{finished-good, finished-bad}
+use Rattle.schmidt.proofs.SchmidtLaws.{finished-good, finished-bad}
 use borrow.Author.Needs.{needs}
 use Rattle.schmidt.proofs.finish_finite.Statement.{statement}
 use Rattle.schmidt.proofs.finish_finite.Tie as tie

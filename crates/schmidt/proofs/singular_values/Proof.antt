@@ -6,8 +6,8 @@ use native.Mathlib.Omega.{arith}
 use lib.ListN.{length}
 use lib.Seq.{length-take-le, take-at}
 use denote.Ref.{now}
-use Rattle.qubits.specs.NamedLaws.{pow-small}
-use Rattle.schmidt.specs.SchmidtLaws.{rows-fit, front-length, front-in, le-same, values-made}
+use Rattle.qubits.proofs.NamedLaws.{pow-small}
+use Rattle.schmidt.proofs.SchmidtLaws.{rows-fit, front-length, front-in, le-same, values-made}
 use borrow.Author.Needs.{needs}
 use Rattle.schmidt.proofs.singular_values.Statement.{statement}
 use Rattle.schmidt.proofs.singular_values.Tie as tie

@@ -1,7 +1,7 @@
 -- `schmidt::sweep` meets its contract: the planes, the sweeps on them, the norms. Assumes nothing.
 use native.Mathlib.Omega.{arith}
-use Rattle.qubits.specs.NamedLaws.{pow-small}
-use Rattle.schmidt.specs.SchmidtLaws.{sized-ready, all-cells, norms-made}
+use Rattle.qubits.proofs.NamedLaws.{pow-small}
+use Rattle.schmidt.proofs.SchmidtLaws.{sized-ready, all-cells, norms-made}
 use borrow.Author.Needs.{needs}
 use Rattle.schmidt.proofs.sweep.Statement.{statement}
 use Rattle.schmidt.proofs.sweep.Tie as tie

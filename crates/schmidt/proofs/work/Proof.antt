@@ -2,7 +2,7 @@
 use mathlib.Core.Path.{sym, _∙_}
 use native.Mathlib.Omega.{arith}
 use lib.Seq.{length-take-le, take-at}
-use Rattle.schmidt.specs.SchmidtLaws.{front-length, front-in, same-le, worked}
+use Rattle.schmidt.proofs.SchmidtLaws.{front-length, front-in, same-le, worked}
 use borrow.Author.Needs.{needs}
 use Rattle.schmidt.proofs.work.Statement.{statement}
 use Rattle.schmidt.proofs.work.Tie as tie

@@ -4,7 +4,7 @@ use native.Mathlib.Omega.{arith}
 use denote.Ref.{now}
 use lib.Seq.{length-take-le}
 use Rattle.answers.proofs.Stopped.{was-done, stopped-number}
-use Rattle.sides.specs.SideLaws.{side-parted, room-done, part-none, part-named, part-others}
+use Rattle.sides.proofs.SideLaws.{side-parted, room-done, part-none, part-named, part-others}
 use borrow.Author.Needs.{needs}
 use Rattle.sides.proofs.side_part.Statement.{statement}
 use Rattle.sides.proofs.side_part.Tie as tie

@@ -4,7 +4,7 @@ use native.Mathlib.Omega.{arith}
 use borrow.Author.Tests.{le-leb, lt-leb, lt-ltb, le-ltb}
 use denote.Ref.{now}
 use Rattle.answers.proofs.Stopped.{refused, passed, was-done}
-use Rattle.sides.specs.SideLaws.{is-parted}
+use Rattle.sides.proofs.SideLaws.{is-parted}
 use borrow.Author.Needs.{needs}
 use Rattle.sides.proofs.side_refusal.Statement.{statement}
 use Rattle.sides.proofs.side_refusal.Tie as tie

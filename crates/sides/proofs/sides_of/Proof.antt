@@ -1,6 +1,6 @@
 -- `sides::sides_of` meets its contract: in each case of the side, the masks and sizes are those of the cut. Assumes nothing.
 use denote.Ref.{now}
-use Rattle.sides.specs.SideLaws.{sides-named, sides-others}
+use Rattle.sides.proofs.SideLaws.{sides-named, sides-others}
 use borrow.Author.Needs.{needs}
 use Rattle.sides.proofs.sides_of.Statement.{statement}
 use Rattle.sides.proofs.sides_of.Tie as tie

@@ -5,8 +5,8 @@ use native.Mathlib.Omega.{arith}
 use denote.Ref.{now}
 use Rattle.answers.specs.Paper.{paper}
 use Rattle.answers.proofs.Stopped.{was-done, stopped-number}
-use Rattle.qubits.specs.OtherLaws.{others-length}
-use Rattle.sides.specs.SideLaws.{side-parted, room-done, side-refused, side-named, side-others}
+use Rattle.qubits.proofs.OtherLaws.{others-length}
+use Rattle.sides.proofs.SideLaws.{side-parted, room-done, side-refused, side-named, side-others}
 use borrow.Author.Needs.{needs}
 use Rattle.sides.proofs.smaller_side.Statement.{statement}
 use Rattle.sides.proofs.smaller_side.Tie as tie

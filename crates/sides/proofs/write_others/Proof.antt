@@ -7,7 +7,7 @@ use native.Mathlib.Omega.{arith}
 use borrow.Author.Tests.{not-true, not-false}
 use denote.Ref.{now}
 use lib.ListN.{length}
-use Rattle.sides.specs.SideLaws.{Risen, risen-begin, risen-in, risen-one, risen-none, risen-end}
+use Rattle.sides.proofs.SideLaws.{Risen, risen-begin, risen-in, risen-one, risen-none, risen-end}
 use borrow.Author.Needs.{needs}
 use Rattle.sides.proofs.write_others.Statement.{statement}
 use Rattle.sides.proofs.write_others.Tie as tie

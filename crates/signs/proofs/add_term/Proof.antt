@@ -1,7 +1,7 @@
 -- `signs::add_term` meets its contract: `conjugate-product`. Assumes nothing.
 use mathlib.Core.Path.{ap}
 use Rattle.complex.specs.Arithmetic.{sum}
-use Rattle.signs.specs.Signs.{conjugateProduct, conjugate-product}
+use Rattle.signs.proofs.Signs.{conjugateProduct, conjugate-product}
 use Rattle.signs.proofs.add_term.Statement.{statement}
 use Rattle.signs.proofs.add_term.Tie as tie
 

@@ -1,7 +1,7 @@
 -- `sites::fill_scaled_u_site_data` meets its contract: refused by its sizes, refused after them, or filled. Assumes nothing.
 use native.Mathlib.Omega.{arith}
 use Rattle.answers.proofs.Stopped.{was-done, stopped-number}
-use Rattle.sites.specs.CallLaws.{columns-done, scaled-u-ready, size-refused, later-refused, filled}
+use Rattle.sites.proofs.CallLaws.{columns-done, scaled-u-ready, size-refused, later-refused, filled}
 use borrow.Author.Needs.{needs}
 use Rattle.sites.proofs.fill_scaled_u_site_data.Statement.{statement}
 use Rattle.sites.proofs.fill_scaled_u_site_data.Tie as tie

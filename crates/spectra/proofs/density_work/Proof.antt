@@ -1,8 +1,8 @@
 -- `spectra::density_work` meets its contract: the eigenvalues stand at the front of the output and are finished there. Assumes nothing.
 use mathlib.Core.Path.{_∙_}
 use native.Mathlib.Omega.{arith}
-use Rattle.spectra.specs.OutcomeLaws.{zeroed-other}
-use Rattle.spectra.specs.DensityLaws.{side-fits, density-made}
+use Rattle.spectra.proofs.OutcomeLaws.{zeroed-other}
+use Rattle.spectra.proofs.DensityLaws.{side-fits, density-made}
 use borrow.Author.Needs.{needs}
 use Rattle.spectra.proofs.density_work.Statement.{statement}
 use Rattle.spectra.proofs.density_work.Tie as tie

@@ -1,6 +1,6 @@
 -- `spectra::hermitian_eigenvalues` meets its contract: it is refused, or its end is that of the work. Assumes nothing.
 use Rattle.answers.proofs.Stopped.{passed, was-done, stopped-number}
-use Rattle.spectra.specs.OutcomeLaws.{square-given, eigenvalues-refused, eigenvalues-worked}
+use Rattle.spectra.proofs.OutcomeLaws.{square-given, eigenvalues-refused, eigenvalues-worked}
 use borrow.Author.Needs.{needs}
 use Rattle.spectra.proofs.hermitian_eigenvalues.Statement.{statement}
 use Rattle.spectra.proofs.hermitian_eigenvalues.Tie as tie

@@ -4,10 +4,10 @@ use Prim.Native.Nat.{_-_, _≤_}
 use native.Mathlib.Omega.{arith}
 use lib.ListN.{length}
 use denote.Ref.{now}
-use Rattle.complex.specs.Loops.{stop}
+use Rattle.complex.proofs.Loops.{stop}
 use Rattle.complex.specs.Cells.{cellAt, written}
-use Rattle.complex.specs.CellLaws.{written-none, written-more}
-use Rattle.spectra.specs.OutcomeLaws.{loaded}
+use Rattle.complex.proofs.CellLaws.{written-none, written-more}
+use Rattle.spectra.proofs.OutcomeLaws.{loaded}
 use borrow.Author.Needs.{needs}
 use Rattle.spectra.proofs.load_cells.Statement.{statement}
 use Rattle.spectra.proofs.load_cells.Tie as tie

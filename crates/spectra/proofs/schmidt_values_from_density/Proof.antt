@@ -5,8 +5,8 @@ use native.Mathlib.Nat.{mul-le-mul-right}
 use denote.Ref.{now}
 use lib.Seq.{length-take-le}
 use Rattle.answers.proofs.Stopped.{passed, was-done, stopped-number}
-use Rattle.spectra.specs.OutcomeLaws.{square-given}
-use Rattle.spectra.specs.DensityLaws.{density-refused, density-worked}
+use Rattle.spectra.proofs.OutcomeLaws.{square-given}
+use Rattle.spectra.proofs.DensityLaws.{density-refused, density-worked}
 use borrow.Author.Needs.{needs}
 use Rattle.spectra.proofs.schmidt_values_from_density.Statement.{statement}
 use Rattle.spectra.proofs.schmidt_values_from_density.Tie as tie

@@ -1,7 +1,7 @@
 -- `spectra::spectrum` meets its contract: the calls are the definition's steps, and work that is zeroed whole does not say what it held. Assumes nothing.
 use mathlib.Core.Path.{_∙_}
 use native.Mathlib.Omega.{arith}
-use Rattle.spectra.specs.OutcomeLaws.{spectrum-made, zeroed-other}
+use Rattle.spectra.proofs.OutcomeLaws.{spectrum-made, zeroed-other}
 use borrow.Author.Needs.{needs}
 use Rattle.spectra.proofs.spectrum.Statement.{statement}
 use Rattle.spectra.proofs.spectrum.Tie as tie

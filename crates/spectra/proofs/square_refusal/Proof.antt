@@ -2,7 +2,7 @@
 use native.Mathlib.Nat.{mul-le-mul-right}
 use mathlib.Core.Path.{_∙_}
 use native.Mathlib.Omega.{arith}
-use Rattle.spectra.specs.OutcomeLaws.{square-low, square-high, square-matrix, square-out, square-scratch, square-cells}
+use Rattle.spectra.proofs.OutcomeLaws.{square-low, square-high, square-matrix, square-out, square-scratch, square-cells}
 use borrow.Author.Needs.{needs}
 use Rattle.spectra.proofs.square_refusal.Statement.{statement}
 use Rattle.spectra.proofs.square_refusal.Tie as tie

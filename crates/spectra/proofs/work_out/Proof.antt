@@ -4,7 +4,7 @@ use native.Mathlib.Omega.{arith}
 use denote.Ref.{now}
 use lib.Seq.{length-take-le}
 use native.Mathlib.Nat.{mul-le-mul-right}
-use Rattle.spectra.specs.OutcomeLaws.{zeroed-part, worked-done, worked-infinite}
+use Rattle.spectra.proofs.OutcomeLaws.{zeroed-part, worked-done, worked-infinite}
 use borrow.Author.Needs.{needs}
 use Rattle.spectra.proofs.work_out.Statement.{statement}
 use Rattle.spectra.proofs.work_out.Tie as tie

@@ -4,10 +4,12 @@ use Prim.Native.Nat.{_*_, _+_, _-_, _≤_, _<_}
 use native.Mathlib.Omega.{arith}
 use denote.Ref.{now}
 use lib.ListN.{length, length-set}
-use Rattle.eigenpair.specs.CellPlanes.{asPlanes, plane-re}
-use Rattle.eigenpair.specs.Turn.{cell-fits}
+use Rattle.eigenpair.specs.CellPlanes.{asPlanes}
+use Rattle.eigenpair.proofs.CellPlanesLaws.{plane-re}
+use Rattle.eigenpair.proofs.TurnLaws.{cell-fits}
 use Rattle.eigen.specs.Sweeping.{diagonal}
-use Rattle.loading.specs.Numbers.{filled, filled-none, filled-more}
+use Rattle.loading.specs.Numbers.{filled}
+use Rattle.loading.proofs.NumbersLaws.{filled-none, filled-more}
 use borrow.Author.Needs.{needs}
 use Rattle.spectra.proofs.write_diagonal.Statement.{statement}
 use Rattle.spectra.proofs.write_diagonal.Tie as tie

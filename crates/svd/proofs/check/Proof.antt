@@ -2,7 +2,7 @@
 use mathlib.Core.Path.{sym, _∙_}
 use Rattle.answers.proofs.Stopped.{refused, passed, was-done}
 use Rattle.svd.specs.Svd.{tests}
-use Rattle.svd.specs.SvdLaws.{size-done}
+use Rattle.svd.proofs.SvdLaws.{size-done}
 use borrow.Author.Needs.{needs}
 use Rattle.svd.proofs.check.Statement.{statement}
 use Rattle.svd.proofs.check.Tie as tie

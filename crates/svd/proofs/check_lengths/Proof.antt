@@ -1,6 +1,6 @@
 -- `svd::check_lengths` meets its contract: one test after the other. Assumes nothing.
 use native.Mathlib.Omega.{arith}
-use Rattle.svd.specs.SvdLaws.{side-cells, lengths-0, lengths-1, lengths-2, lengths-3, lengths-4, lengths-good}
+use Rattle.svd.proofs.SvdLaws.{side-cells, lengths-0, lengths-1, lengths-2, lengths-3, lengths-4, lengths-good}
 use borrow.Author.Needs.{needs}
 use Rattle.svd.proofs.check_lengths.Statement.{statement}
 use Rattle.svd.proofs.check_lengths.Tie as tie

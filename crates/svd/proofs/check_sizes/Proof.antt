@@ -1,7 +1,7 @@
 -- `svd::check_sizes` meets its contract: a size above 4096 makes the product too large. Assumes nothing.
 use native.Mathlib.Nat.{mul-le-mul}
 use native.Mathlib.Omega.{arith}
-use Rattle.svd.specs.SvdLaws.{size-rows, size-columns, size-cells, size-good, too-many, too-many'}
+use Rattle.svd.proofs.SvdLaws.{size-rows, size-columns, size-cells, size-good, too-many, too-many'}
 use Rattle.svd.proofs.check_sizes.Statement.{statement}
 use Rattle.svd.proofs.check_sizes.Tie as tie
 

@@ -6,7 +6,7 @@ use lib.ListN.{length}
 use denote.Ref.{now}
 use native.Mathlib.Omega.{arith}
 use lib.Seq.{length-take-le, take-at}
-use Rattle.svd.specs.SvdLaws.{wide-lent, tall-lent, wide-made, tall-made}
+use Rattle.svd.proofs.SvdLaws.{wide-lent, tall-lent, wide-made, tall-made}
 use borrow.Author.Needs.{needs}
 use Rattle.svd.proofs.factor.Statement.{statement}
 use Rattle.svd.proofs.factor.Tie as tie

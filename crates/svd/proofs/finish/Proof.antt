@@ -1,6 +1,6 @@
 -- `svd::finish` meets its contract: all finite, or all three lists zero. Assumes nothing.
 use mathlib.Core.Path.{refl, sym, _∙_}
-use Rattle.svd.specs.SvdLaws.{finished-good, finished-bad}
+use Rattle.svd.proofs.SvdLaws.{finished-good, finished-bad}
 use borrow.Author.Needs.{needs}
 use Rattle.svd.proofs.finish.Statement.{statement}
 use Rattle.svd.proofs.finish.Tie as tie

@@ -1,7 +1,7 @@
 -- `svd::finite_factors` meets its contract: one list after the other. Assumes nothing.
 use mathlib.Core.Path.{sym, _∙_}
 use borrow.Author.Tests.{not-true, not-false}
-use Rattle.svd.specs.SvdLaws.{finite-first, finite-second, finite-third}
+use Rattle.svd.proofs.SvdLaws.{finite-first, finite-second, finite-third}
 use borrow.Author.Needs.{needs}
 use Rattle.svd.proofs.finite_factors.Statement.{statement}
 use Rattle.svd.proofs.finite_factors.Tie as tie

@@ -1,6 +1,6 @@
 -- `svd::smaller_size` is the definition's test. Assumes nothing.
 use mathlib.Core.Path.{sym}
-use Rattle.svd.specs.SvdLaws.{side-wide, side-tall}
+use Rattle.svd.proofs.SvdLaws.{side-wide, side-tall}
 use Rattle.svd.proofs.smaller_size.Statement.{statement}
 use Rattle.svd.proofs.smaller_size.Tie as tie
 

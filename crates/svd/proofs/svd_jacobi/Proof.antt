@@ -6,7 +6,7 @@ use lib.ListN.{length}
 use lib.Seq.{length-take-le}
 use denote.Ref.{now}
 use Rattle.answers.proofs.Stopped.{passed, was-done, stopped-number}
-use Rattle.svd.specs.SvdLaws.{Accepted, accepted, side-cells, svd-worked, svd-refused}
+use Rattle.svd.proofs.SvdLaws.{Accepted, accepted, side-cells, svd-worked, svd-refused}
 use borrow.Author.Needs.{needs}
 use Rattle.svd.proofs.svd_jacobi.Statement.{statement}
 use Rattle.svd.proofs.svd_jacobi.Tie as tie

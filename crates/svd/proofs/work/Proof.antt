@@ -1,6 +1,6 @@
 -- `svd::work` meets its contract: the factors, scratch zeroed, and the finite test. Assumes nothing.
 use denote.Ref.{now}
-use Rattle.svd.specs.SvdLaws.{worked}
+use Rattle.svd.proofs.SvdLaws.{worked}
 use borrow.Author.Needs.{needs}
 use Rattle.svd.proofs.work.Statement.{statement}
 use Rattle.svd.proofs.work.Tie as tie

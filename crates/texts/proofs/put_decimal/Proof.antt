@@ -3,7 +3,7 @@
 use mathlib.Core.Path.{ap}
 use lib.ListN.{length}
 use native.Mathlib.Omega.{arith}
-use Rattle.texts.specs.TextLaws.{decimal-is, length-decimal, puts-as}
+use Rattle.texts.proofs.TextLaws.{decimal-is, length-decimal, puts-as}
 use borrow.Author.Needs.{needs}
 use Rattle.texts.proofs.put_decimal.Statement.{statement}
 use Rattle.texts.proofs.put_decimal.Tie as tie

@@ -5,7 +5,7 @@ use mathlib.Core.Path.{_≡_}
 use Prim.Native.Nat.{_≤_, _-_}
 use native.Mathlib.Omega.{arith}
 use Rattle.texts.specs.Text.{put, hex}
-use Rattle.texts.specs.TextLaws.{hex-none, hex-turn, hex-length, hex-end}
+use Rattle.texts.proofs.TextLaws.{hex-none, hex-turn, hex-length, hex-end}
 use Rattle.texts.proofs.put_hex.Statement.{statement}
 use Rattle.texts.proofs.put_hex.Tie as tie
 

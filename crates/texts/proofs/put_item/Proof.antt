@@ -2,7 +2,7 @@
 -- Assumes nothing.
 use native.Mathlib.Omega.{arith}
 use Rattle.texts.specs.Text.{itemText}
-use Rattle.texts.specs.TextLaws.{puts-then}
+use Rattle.texts.proofs.TextLaws.{puts-then}
 use borrow.Author.Needs.{needs}
 use Rattle.texts.proofs.put_item.Statement.{statement}
 use Rattle.texts.proofs.put_item.Tie as tie

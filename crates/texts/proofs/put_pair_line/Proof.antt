@@ -3,7 +3,7 @@
 use native.Mathlib.Omega.{arith}
 use denote.Ref.{now}
 use Rattle.texts.specs.Text.{pairLine}
-use Rattle.texts.specs.TextLaws.{length-item, puts-then}
+use Rattle.texts.proofs.TextLaws.{length-item, puts-then}
 use borrow.Author.Needs.{needs}
 use Rattle.texts.proofs.put_pair_line.Statement.{statement}
 use Rattle.texts.proofs.put_pair_line.Tie as tie

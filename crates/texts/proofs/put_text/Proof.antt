@@ -7,7 +7,7 @@ use native.Mathlib.Omega.{arith}
 use denote.Ref.{now}
 use lib.ListN.{length, take}
 use Rattle.texts.specs.Text.{put}
-use Rattle.texts.specs.TextLaws.{put-none, text-turn, text-length, text-end}
+use Rattle.texts.proofs.TextLaws.{put-none, text-turn, text-length, text-end}
 use Rattle.texts.proofs.put_text.Statement.{statement}
 use Rattle.texts.proofs.put_text.Tie as tie
 

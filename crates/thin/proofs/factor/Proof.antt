@@ -2,7 +2,7 @@
 use mathlib.Core.Path.{sym, _∙_}
 use native.Mathlib.Omega.{arith}
 use lib.Seq.{length-take-le}
-use Rattle.thin.specs.Thin.{square-fits, ranked-places, thin-made}
+use Rattle.thin.proofs.ThinLaws.{square-fits, ranked-places, thin-made}
 use borrow.Author.Needs.{needs}
 use Rattle.thin.proofs.factor.Statement.{statement}
 use Rattle.thin.proofs.factor.Tie as tie

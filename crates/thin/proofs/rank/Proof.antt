@@ -5,7 +5,7 @@ use native.Mathlib.Omega.{arith}
 use lib.ListN.{length}
 use lib.Seq.{length-take-le}
 use denote.Ref.{now}
-use Rattle.thin.specs.Thin.{side-fits, part-length, ranked-made}
+use Rattle.thin.proofs.ThinLaws.{side-fits, part-length, ranked-made}
 use borrow.Author.Needs.{needs}
 use Rattle.thin.proofs.rank.Statement.{statement}
 use Rattle.thin.proofs.rank.Tie as tie

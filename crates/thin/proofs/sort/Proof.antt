@@ -1,5 +1,5 @@
 -- `thin::sort` meets its contract: the places that were written are read back as the order. Assumes nothing.
-use Rattle.thin.specs.Thin.{order-places, sorted-made}
+use Rattle.thin.proofs.ThinLaws.{order-places, sorted-made}
 use borrow.Author.Needs.{needs}
 use Rattle.thin.proofs.sort.Statement.{statement}
 use Rattle.thin.proofs.sort.Tie as tie

@@ -1,5 +1,5 @@
 -- `thin::sweep` meets its contract: the sweeps start from the unit matrix that was written. Assumes nothing.
-use Rattle.thin.specs.Thin.{swept-made}
+use Rattle.thin.proofs.ThinLaws.{swept-made}
 use borrow.Author.Needs.{needs}
 use Rattle.thin.proofs.sweep.Statement.{statement}
 use Rattle.thin.proofs.sweep.Tie as tie

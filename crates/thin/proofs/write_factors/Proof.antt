@@ -2,7 +2,7 @@
 use mathlib.Core.Path.{sym}
 use native.Mathlib.Omega.{arith}
 use lib.Seq.{length-take-le}
-use Rattle.thin.specs.Thin.{square-fits}
+use Rattle.thin.proofs.ThinLaws.{square-fits}
 use borrow.Author.Needs.{needs}
 use Rattle.thin.proofs.write_factors.Statement.{statement}
 use Rattle.thin.proofs.write_factors.Tie as tie

@@ -10,11 +10,11 @@ use Rattle.answers.specs.Paper.{Reply, andThen}
 use Rattle.answers.proofs.Stopped.{refused, passed, was-done, stopped-number}
 use Rattle.complex.specs.Cells.{written}
 use Rattle.complex.specs.Zeros.{zeroFloat}
-use Rattle.entries.specs.Mirrored.{square-small}
+use Rattle.entries.proofs.MirroredLaws.{square-small}
 use Rattle.densities.specs.Square.{squareAnswer}
-use Rattle.densities.specs.SquareLaws.{square-done, place-refused, place-done}
+use Rattle.densities.proofs.SquareLaws.{square-done, place-refused, place-done}
 use Rattle.traces.specs.Trace.{scaledCell, finiteCells, reciprocal}
-use Rattle.traces.specs.TraceLaws.{scaling-none, scaling-wild, scaling-done}
+use Rattle.traces.proofs.TraceLaws.{scaling-none, scaling-wild, scaling-done}
 use Rattle.traces.proofs.normalize_trace.Statement.{statement}
 use Rattle.traces.proofs.normalize_trace.Tie as tie
 

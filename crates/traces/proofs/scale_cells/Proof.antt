@@ -7,10 +7,10 @@ use denote.Ref.{now}
 use Rattle.complex.specs.declared.Complex.{Complex}
 use Rattle.complex.specs.Arithmetic.{scaled}
 use Rattle.complex.specs.Cells.{written}
-use Rattle.complex.specs.CellLaws.{written-none}
-use Rattle.complex.specs.Loops.{stop}
+use Rattle.complex.proofs.CellLaws.{written-none}
+use Rattle.complex.proofs.Loops.{stop}
 use Rattle.traces.specs.Trace.{scaledCell}
-use Rattle.traces.specs.TraceLaws.{scale-turn}
+use Rattle.traces.proofs.TraceLaws.{scale-turn}
 use borrow.Author.Needs.{needs}
 use Rattle.traces.proofs.scale_cells.Statement.{statement}
 use Rattle.traces.proofs.scale_cells.Tie as tie

@@ -7,9 +7,9 @@ use denote.Ref.{now}
 use Rattle.numbers.specs.Numbers.{finite}
 use Rattle.complex.specs.declared.Complex.{Complex}
 use Rattle.complex.specs.Arithmetic.{scaled}
-use Rattle.complex.specs.Loops.{stop}
+use Rattle.complex.proofs.Loops.{stop}
 use Rattle.traces.specs.Trace.{scaledCell, finiteCells}
-use Rattle.traces.specs.TraceLaws.{finite-none, finite-more, finite-stop}
+use Rattle.traces.proofs.TraceLaws.{finite-none, finite-more, finite-stop}
 use borrow.Author.Needs.{needs}
 use Rattle.traces.proofs.scaled_finite.Statement.{statement}
 use Rattle.traces.proofs.scaled_finite.Tie as tie

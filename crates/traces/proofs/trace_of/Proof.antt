@@ -6,10 +6,10 @@ use lib.Ieee as Ieee
 use lib.Ieee.{Float, binary64}
 use denote.Ref.{now}
 use Rattle.complex.specs.declared.Complex.{Complex}
-use Rattle.complex.specs.Loops.{stop}
-use Rattle.entries.specs.Mirrored.{index-small, cell-in}
+use Rattle.complex.proofs.Loops.{stop}
+use Rattle.entries.proofs.MirroredLaws.{index-small, cell-in}
 use Rattle.traces.specs.Trace.{traceTo}
-use Rattle.traces.specs.TraceLaws.{trace-none, trace-more}
+use Rattle.traces.proofs.TraceLaws.{trace-none, trace-more}
 use borrow.Author.Needs.{needs}
 use Rattle.traces.proofs.trace_of.Statement.{statement}
 use Rattle.traces.proofs.trace_of.Tie as tie

@@ -5,7 +5,7 @@ use Prim.Native.Nat.{_≤_, _-_}
 use native.Mathlib.Omega.{arith}
 use lib.ListN.{length, drop}
 use Rattle.values.specs.Lists.{allFinite}
-use Rattle.values.specs.Finite.{finite-more, finite-end, finite-of-each}
+use Rattle.values.proofs.Finite.{finite-more, finite-end, finite-of-each}
 use borrow.Author.Needs.{needs}
 use Rattle.values.proofs.all_finite.Statement.{statement}
 use Rattle.values.proofs.all_finite.Tie as tie

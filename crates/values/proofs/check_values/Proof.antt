@@ -5,7 +5,7 @@ use borrow.Author.Tests.{not-true, not-false}
 use Prim.Native.Nat.{_≤_, _-_}
 use lib.ListN.{length, drop}
 use Rattle.values.specs.Lists.{valuesAllowed}
-use Rattle.values.specs.ListLaws.{allowed-bad, allowed-good, allowed-end}
+use Rattle.values.proofs.ListLaws.{allowed-bad, allowed-good, allowed-end}
 use borrow.Author.Needs.{needs}
 use Rattle.values.proofs.check_values.Statement.{statement}
 use Rattle.values.proofs.check_values.Tie as tie

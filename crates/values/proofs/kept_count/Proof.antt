@@ -5,7 +5,7 @@ use denote.Ref.{now}
 use Prim.Native.Nat.{_+_, _≤_, _-_}
 use lib.ListN.{length, drop}
 use Rattle.values.specs.Lists.{keptAbove}
-use Rattle.values.specs.ListLaws.{kept-end, kept-here, kept-past}
+use Rattle.values.proofs.ListLaws.{kept-end, kept-here, kept-past}
 use borrow.Author.Needs.{needs}
 use Rattle.values.proofs.kept_count.Statement.{statement}
 use Rattle.values.proofs.kept_count.Tie as tie

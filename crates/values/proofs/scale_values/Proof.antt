@@ -5,7 +5,7 @@ use Prim.Native.Nat.{_≤_, _-_, _<_}
 use mathlib.Core.List.{_++_}
 use lib.ListN.{length, drop, take, length-set}
 use Rattle.values.specs.Lists.{scaledBy}
-use Rattle.values.specs.ListLaws.{scaled-end, scaled-more}
+use Rattle.values.proofs.ListLaws.{scaled-end, scaled-more}
 use borrow.Author.Needs.{needs}
 use Rattle.values.proofs.scale_values.Statement.{statement}
 use Rattle.values.proofs.scale_values.Tie as tie

@@ -5,7 +5,7 @@ use denote.Ref.{now}
 use Prim.Native.Nat.{_+_, _≤_, _-_}
 use lib.ListN.{length, drop}
 use Rattle.values.specs.Sort.{seatOf}
-use Rattle.values.specs.SortLaws.{seat-end, seat-here, seat-past}
+use Rattle.values.proofs.SortLaws.{seat-end, seat-here, seat-past}
 use borrow.Author.Needs.{needs}
 use Rattle.values.proofs.seat.Statement.{statement}
 use Rattle.values.proofs.seat.Tie as tie

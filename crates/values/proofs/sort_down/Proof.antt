@@ -7,7 +7,7 @@ use lib.Ieee.{nan}
 use denote.Ref.{now}
 use lib.Seq.{length-take-le, take-all}
 use Rattle.values.specs.Sort.{sortTo}
-use Rattle.values.specs.SortLaws.{sort-none, sort-more, seat-le}
+use Rattle.values.proofs.SortLaws.{sort-none, sort-more, seat-le}
 use borrow.Author.Needs.{needs}
 use Rattle.values.proofs.sort_down.Statement.{statement}
 use Rattle.values.proofs.sort_down.Tie as tie

@@ -4,7 +4,7 @@ use native.Mathlib.Omega.{arith}
 use Prim.Native.Nat.{_≤_, _-_}
 use lib.ListN.{length, drop}
 use Rattle.values.specs.Lists.{squaresFrom, minusZero}
-use Rattle.values.specs.ListLaws.{squares-end, squares-more}
+use Rattle.values.proofs.ListLaws.{squares-end, squares-more}
 use borrow.Author.Needs.{needs}
 use Rattle.values.proofs.sum_of_squares.Statement.{statement}
 use Rattle.values.proofs.sum_of_squares.Tie as tie

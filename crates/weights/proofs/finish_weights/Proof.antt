@@ -7,7 +7,7 @@ use lib.ListN.{take}
 use lib.Seq.{length-take-le}
 use lib.Ieee.{binary64, mul}
 use Rattle.finish.specs.Finish.{valueFloor}
-use Rattle.weights.specs.WeightLaws.{roots-le, weights-made}
+use Rattle.weights.proofs.WeightLaws.{roots-le, weights-made}
 use borrow.Author.Needs.{needs}
 use Rattle.weights.proofs.finish_weights.Statement.{statement}
 use Rattle.weights.proofs.finish_weights.Tie as tie

@@ -1,5 +1,5 @@
 -- `weights::larger` meets its contract: a law for each way through the code. Assumes nothing.
-use Rattle.weights.specs.WeightLaws.{larger-second, larger-first}
+use Rattle.weights.proofs.WeightLaws.{larger-second, larger-first}
 use Rattle.weights.proofs.larger.Statement.{statement}
 use Rattle.weights.proofs.larger.Tie as tie
 

@@ -5,7 +5,7 @@ use native.Mathlib.Omega.{arith}
 use lib.ListN.{length, drop}
 use Rattle.complex.specs.Zeros.{zeroFloat}
 use Rattle.weights.specs.Weights.{largestFrom}
-use Rattle.weights.specs.WeightLaws.{largest-end, largest-more}
+use Rattle.weights.proofs.WeightLaws.{largest-end, largest-more}
 use borrow.Author.Needs.{needs}
 use Rattle.weights.proofs.largest_weight.Statement.{statement}
 use Rattle.weights.proofs.largest_weight.Tie as tie

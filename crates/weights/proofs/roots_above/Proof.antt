@@ -8,7 +8,7 @@ use native.Mathlib.Omega.{arith}
 use denote.Ref.{now}
 use lib.ListN.{length, take, drop, length-set}
 use Rattle.weights.specs.Weights.{rootsAbove}
-use Rattle.weights.specs.WeightLaws.{roots-put, roots-pass, roots-all}
+use Rattle.weights.proofs.WeightLaws.{roots-put, roots-pass, roots-all}
 use borrow.Author.Needs.{needs}
 use Rattle.weights.proofs.roots_above.Statement.{statement}
 use Rattle.weights.proofs.roots_above.Tie as tie

@@ -1,5 +1,5 @@
 -- `columns::Sums::add_first` meets its contract: the first sum is the callee's. Assumes nothing.
-use Rattle.columns.specs.DotParts.{first-made}
+use Rattle.columns.proofs.DotPartsLaws.{first-made}
 use borrow.Author.Needs.{needs}
 use Rattle.columns.proofs.Sums.add_first.Statement.{statement}
 use Rattle.columns.proofs.Sums.add_first.Tie as tie

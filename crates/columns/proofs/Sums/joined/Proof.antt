@@ -1,5 +1,5 @@
 -- `columns::Sums::joined` meets its contract: each sum is the callee's. Assumes nothing.
-use Rattle.columns.specs.DotParts.{joined-made}
+use Rattle.columns.proofs.DotPartsLaws.{joined-made}
 use borrow.Author.Needs.{needs}
 use Rattle.columns.proofs.Sums.joined.Statement.{statement}
 use Rattle.columns.proofs.Sums.joined.Tie as tie

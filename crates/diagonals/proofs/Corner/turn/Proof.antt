@@ -1,7 +1,8 @@
 -- `diagonals::Corner::turn` meets its contract: each of the three is the call that adds its term. Assumes nothing.
 use mathlib.Core.Path.{ap}
 use lib.Ieee.{binary64, add}
-use Rattle.diagonals.specs.Corners.{cornerTurn, corner-same}
+use Rattle.diagonals.specs.Corners.{cornerTurn}
+use Rattle.diagonals.proofs.CornersLaws.{corner-same}
 use borrow.Author.Needs.{needs}
 use Rattle.diagonals.proofs.Corner.turn.Statement.{statement}
 use Rattle.diagonals.proofs.Corner.turn.Tie as tie

@@ -1,5 +1,6 @@
 -- `entries::Block::turn` meets its contract: each of the four is the call that adds its term. Assumes nothing.
-use Rattle.entries.specs.Blocks.{blockTurn, block-same}
+use Rattle.entries.specs.Blocks.{blockTurn}
+use Rattle.entries.proofs.BlocksLaws.{block-same}
 use borrow.Author.Needs.{needs}
 use Rattle.entries.proofs.Block.turn.Statement.{statement}
 use Rattle.entries.proofs.Block.turn.Tie as tie

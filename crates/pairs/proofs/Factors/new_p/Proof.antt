@@ -2,7 +2,7 @@
 use mathlib.Core.Path.{_∙_, ap₂}
 use Rattle.complex.specs.Arithmetic.{sum}
 use Rattle.pairs.specs.Turns.{newP}
-use Rattle.pairs.specs.ZeroProducts.{times-plus}
+use Rattle.pairs.proofs.ZeroProductsLaws.{times-plus}
 use borrow.Author.Needs.{needs}
 use Rattle.pairs.proofs.Factors.new_p.Statement.{statement}
 use Rattle.pairs.proofs.Factors.new_p.Tie as tie

@@ -2,7 +2,7 @@
 use mathlib.Core.Path.{_∙_, ap₂}
 use Rattle.complex.specs.Arithmetic.{sum}
 use Rattle.pairs.specs.Turns.{newQ}
-use Rattle.pairs.specs.ZeroProducts.{times-minus}
+use Rattle.pairs.proofs.ZeroProductsLaws.{times-minus}
 use borrow.Author.Needs.{needs}
 use Rattle.pairs.proofs.Factors.new_q.Statement.{statement}
 use Rattle.pairs.proofs.Factors.new_q.Tie as tie

@@ -1,0 +1,9 @@
+-- The laws, and what the functions' proofs share.
+pub mod AcrossLaws
+pub mod AgreementLaws
+pub mod Once
+pub mod Orders
+pub mod RenumberedLaws
+pub mod ReorderedLaws
+pub mod SameDensity
+pub mod SignsLaws

@@ -1,0 +1,86 @@
+-- DEMAND 3, c, of the calls, from their contracts alone: the same qubits in another order. Assumes nothing.
+use mathlib.Core.Path.{_≡_, sym, ap, _∙_}
+use mathlib.Core.List.{List, [], _∷_}
+use Prim.Native.Nat.{ℕ, _+_, _*_, _^_, _<_}
+use native.Mathlib.Nat.{pow-suc}
+use native.Mathlib.Omega.{arith}
+use lib.Arith.{digits-lt, digits-div, digits-mod}
+use lib.Ieee.{Float}
+use lib.ListN.{length}
+use Rattle.answers.specs.declared.Answer.{Answer}
+use Rattle.answers.specs.Paper.{Reply, paper, andThen}
+use Rattle.answers.proofs.PaperLaws.{andThen-done}
+use Rattle.complex.specs.declared.Complex.{Complex}
+use Rattle.complex.specs.Cells.{written, components}
+use Rattle.complex.proofs.CellLaws.{cell-written}
+use Rattle.qubits.specs.Lists.{qubitSet, densitySizes}
+use Rattle.qubits.specs.Spread.{spread}
+use Rattle.offsets.specs.Calls.{densityRefusal}
+use Rattle.sides.specs.Sides.{cutRefusal}
+use Rattle.cuts.specs.Cut.{cutLengths, CutMatrix}
+use Rattle.entries.specs.Entries.{lowerEntry, densityCell}
+use Rattle.entries.specs.Squares.{mirroredEntry, entryAt}
+use Rattle.densities.specs.Density.{densityLengths, densityList, Density}
+use Rattle.agreement.specs.Across.{AlikeCells}
+use Rattle.agreement.specs.Reordered.{Reordered}
+use Rattle.agreement.proofs.ReorderedLaws.{same-length, cut-kept, density-kept, pass, set-of-cut}
+use Rattle.agreement.specs.Renumbered.{renumber, unspread}
+use Rattle.agreement.proofs.RenumberedLaws.{same-cut, same-entries}
+use Rattle.agreement.proofs.AgreementLaws.{cut-left, density-left}
+
+unspread-lt : (l : List ℕ) (x : ℕ) → unspread l x < 2 ^ length l
+unfolding unspread
+unspread-lt [] x = omega arith
+unspread-lt (q ∷ l) x = rw pow-suc (omega (arith, unspread-lt l x))
+
+-- a cell of the density that a call left is the entry of its row and column
+entry-left : (s : List Float) (n : ℕ) (l : List ℕ) (o : List Float) (t u : ℕ) → t < 2 ^ length l → u < 2 ^ length l
+    → entryAt (densityList n l s o) (2 ^ length l) t u ≡ mirroredEntry (lowerEntry n l s) t u
+entry-left s n l o t u ht hu =
+    cell-written (2 ^ length l * 2 ^ length l) (t * 2 ^ length l + u) (densityCell n l s) o (digits-lt ht hu)
+    ∙ rw (digits-div t hu, digits-mod t hu)
+
+module _ (s : List Float) (n : ℕ) (l l' : List ℕ) (order : Reordered l l') (cap : ℕ) where
+  -- THE CUT: accepted again, and the same matrix bit for bit
+  module _ (o : List Float) (r r' : Answer) (m m' : List Float) (c : CutMatrix s n l cap o r m) (c' : CutMatrix s n l' cap o r' m') (z : paper r .0 ≡ 0) where
+    pub cut-again : paper r' .0 ≡ 0
+    cut-again =
+        let rest = andThen (cutLengths n (length s) (length o)) (components 0 s) in
+        let a = andThen-done (cutRefusal l n cap) rest (sym (ap (λ (x : Reply). x .0) (c .answer)) ∙ z) in
+        ap (λ (x : Reply). x .0) (c' .answer ∙ pass (cutRefusal l' n cap) rest (cut-kept n cap l l' order (a .0))) ∙ a .1
+
+    pub cut-same : m ≡ m'
+    cut-same =
+        let rest = andThen (cutLengths n (length s) (length o)) (components 0 s) in
+        let a = andThen-done (cutRefusal l n cap) rest (sym (ap (λ (x : Reply). x .0) (c .answer)) ∙ z) in
+        cut-left s n l cap o r m c z
+        ∙ ap (λ (f : ℕ → Complex). written (2 ^ n) f o) (same-cut n l l' order (set-of-cut n cap l (a .0)) s)
+        ∙ sym (cut-left s n l' cap o r' m' c' cut-again)
+
+  -- THE DENSITY: accepted again, and the same but for the numbers of its rows and columns, signs of zeros aside
+  module _ (o w : List Float) (r r' : Answer) (d w1 d' w2 : List Float) (c : Density s n l cap o w r d w1) (c' : Density s n l' cap o w r' d' w2) (z : paper r .0 ≡ 0) where
+    refusal : densityRefusal n cap l .0 ≡ 0
+    refusal =
+        andThen-done (densityRefusal n cap l) (andThen (densityLengths (2 ^ n) (2 ^ length l) (length s) (length o) (length w)) (components 0 s))
+        (sym (ap (λ (x : Reply). x .0) (c .answer)) ∙ z) .0
+
+    set : qubitSet n l .0 ≡ 0
+    set = andThen-done (densitySizes n (length l) cap) (qubitSet n l) refusal .1
+
+    pub density-again : paper r' .0 ≡ 0
+    density-again =
+        let k = same-length n l l' order set in
+        let rest : ℕ → Reply = λ x. andThen (densityLengths (2 ^ n) (2 ^ x) (length s) (length o) (length w)) (components 0 s) in
+        let a = andThen-done (densityRefusal n cap l) (rest (length l)) (sym (ap (λ (x : Reply). x .0) (c .answer)) ∙ z) in
+        ap (λ (x : Reply). x .0) (c' .answer ∙ pass (densityRefusal n cap l') (rest (length l')) (density-kept n cap l l' order refusal))
+        ∙ ap (λ (x : ℕ). rest x .0) (sym k) ∙ a .1
+
+    pub density-renumbered : (t u : ℕ) → t < 2 ^ length l → u < 2 ^ length l
+        → AlikeCells (entryAt d (2 ^ length l) t u) (entryAt d' (2 ^ length l') (renumber l l' t) (renumber l l' u))
+    density-renumbered t u ht hu =
+        let e : entryAt d (2 ^ length l) t u ≡ mirroredEntry (lowerEntry n l s) t u
+        = ap (λ (x : List Float). entryAt x (2 ^ length l) t u) (density-left s n l cap o w r d w1 c z) ∙ entry-left s n l o t u ht hu in
+        let e' : entryAt d' (2 ^ length l') (renumber l l' t) (renumber l l' u) ≡ mirroredEntry (lowerEntry n l' s) (renumber l l' t) (renumber l l' u)
+        = ap (λ (x : List Float). entryAt x (2 ^ length l') (renumber l l' t) (renumber l l' u)) (density-left s n l' cap o w r' d' w2 c' density-again)
+        ∙ entry-left s n l' o (renumber l l' t) (renumber l l' u) (unspread-lt l' (spread l t)) (unspread-lt l' (spread l u)) in
+        rw (e, e') (same-entries n l l' order set s t u)

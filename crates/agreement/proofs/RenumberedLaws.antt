@@ -1,0 +1,138 @@
+-- Laws of what `specs/Renumbered.antt` defines. Assumes nothing.
+use mathlib.Core.Path.{_≡_, refl, sym, ap, ap₂, subst, _∙_}
+use mathlib.Core.Logic.{_⊎_, ⊎-elim, inl, inr}
+use mathlib.Core.Bool.{Bool, true, false, _||_, cond}
+use mathlib.Core.List.{List, [], _∷_}
+use Prim.Native.Nat.{ℕ, zero, suc, _-_, _*_, _/_, _%_, _^_, _<_, min}
+use native.Mathlib.Omega.{arith}
+use native.Mathlib.Nat.{zero-div, zero-mul, one-mul}
+use borrow.Author.Tests.{eqb-true, eqb-false}
+use lib.Bits.{bitOr}
+use lib.Dec.{eqb, leb}
+use lib.Ieee.{Float}
+use lib.ListN.{length}
+use Rattle.masks.specs.Submasks.{submaskAt, others}
+use Rattle.masks.proofs.SubmaskLaws.{digit, or-digit, power-digit}
+use Rattle.masks.proofs.BitLaws.{Submask, or-digit-l, or-digit-r, and-digit, same-digits}
+use Rattle.qubits.specs.Lists.{stands, qubitSet}
+use Rattle.qubits.specs.Spread.{spread, named, tracedBase}
+use Rattle.qubits.proofs.SpreadLaws.{spread-cons}
+use Rattle.qubits.proofs.NamedLaws.{is-listed, not-there}
+use Rattle.qubits.proofs.OtherLaws.{power-self, traced-submask}
+use Rattle.complex.specs.declared.Complex.{Complex}
+use Rattle.complex.specs.Arithmetic.{product, conjugate}
+use Rattle.complex.specs.Cells.{cellAt}
+use Rattle.cuts.specs.Cut.{cutCell}
+use Rattle.entries.specs.Entries.{total, amplitude, lowerEntry}
+use Rattle.entries.specs.Squares.{mirroredEntry}
+use Rattle.agreement.proofs.SameDensity.{spread-submask, entry-same}
+use Rattle.agreement.specs.Signs.{same}
+use Rattle.agreement.proofs.SignsLaws.{back}
+use Rattle.agreement.specs.Across.{AlikeCells}
+use Rattle.agreement.proofs.AcrossLaws.{across}
+use Rattle.agreement.specs.Reordered.{Reordered}
+use Rattle.agreement.proofs.ReorderedLaws.{same-mask, same-length, set-kept}
+use Rattle.agreement.specs.Renumbered.{unspread, renumber}
+
+-- ---- the way back from a spread setting
+
+unspread-low : (q : ℕ) (l : List ℕ) (x : ℕ) → unspread (q ∷ l) x % 2 ≡ x / 2 ^ q % 2
+unfolding unspread
+unspread-low q l x = omega arith
+
+unspread-half : (q : ℕ) (l : List ℕ) (x : ℕ) → unspread (q ∷ l) x / 2 ≡ unspread l x
+unfolding unspread
+unspread-half q l x = omega arith
+
+again : (q : ℕ) (l : List ℕ) (x : ℕ) → spread (q ∷ l) (unspread (q ∷ l) x) ≡ bitOr (x / 2 ^ q % 2 * 2 ^ q) (spread l (unspread l x))
+again q l x = spread-cons q l (unspread (q ∷ l) x) ∙ rw (unspread-low q l x, unspread-half q l x)
+
+-- one term's digit
+term-digit : (d q p : ℕ) → (d ≡ 0) ⊎ (p ≡ q → ⊥) → d < 2 → d * 2 ^ q / 2 ^ p % 2 ≡ 0
+term-digit zero q p h l = rw (zero-mul, zero-div)
+term-digit (suc zero) q p (inl z) l = absurd (omega arith)
+term-digit (suc zero) q p (inr n) l = rw one-mul (power-digit p q n)
+term-digit (suc (suc d)) q p h l = absurd (omega arith)
+
+zero-stays : (l : List ℕ) (x p : ℕ) → x / 2 ^ p % 2 ≡ 0 → spread l (unspread l x) / 2 ^ p % 2 ≡ 0
+unfolding spread
+zero-stays [] x p h = rw zero-div
+zero-stays (q ∷ l) x p h =
+    ap (λ (y : ℕ). y / 2 ^ p % 2) (again q l x)
+    ∙ or-digit (x / 2 ^ q % 2 * 2 ^ q) (spread l (unspread l x)) p
+    (term-digit (x / 2 ^ q % 2) q p
+    (elim (eqb p q) as (λ (b : Bool). eqb p q ≡ b → (x / 2 ^ q % 2 ≡ 0) ⊎ (p ≡ q → ⊥)) [
+      | true ↦ λ e. inl (rw (← eqb-true p q e) h)
+      | false ↦ λ e. inr (eqb-false p q e)
+    ] refl)
+    (omega arith))
+    (zero-stays l x p h)
+
+one-stays : (l : List ℕ) (x p : ℕ) → stands p l ≡ true → x / 2 ^ p % 2 ≡ 1 → spread l (unspread l x) / 2 ^ p % 2 ≡ 1
+unfolding stands
+one-stays [] x p s h = absurd (omega (arith, let n : _≡_ {A = ℕ} 0 1 = cc in n))
+one-stays (q ∷ l) x p s h =
+    ap (λ (y : ℕ). y / 2 ^ p % 2) (again q l x)
+    ∙ elim (eqb q p) as (λ (b : Bool). eqb q p ≡ b → (b || stands p l) ≡ true → bitOr (x / 2 ^ q % 2 * 2 ^ q) (spread l (unspread l x)) / 2 ^ p % 2 ≡ 1) [
+      | true ↦ λ e g.
+          or-digit-l (x / 2 ^ q % 2 * 2 ^ q) (spread l (unspread l x)) p
+          (rw (eqb-true q p e, h, one-mul) (power-self p))
+      | false ↦ λ e g. or-digit-r (x / 2 ^ q % 2 * 2 ^ q) (spread l (unspread l x)) p (one-stays l x p g h)
+    ] refl s
+
+-- a submask of the named qubits is the spread setting that it spells
+spread-back : (l : List ℕ) (x : ℕ) → Submask x (named l) → spread l (unspread l x) ≡ x
+spread-back l x sub =
+    same-digits (spread l (unspread l x)) x
+    (λ p. ⊎-elim
+    (λ (h : x / 2 ^ p % 2 ≡ 0). zero-stays l x p h ∙ sym h)
+    (λ (h : x / 2 ^ p % 2 ≡ 1).
+    one-stays l x p
+    (elim (stands p l) as (λ (b : Bool). stands p l ≡ b → b ≡ true) [
+      | true ↦ λ e. refl
+      | false ↦ λ e.
+          let z : named l / 2 ^ p % 2 ≡ 0 = not-there 0 l p e (rw zero-div) in
+          let m : x / 2 ^ p % 2 ≡ min (x / 2 ^ p % 2) (named l / 2 ^ p % 2) = ap (λ (y : ℕ). y / 2 ^ p % 2) (sym sub) ∙ and-digit x (named l) p in
+          absurd (omega arith)
+    ] refl)
+    h
+    ∙ sym h)
+    (digit (x / 2 ^ p)))
+
+either-half : (b c : Bool) (x y : Complex) → AlikeCells x y → AlikeCells (cond b x y) (cond c x y)
+either-half true true x y a = record { re = refl; im = same }
+either-half true false x y a = a
+either-half false true x y a = record { re = sym (a .re); im = back (a .im) }
+either-half false false x y a = record { re = refl; im = same }
+
+module _ (n : ℕ) (l l' : List ℕ) (order : Reordered l l') (e : qubitSet n l .0 ≡ 0) where
+  -- THE CUT MATRIX IS KEPT
+  pub same-cut : (s : List Float) → cutCell s n l ≡ cutCell s n l'
+  same-cut s = rw (same-mask n l l' order e, same-length n l l' order e)
+
+  pub renumbered : (t : ℕ) → spread l' (renumber l l' t) ≡ spread l t
+  renumbered t = spread-back l' (spread l t) (rw (← same-mask n l l' order e) (spread-submask 0 l t))
+
+  same-base : (i : ℕ) → tracedBase n l i ≡ tracedBase n l' i
+  same-base i =
+      traced-submask n l (is-listed n l e) i ∙ ap (λ (m : ℕ). submaskAt n (others n m) i) (same-mask n l l' order e)
+      ∙ sym (traced-submask n l' (is-listed n l' (ap (λ (x : ℕ × ℕ). x .0) (set-kept n l l' order e))) i)
+
+  module _ (s : List Float) where
+    same-amplitude : (t i : ℕ) → amplitude n l s t i ≡ amplitude n l' s (renumber l l' t) i
+    same-amplitude t i = ap₂ (λ (a b : ℕ). cellAt s (bitOr a b)) (sym (renumbered t)) (same-base i)
+
+    -- the sums of the lower half are those of the other list, under the other numbers
+    same-sums : (t u : ℕ) → lowerEntry n l s t u ≡ lowerEntry n l' s (renumber l l' t) (renumber l l' u)
+    same-sums t u =
+        entry-same (2 ^ (n - length l)) (amplitude n l s) (λ x i. amplitude n l' s (renumber l l' x) i) (λ x i h. same-amplitude x i) t u
+        ∙ ap (λ (k : ℕ). total (2 ^ (n - k)) (λ i. product (amplitude n l' s (renumber l l' t) i) (conjugate (amplitude n l' s (renumber l l' u) i)))) (same-length n l l' order e)
+
+    -- THE DENSITY IS ONLY RENUMBERED, signs of zeros aside
+    pub same-entries : (t u : ℕ)
+        → AlikeCells (mirroredEntry (lowerEntry n l s) t u) (mirroredEntry (lowerEntry n l' s) (renumber l l' t) (renumber l l' u))
+    same-entries t u =
+        subst (λ (z : Complex). AlikeCells (mirroredEntry (lowerEntry n l s) t u) z)
+        (ap₂ (λ (x y : Complex). cond (leb (renumber l l' u) (renumber l l' t)) x (conjugate y)) (same-sums t u) (same-sums u t))
+        (either-half (leb u t) (leb (renumber l l' u) (renumber l l' t)) (lowerEntry n l s t u) (conjugate (lowerEntry n l s u t))
+        (across (2 ^ (n - length l)) (amplitude n l s) t u))

@@ -1,2 +1,0 @@
--- What the contract of `bits` rests on.
-pub mod Bits

@@ -1,0 +1,5 @@
+-- The laws, and what the functions' proofs share.
+pub mod AcceptedLaws
+pub mod Answered
+pub mod CertificateLaws
+pub mod Lengths

@@ -1,0 +1,4 @@
+-- The laws, and what the functions' proofs share.
+pub mod CornerRowsLaws
+pub mod CornersLaws
+pub mod OwnProduct

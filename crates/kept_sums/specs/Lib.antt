@@ -1,2 +1,0 @@
--- The laws of `kept_sums`.
-pub mod KeptSums

@@ -1,2 +1,0 @@
--- What the proofs of `qr_columns` cite.
-pub mod Whole

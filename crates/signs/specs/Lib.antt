@@ -1,2 +1,0 @@
--- What the contracts of `signs` cite.
-pub mod Signs

@@ -1,0 +1,203 @@
+-- The eigenvalues at each way out, and that the contract leaves one outcome. Assumes nothing.
+use mathlib.Core.Path.{_≡_, refl, sym, ap, _∙_}
+use mathlib.Core.Bool.{Bool, true, false, not}
+use mathlib.Core.List.{List, [], _∷_, _++_, append-nil}
+use mathlib.Core.Logic.{_⊎_, inl, inr}
+use Prim.Native.Nat.{ℕ, suc, _*_, _/_, _≤_, _<_}
+use native.Mathlib.Omega.{arith}
+use borrow.Author.Tests.{lt-ltb, le-ltb, ltb-false, eq-eqb, ne-eqb, eqb-true, not-false}
+use lib.Dec.{eqb, ltb}
+use lib.Ieee.{Float}
+use lib.ListN.{length, take, drop, drop-of-length-le}
+use lib.Seq.{take-at, drop-at, length-take-le}
+use Rattle.answers.specs.declared.Answer.{Answer}
+use Rattle.answers.specs.declared.Answer.the-variants.{Done, NotFinite}
+use Rattle.answers.specs.Paper.{Reply, paper, done, refuse}
+use Rattle.answers.proofs.PaperLaws.{refuse-done, stays, paper-one, worked-new, worked-old, end-old, end-worked}
+use Rattle.numbers.specs.Numbers.{allowed}
+use Rattle.complex.specs.declared.Complex.{Complex}
+use Rattle.complex.specs.Cells.{cellAt, written, components}
+use Rattle.complex.proofs.CellLaws.{cell-written}
+use Rattle.complex.specs.Zeros.{zeroed}
+use Rattle.loading.specs.Numbers.{numbersOf, filled}
+use Rattle.loading.proofs.NumbersLaws.{length-numbers}
+use Rattle.loading.specs.Loading.{planesOf}
+use Rattle.values.specs.Lists.{allFinite}
+use Rattle.jacobi.specs.declared.Sweeps.{Sweeps}
+use Rattle.eigenpair.specs.CellPlanes.{asPlanes}
+use Rattle.eigenpair.proofs.CellPlanesLaws.{planes-same}
+use Rattle.eigen.specs.Sweeping.{State, state, diagonal, settled}
+use Rattle.spectra.specs.Eigenvalues.{eigenvalue, eigenvaluesOf, eigenReply, squareRefusal, eigenAnswer}
+use Rattle.spectra.specs.Outcomes.{Given, Worked, Eigenvalues}
+
+-- ---- the refusals
+
+module _ (a : List Float) (n out scratch : ℕ) where
+  pub square-low : n < 1 → (1, 0) ≡ squareRefusal a n out scratch
+  unfolding squareRefusal
+  square-low h = rw (lt-ltb _ _ h)
+
+  module _ (h1 : 1 ≤ n) where
+    pub square-high : 64 < n → (1, 0) ≡ squareRefusal a n out scratch
+    unfolding squareRefusal
+    square-high h = rw (le-ltb _ _ h1, lt-ltb _ _ h)
+
+    module _ (h2 : n ≤ 64) where
+      pub square-matrix : (length a ≡ 2 * (n * n) → ⊥) → (6, 0) ≡ squareRefusal a n out scratch
+      unfolding squareRefusal
+      square-matrix h = rw (le-ltb _ _ h1, le-ltb _ _ h2, ne-eqb _ _ h)
+
+      module _ (h3 : length a ≡ 2 * (n * n)) where
+        pub square-out : out < n → (6, 1) ≡ squareRefusal a n out scratch
+        unfolding squareRefusal
+        square-out h = rw (le-ltb _ _ h1, le-ltb _ _ h2, eq-eqb _ _ h3, lt-ltb _ _ h)
+
+        pub square-scratch : n ≤ out → scratch < 2 * (n * n) → (6, 2) ≡ squareRefusal a n out scratch
+        unfolding squareRefusal
+        square-scratch h g = rw (le-ltb _ _ h1, le-ltb _ _ h2, eq-eqb _ _ h3, le-ltb _ _ h, lt-ltb _ _ g)
+
+        pub square-cells : n ≤ out → 2 * (n * n) ≤ scratch → components 0 a ≡ squareRefusal a n out scratch
+        unfolding squareRefusal
+        square-cells h g = rw (le-ltb _ _ h1, le-ltb _ _ h2, eq-eqb _ _ h3, le-ltb _ _ h, le-ltb _ _ g)
+
+components-small : (i : ℕ) (l : List Float) → components i l .0 < 8
+unfolding components
+components-small i [] = omega arith
+components-small i (x ∷ l) = pick (allowed x) (components-small (suc i) l)
+  where
+    pick : (t : Bool) → components (suc i) l .0 < 8 → refuse (not t) (7, i / 2) (components (suc i) l) .0 < 8
+    pick true h = h
+    pick false h = omega arith
+
+pub square-small : (a : List Float) (n out scratch : ℕ) → squareRefusal a n out scratch .0 < 8
+unfolding squareRefusal
+square-small a n out scratch = pick (ltb n 1) (ltb 64 n) (eqb (length a) (2 * (n * n))) (ltb out n) (ltb scratch (2 * (n * n))) (components 0 a) (components-small 0 a)
+  where
+    pick : (p q r s t : Bool) (b : Reply) → b .0 < 8
+        → refuse p (1, 0) (refuse q (1, 0) (refuse (not r) (6, 0) (refuse s (6, 1) (refuse t (6, 2) b)))) .0 < 8
+    pick true q r s t b h = omega arith
+    pick false true r s t b h = omega arith
+    pick false false false s t b h = omega arith
+    pick false false true true t b h = omega arith
+    pick false false true false true b h = omega arith
+    pick false false true false false b h = h
+
+-- the lengths of a call that is not refused
+pub square-given : (a : List Float) (n out scratch : ℕ) → squareRefusal a n out scratch .0 ≡ 0 → Given n (length a) out scratch
+unfolding squareRefusal
+square-given a n out scratch e =
+    let r5 = components 0 a in
+    let r4 = refuse (ltb scratch (2 * (n * n))) (6, 2) r5 in
+    let r3 = refuse (ltb out n) (6, 1) r4 in
+    let r2 = refuse (not (eqb (length a) (2 * (n * n)))) (6, 0) r3 in
+    let r1 = refuse (ltb 64 n) (1, 0) r2 in
+    let d1 = refuse-done (ltb n 1) 0 0 r1 e in
+    let d2 = refuse-done (ltb 64 n) 0 0 r2 (d1 .1) in
+    let d3 = refuse-done (not (eqb (length a) (2 * (n * n)))) 5 0 r3 (d2 .1) in
+    let d4 = refuse-done (ltb out n) 5 1 r4 (d3 .1) in
+    let d5 = refuse-done (ltb scratch (2 * (n * n))) 5 2 r5 (d4 .1) in
+    record {
+      some = ltb-false n 1 (d1 .0);
+      side = ltb-false 64 n (d2 .0);
+      matrix = eqb-true (length a) (2 * (n * n)) (not-false (eqb (length a) (2 * (n * n))) (d3 .0));
+      room = ltb-false out n (d4 .0);
+      spare = ltb-false scratch (2 * (n * n)) (d5 .0);
+    }
+
+-- ---- the answer
+
+reply-0 : (a : List Float) (n : ℕ) → allFinite (eigenvaluesOf a n) ≡ true → eigenReply a n ≡ done
+unfolding eigenReply
+reply-0 a n h = rw h
+
+reply-9 : (a : List Float) (n : ℕ) → allFinite (eigenvaluesOf a n) ≡ false → eigenReply a n ≡ (9, 0)
+unfolding eigenReply
+reply-9 a n h = rw h
+
+-- it is 0 or 9
+pub reply-worked : (a : List Float) (n : ℕ) → (eigenReply a n .0 ≡ 0) ⊎ (8 ≤ eigenReply a n .0)
+unfolding eigenReply
+reply-worked a n = pick (allFinite (eigenvaluesOf a n))
+  where
+    pick : (b : Bool) → (refuse (not b) (9, 0) done .0 ≡ 0) ⊎ (8 ≤ refuse (not b) (9, 0) done .0)
+    pick true = inl refl
+    pick false = inr (omega arith)
+
+-- ---- the work
+
+-- cells that are another matrix's have its planes
+pub loaded : (c : ℕ) (f : ℕ → Complex) (old : List Float) {xs : List Float} → xs ≡ written c f old → asPlanes c xs ≡ planesOf c f
+unfolding asPlanes
+loaded c f old {xs} e = ap (λ (l : List Float). planesOf c (cellAt l)) e ∙ planes-same c (cellAt (written c f old)) f (λ k h. cell-written c k f old h)
+
+-- the matrix was loaded, swept, and its diagonal written
+pub spectrum-made : (a : List Float) (n : ℕ) (old : List Float) {w1 w2 out : List Float} {s : Sweeps}
+    → w1 ≡ planesOf (n * n) (cellAt a) → state w2 s ≡ settled n w1 → out ≡ filled n (diagonal w2 n) old → out ≡ filled n (eigenvalue a n) old
+unfolding eigenvalue
+spectrum-made a n old {w1} {w2} e f g =
+    let h : w2 ≡ settled n (planesOf (n * n) (cellAt a)) .work = ap (λ (x : State). x .work) f ∙ ap (λ (l : List Float). settled n l .work) e in
+    g ∙ ap (λ (l : List Float). filled n (diagonal l n) old) h
+
+-- work that was zeroed whole does not say what it held
+pub zeroed-other : (m : ℕ) (l l' : List Float) → length l ≤ m → length l' ≤ m → zeroed m l ≡ zeroed m l'
+unfolding zeroed
+zeroed-other m l l' h g = rw (drop-of-length-le l h, drop-of-length-le l' g)
+
+-- the part of scratch that is needed was zeroed
+pub zeroed-part : (m : ℕ) (s e : List Float) → m ≤ length s → e ≡ zeroed m (take m s) → e ++ drop m s ≡ zeroed m s
+unfolding zeroed
+zeroed-part m s e h i =
+    let l : length (take m s) ≤ m = omega (arith, length-take-le m s h) in
+    rw (i, drop-of-length-le (take m s) l, append-nil)
+
+pub front-is : (n : ℕ) (f : ℕ → Float) (old : List Float) → take n (filled n f old) ≡ numbersOf n f
+unfolding filled
+front-is n f old = take-at (numbersOf n f) (drop n old) n (length-numbers n f)
+
+pub past-is : (n : ℕ) (f : ℕ → Float) (old : List Float) → drop n (filled n f old) ≡ drop n old
+unfolding filled
+past-is n f old = drop-at (numbersOf n f) (drop n old) n (length-numbers n f)
+
+module _ (a : List Float) (n : ℕ) (out scratch mid scratch′ : List Float) (written : mid ≡ filled n (eigenvalue a n) out)
+    (cleared : scratch′ ≡ zeroed (2 * (n * n)) scratch) (b : Bool) (finite : b ≡ allFinite (take n mid)) where
+  all-is : b ≡ allFinite (eigenvaluesOf a n)
+  all-is = rw (written, front-is n (eigenvalue a n) out) at finite
+
+  pub worked-done : b ≡ true → Worked a n out scratch Done mid scratch′
+  worked-done t =
+      let r = reply-0 a n (sym all-is ∙ t) in
+      record { answer = sym r; values = rw r written; cleared = cleared }
+
+  pub worked-infinite : b ≡ false → (end : List Float) → end ≡ zeroed n mid → Worked a n out scratch NotFinite end scratch′
+  unfolding zeroed
+  worked-infinite t end e =
+      let r = reply-9 a n (sym all-is ∙ t) in
+      let p : drop n mid ≡ drop n out = rw written (past-is n (eigenvalue a n) out) in
+      record { answer = sym r; values = rw r (rw p at e); cleared = cleared }
+
+-- ---- the entry point
+
+-- refused: nothing lent changes
+pub eigenvalues-refused : (a : List Float) (n : ℕ) (out scratch : List Float) (r : Answer) → paper r ≡ squareRefusal a n (length out) (length scratch)
+    → (paper r .0 ≡ 0 → ⊥) → Eigenvalues a n out scratch r out scratch
+eigenvalues-refused a n out scratch r e h =
+    let x = squareRefusal a n (length out) (length scratch) in
+    let m : x .0 ≡ 0 → ⊥ = λ z. h (ap (λ (y : Reply). y .0) e ∙ z) in
+    let s = sym (stays x (eigenReply a n) m) in
+    let l = square-small a n (length out) (length scratch) in
+    record { answer = e ∙ sym s; values = rw s (end-old _ _ _ _ m l); cleared = rw s (worked-old _ _ _ m l) }
+
+pub eigenvalues-worked : (a : List Float) (n : ℕ) (out scratch : List Float) (r : Answer) (out′ scratch′ : List Float)
+    → eigenAnswer a n out scratch ≡ eigenReply a n → Worked a n out scratch r out′ scratch′ → Eigenvalues a n out scratch r out′ scratch′
+eigenvalues-worked a n out scratch r out′ scratch′ e w =
+    record {
+      answer = w .answer ∙ sym e;
+      values = rw e (w .values ∙ end-worked _ _ _ out (reply-worked a n));
+      cleared = rw e (w .cleared ∙ worked-new _ _ scratch (reply-worked a n));
+    }
+
+-- ONE OUTCOME: two ends of a call that both meet the contract are the same
+pub hermitian-eigenvalues-one : (a : List Float) (n : ℕ) (out scratch : List Float) (r r' : Answer) (o o' s s' : List Float)
+    → Eigenvalues a n out scratch r o s → Eigenvalues a n out scratch r' o' s' → (r ≡ r') × (o ≡ o') × (s ≡ s')
+hermitian-eigenvalues-one a n out scratch r r' o o' s s' x y =
+    (paper-one r r' (x .answer ∙ sym (y .answer)), x .values ∙ sym (y .values), x .cleared ∙ sym (y .cleared))

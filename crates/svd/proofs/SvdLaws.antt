@@ -1,0 +1,387 @@
+-- Laws of the SVD's statements; `svd-one`: only one outcome meets the contract. Assumes nothing.
+use mathlib.Core.Path.{_≡_, refl, sym, ap, ap₂, _∙_}
+use mathlib.Core.Bool.{Bool, true, false, not, cond}
+use mathlib.Core.Logic.{_⊎_, inl, inr}
+use mathlib.Core.List.{List, _++_, append-nil}
+use Prim.Native.Nat.{ℕ, zero, suc, _+_, _*_, _≤_, _<_}
+use native.Mathlib.Nat.{mul-comm, mul-le-mul, mul-le-mul-left, mul-le-mul-right}
+use native.Mathlib.Omega.{arith}
+use lib.Dec.{leb, ltb, eqb}
+use borrow.Author.Tests.{lt-ltb, le-ltb, le-leb, lt-leb, ltb-true, ltb-false, leb-true, leb-false, eq-eqb, ne-eqb, eqb-true}
+use lib.ListN.{length, drop, drop-of-length-le}
+use lib.Ieee.{Float}
+use Rattle.answers.specs.declared.Answer.{Answer}
+use Rattle.answers.specs.Paper.{Reply, paper, done, refuse, andThen, ifDone, atEnd}
+use Rattle.answers.proofs.PaperLaws.{refuse-done, andThen-done, stays, refuse-small, after-small, paper-one, worked-new, worked-old, end-old}
+use Rattle.complex.specs.Cells.{cellAt, components}
+use Rattle.complex.proofs.CellLaws.{components-small}
+use Rattle.complex.specs.Zeros.{zeros, zeroed}
+use Rattle.loading.specs.Loading.{planesOf, conjugateTransposed}
+use Rattle.values.specs.Lists.{allFinite}
+use Rattle.thin.specs.Thin.{Thin, Lent}
+use Rattle.thin.proofs.ThinLaws.{side-fits}
+use Rattle.svd.specs.Svd.{sideOf, rowsOf, needU, needVt, needScratch, sizeTest, lengthTests, tests, workOf, directions, turns, uOf, sOf, vtOf, finiteFactors, endTest, answerOf, Svd, Exact, Factored, Finished, Worked}
+
+-- ---- the sizes
+
+pub side-wide : (m n : ℕ) → m < n → (sideOf m n ≡ m) × (rowsOf m n ≡ n)
+unfolding sideOf rowsOf
+side-wide m n h = (rw (lt-ltb m n h), rw (lt-ltb m n h))
+
+pub side-tall : (m n : ℕ) → n ≤ m → (sideOf m n ≡ n) × (rowsOf m n ≡ m)
+unfolding sideOf rowsOf
+side-tall m n h = (rw (le-ltb m n h), rw (le-ltb m n h))
+
+side-low : (m n : ℕ) → (sideOf m n ≤ m) × (sideOf m n ≤ n)
+unfolding sideOf
+side-low m n = pick (ltb m n) refl
+  where
+    pick : (b : Bool) → ltb m n ≡ b → (cond b m n ≤ m) × (cond b m n ≤ n)
+    pick true e =
+        let h : m < n = ltb-true m n e in
+        (omega arith, omega arith)
+    pick false e =
+        let h : n ≤ m = ltb-false m n e in
+        (omega arith, omega arith)
+
+-- a size above 4096 leaves no room for the other
+pub too-many : (m n : ℕ) → 1 ≤ m → 1 ≤ n → 4096 < m → 4096 < m * n
+too-many m n a b h =
+    let p : 4097 * 1 ≤ m * n = mul-le-mul h b in
+    omega arith
+
+pub too-many' : (m n : ℕ) → 1 ≤ m → 1 ≤ n → 4096 < n → 4096 < m * n
+too-many' m n a b h =
+    let p : 1 * 4097 ≤ m * n = mul-le-mul a h in
+    omega arith
+
+-- a size below 1 is refused, and so is a product above 4096
+pub size-rows : (m n : ℕ) → m < 1 → (1, 0) ≡ sizeTest m n
+unfolding sizeTest
+size-rows m n h = rw (lt-leb 1 m h)
+
+pub size-columns : (m n : ℕ) → 1 ≤ m → n < 1 → (1, 0) ≡ sizeTest m n
+unfolding sizeTest
+size-columns m n a h = rw (le-leb 1 m a, lt-leb 1 n h)
+
+pub size-cells : (m n : ℕ) → 1 ≤ m → 1 ≤ n → 4096 < m * n → (1, 0) ≡ sizeTest m n
+unfolding sizeTest
+size-cells m n a b h = rw (le-leb 1 m a, le-leb 1 n b, lt-ltb 4096 (m * n) h)
+
+pub size-good : (m n : ℕ) → 1 ≤ m → 1 ≤ n → m * n ≤ 4096 → done ≡ sizeTest m n
+unfolding sizeTest
+size-good m n a b h = rw (le-leb 1 m a, le-leb 1 n b, le-ltb 4096 (m * n) h)
+
+not-out : (b : Bool) → not b ≡ false → b ≡ true
+not-out true e = refl
+not-out false e = cc
+
+pub size-done : (m n : ℕ) → sizeTest m n .0 ≡ 0 → (1 ≤ m) × (1 ≤ n) × (m * n ≤ 4096)
+unfolding sizeTest
+size-done m n e =
+    let a = refuse-done (not (leb 1 m)) 0 0 _ e in
+    let b = refuse-done (not (leb 1 n)) 0 0 _ (a .1) in
+    let c = refuse-done (ltb 4096 (m * n)) 0 0 _ (b .1) in
+    (leb-true 1 m (not-out (leb 1 m) (a .0)), leb-true 1 n (not-out (leb 1 n) (b .0)), ltb-false 4096 (m * n) (c .0))
+
+-- the products that are reckoned
+pub side-cells : (m n k : ℕ) → k ≡ sideOf m n → (m * k ≤ m * n) × (k * n ≤ m * n) × (k ≤ m * n)
+side-cells m n k e =
+    let l = side-low m n in
+    let a : k ≤ m = rw (sym e) at (l .0) in
+    let b : k ≤ n = rw (sym e) at (l .1) in
+    let q : k * k ≤ m * n = mul-le-mul a b in
+    (mul-le-mul-left m b, mul-le-mul-right n a, omega (arith, side-fits k))
+
+module _ (m n a u s vt scratch : ℕ) {k : ℕ} (e : k ≡ sideOf m n) where
+  pub lengths-0 : (a ≡ 2 * (m * n) → ⊥) → (6, 0) ≡ lengthTests m n a u s vt scratch
+  unfolding lengthTests
+  lengths-0 h = rw (ne-eqb a (2 * (m * n)) h)
+
+  module _ (ea : a ≡ 2 * (m * n)) where
+    pub lengths-1 : u < 2 * (m * k) → (6, 1) ≡ lengthTests m n a u s vt scratch
+    unfolding lengthTests
+    lengths-1 h =
+        let g : u < needU m n = rw e at h in
+        rw (eq-eqb a (2 * (m * n)) ea, lt-ltb u (needU m n) g)
+
+    module _ (hu : 2 * (m * k) ≤ u) where
+      gu : needU m n ≤ u
+      gu = rw e at hu
+
+      pub lengths-2 : s < k → (6, 2) ≡ lengthTests m n a u s vt scratch
+      unfolding lengthTests
+      lengths-2 h =
+          let g : s < sideOf m n = rw e at h in
+          rw (eq-eqb a (2 * (m * n)) ea, le-ltb u (needU m n) gu, lt-ltb s (sideOf m n) g)
+
+      module _ (hs : k ≤ s) where
+        gs : sideOf m n ≤ s
+        gs = rw e at hs
+
+        pub lengths-3 : vt < 2 * (k * n) → (6, 3) ≡ lengthTests m n a u s vt scratch
+        unfolding lengthTests
+        lengths-3 h =
+            let g : vt < needVt m n = rw e at h in
+            rw (eq-eqb a (2 * (m * n)) ea, le-ltb u (needU m n) gu, le-ltb s (sideOf m n) gs, lt-ltb vt (needVt m n) g)
+
+        module _ (hv : 2 * (k * n) ≤ vt) where
+          gv : needVt m n ≤ vt
+          gv = rw e at hv
+
+          pub lengths-4 : scratch < 6 * (m * n) + 2 * k → (6, 4) ≡ lengthTests m n a u s vt scratch
+          unfolding lengthTests
+          lengths-4 h =
+              let g : scratch < needScratch m n = rw e at h in
+              rw (
+                eq-eqb a (2 * (m * n)) ea,
+                le-ltb u (needU m n) gu,
+                le-ltb s (sideOf m n) gs,
+                le-ltb vt (needVt m n) gv,
+                lt-ltb scratch (needScratch m n) g,
+              )
+
+          pub lengths-good : 6 * (m * n) + 2 * k ≤ scratch → done ≡ lengthTests m n a u s vt scratch
+          unfolding lengthTests
+          lengths-good h =
+              let g : needScratch m n ≤ scratch = rw e at h in
+              rw (
+                eq-eqb a (2 * (m * n)) ea,
+                le-ltb u (needU m n) gu,
+                le-ltb s (sideOf m n) gs,
+                le-ltb vt (needVt m n) gv,
+                le-ltb scratch (needScratch m n) g,
+              )
+
+-- ---- the tests of an accepted call
+
+pub record Accepted (m n a u s vt scratch : ℕ) : Type 0 where
+  pub rows : 1 ≤ m
+  pub columns : 1 ≤ n
+  pub cells : m * n ≤ 4096
+  pub a-is : a ≡ 2 * (m * n)
+  pub u-fits : needU m n ≤ u
+  pub s-fits : sideOf m n ≤ s
+  pub vt-fits : needVt m n ≤ vt
+  pub scratch-fits : needScratch m n ≤ scratch
+
+pub accepted : (a : List Float) (m n u s vt scratch : ℕ) → tests a m n u s vt scratch .0 ≡ 0 → Accepted m n (length a) u s vt scratch
+unfolding tests lengthTests
+accepted a m n u s vt scratch e =
+    let first = andThen-done (sizeTest m n) _ e in
+    let z = size-done m n (first .0) in
+    let second = andThen-done (lengthTests m n (length a) u s vt scratch) (components 0 a) (first .1) in
+    let t0 = refuse-done (not (eqb (length a) (2 * (m * n)))) 5 0 _ (second .0) in
+    let t1 = refuse-done (ltb u (needU m n)) 5 1 _ (t0 .1) in
+    let t2 = refuse-done (ltb s (sideOf m n)) 5 2 _ (t1 .1) in
+    let t3 = refuse-done (ltb vt (needVt m n)) 5 3 _ (t2 .1) in
+    let t4 = refuse-done (ltb scratch (needScratch m n)) 5 4 _ (t3 .1) in
+    record {
+      rows = z .0;
+      columns = z .1;
+      cells = z .2;
+      a-is = eqb-true (length a) (2 * (m * n)) (not-out (eqb (length a) (2 * (m * n))) (t0 .0));
+      u-fits = ltb-false u (needU m n) (t1 .0);
+      s-fits = ltb-false s (sideOf m n) (t2 .0);
+      vt-fits = ltb-false vt (needVt m n) (t3 .0);
+      scratch-fits = ltb-false scratch (needScratch m n) (t4 .0);
+    }
+
+-- ---- the factors
+
+-- the smaller of two sizes with at most 4096 cells is at most 64
+root : (n m : ℕ) → n ≤ m → n * m ≤ 4096 → n ≤ 64
+root n m h c = pick (leb n 64) refl
+  where
+    pick : (b : Bool) → leb n 64 ≡ b → n ≤ 64
+    pick true e = leb-true n 64 e
+    pick false e =
+        let g : 65 ≤ n = leb-false n 64 e in
+        let k : 65 ≤ m = omega arith in
+        let p : 65 * 65 ≤ n * m = mul-le-mul g k in
+        absurd (omega arith)
+
+-- the lengths that the work on a wide matrix asks, and those of a tall one
+pub wide-lent : (m n a u s vt scratch scratch' : ℕ) → m < n → Exact m n a u s vt scratch → scratch' ≡ scratch → Lent n m s u scratch' × (vt ≡ 2 * (m * n))
+wide-lent m n a u s vt scratch scratch' h e i =
+    let k : sideOf m n ≡ m = side-wide m n h .0 in
+    let l : m ≤ n = omega arith in
+    let sq : m ≤ 64 = root m n l (e .cells) in
+    let lu : u ≡ 2 * (m * m) = rw k at (e .u-is) in
+    let ls : s ≡ m = rw k at (e .s-is) in
+    let lv : vt ≡ 2 * (m * n) = rw k at (e .vt-is) in
+    let lt : scratch' ≡ 6 * (m * n) + 2 * m = i ∙ rw k at (e .scratch-is) in
+    (record { tall = omega arith; columns = sq; cells = e .cells; s-is = ls; other-is = lu; scratch-is = lt }, lv)
+
+pub tall-lent : (m n a u s vt scratch scratch' : ℕ) → n ≤ m → Exact m n a u s vt scratch → scratch' ≡ scratch → Lent m n s vt scratch' × (u ≡ 2 * (n * m))
+tall-lent m n a u s vt scratch scratch' h e i =
+    let k : sideOf m n ≡ n = side-tall m n h .0 in
+    let c : m * n ≡ n * m = mul-comm m n in
+    let d : n * m ≤ 4096 = rw c at (e .cells) in
+    let lu : u ≡ 2 * (n * m) = rw (k, c) at (e .u-is) in
+    let ls : s ≡ n = rw k at (e .s-is) in
+    let lv : vt ≡ 2 * (n * n) = rw k at (e .vt-is) in
+    let lt : scratch' ≡ 6 * (n * m) + 2 * n = i ∙ rw (k, c) at (e .scratch-is) in
+    (record { tall = h; columns = root n m h d; cells = d; s-is = ls; other-is = lv; scratch-is = lt }, lu)
+
+pub wide-made : (a : List Float) (m n : ℕ) {work main s other : List Float} → m < n → work ≡ planesOf (m * n) (conjugateTransposed a m n)
+    → Thin n m true work main s other → Factored a m n other s main
+unfolding uOf sOf vtOf directions turns workOf
+wide-made a m n h e t =
+    let k = side-wide m n h in
+    record {
+      u-is = t .other-is ∙ rw (lt-ltb m n h, k .0, k .1, e);
+      s-is = t .s-is ∙ rw (lt-ltb m n h, k .0, k .1, e);
+      vt-is = t .main-is ∙ rw (lt-ltb m n h, k .0, k .1, e);
+    }
+
+pub tall-made : (a : List Float) (m n : ℕ) {work main s other : List Float} → n ≤ m → work ≡ planesOf (n * m) (cellAt a)
+    → Thin m n false work main s other → Factored a m n main s other
+unfolding uOf sOf vtOf directions turns workOf
+tall-made a m n h e t =
+    let k = side-tall m n h in
+    record {
+      u-is = t .main-is ∙ rw (le-ltb m n h, k .0, k .1, e);
+      s-is = t .s-is ∙ rw (le-ltb m n h, k .0, k .1, e);
+      vt-is = t .other-is ∙ rw (le-ltb m n h, k .0, k .1, e);
+    }
+
+-- ---- the end
+
+pub finite-first : (u s vt : List Float) → allFinite u ≡ false → false ≡ finiteFactors u s vt
+unfolding finiteFactors
+finite-first u s vt a = rw a
+
+pub finite-second : (u s vt : List Float) → allFinite u ≡ true → allFinite s ≡ false → false ≡ finiteFactors u s vt
+unfolding finiteFactors
+finite-second u s vt a b = rw (a, b)
+
+pub finite-third : (u s vt : List Float) {t : Bool} → allFinite u ≡ true → allFinite s ≡ true → t ≡ allFinite vt → t ≡ finiteFactors u s vt
+unfolding finiteFactors
+finite-third u s vt a b c = rw (a, b) c
+
+pub zeroed-all : (l : List Float) → zeroed (length l) l ≡ zeros (length l)
+unfolding zeroed
+zeroed-all l =
+    let e : length l ≤ length l = omega arith in
+    rw (drop-of-length-le l e, append-nil)
+
+-- all finite, or not
+pub finished-good : (u s vt : List Float) (r : Answer) → paper r ≡ done → finiteFactors u s vt ≡ true → Finished u s vt r u s vt
+unfolding endTest
+finished-good u s vt r e h =
+    record { answer = e ∙ rw h; u-is = rw e; s-is = rw e; vt-is = rw e }
+
+pub finished-bad : (u s vt : List Float) (r : Answer) {u' s' vt' : List Float} → paper r ≡ (9, 0) → finiteFactors u s vt ≡ false
+    → u' ≡ zeroed (length u) u → s' ≡ zeroed (length s) s → vt' ≡ zeroed (length vt) vt → Finished u s vt r u' s' vt'
+unfolding endTest
+finished-bad u s vt r e h eu es ev =
+    record { answer = e ∙ rw h; u-is = rw e (eu ∙ zeroed-all u); s-is = rw e (es ∙ zeroed-all s); vt-is = rw e (ev ∙ zeroed-all vt) }
+
+pub worked : (a : List Float) (m n la : ℕ) (u₀ s₀ vt₀ scratch₀ scratch : List Float) {u s vt u' s' vt' scratch' : List Float} (r : Answer)
+    → Exact m n la (length u₀) (length s₀) (length vt₀) (length scratch₀)
+    → length u ≡ length u₀ → length s ≡ length s₀ → length vt ≡ length vt₀
+    → Factored a m n u s vt → (k : ℕ) → k ≡ length scratch₀ → length scratch ≡ length scratch₀ → scratch' ≡ zeroed k scratch → Finished u s vt r u' s' vt'
+    → Worked a m n r u' s' vt' scratch'
+unfolding zeroed
+worked a m n la u₀ s₀ vt₀ scratch₀ scratch {u} {s} {vt} {u'} {s'} {vt'} {scratch'} r e lu ls lv f k ek lt z g =
+    let l : length scratch ≤ k = omega arith in
+    record {
+      answer = g .answer ∙ rw (f .u-is, f .s-is, f .vt-is);
+      u-is = g .u-is ∙ ap₂ (λ (x : List Float) (y : ℕ). ifDone (paper r .0) x (zeros y)) (f .u-is) (lu ∙ e .u-is);
+      s-is = g .s-is ∙ ap₂ (λ (x : List Float) (y : ℕ). ifDone (paper r .0) x (zeros y)) (f .s-is) (ls ∙ e .s-is);
+      vt-is = g .vt-is ∙ ap₂ (λ (x : List Float) (y : ℕ). ifDone (paper r .0) x (zeros y)) (f .vt-is) (lv ∙ e .vt-is);
+      scratch-is = z ∙ rw (drop-of-length-le scratch l, append-nil, ek, e .scratch-is);
+    }
+
+-- 0 or 9
+end-number : (u s vt : List Float) → (endTest u s vt .0 ≡ 0) ⊎ (8 ≤ endTest u s vt .0)
+unfolding endTest
+end-number u s vt = pick (finiteFactors u s vt)
+  where
+    pick : (b : Bool) → (refuse (not b) (9, 0) done .0 ≡ 0) ⊎ (8 ≤ refuse (not b) (9, 0) done .0)
+    pick true = inl refl
+    pick false = inr (omega arith)
+
+pub join-end : (x : ℕ) (new cleared rest old : List Float) → (x ≡ 0) ⊎ (8 ≤ x) → ifDone x new cleared ++ rest ≡ atEnd x (new ++ rest) (cleared ++ rest) old
+join-end zero new cleared rest old h = refl
+join-end (suc x) new cleared rest old h = worked-new (suc x) (cleared ++ rest) old h
+
+-- no refusal before the work has a number from 8 on
+size-small : (m n : ℕ) → sizeTest m n .0 < 8
+unfolding sizeTest
+size-small m n =
+    let one : 1 < 8 = omega arith in
+    refuse-small (not (leb 1 m)) 1 0 (refuse (not (leb 1 n)) (1, 0) (refuse (ltb 4096 (m * n)) (1, 0) done)) one
+    (refuse-small (not (leb 1 n)) 1 0 (refuse (ltb 4096 (m * n)) (1, 0) done) one (refuse-small (ltb 4096 (m * n)) 1 0 done one (omega arith)))
+
+-- a row of length tests
+row : Bool → Bool → Bool → Bool → Bool → Reply
+row t0 t1 t2 t3 t4 = refuse t0 (6, 0) (refuse t1 (6, 1) (refuse t2 (6, 2) (refuse t3 (6, 3) (refuse t4 (6, 4) done))))
+
+row-small : (t0 t1 t2 t3 t4 : Bool) → row t0 t1 t2 t3 t4 .0 < 8
+unfolding row
+row-small true t1 t2 t3 t4 = omega arith
+row-small false true t2 t3 t4 = omega arith
+row-small false false true t3 t4 = omega arith
+row-small false false false true t4 = omega arith
+row-small false false false false true = omega arith
+row-small false false false false false = omega arith
+
+lengths-small : (m n a u s vt scratch : ℕ) → lengthTests m n a u s vt scratch .0 < 8
+unfolding lengthTests row
+lengths-small m n a u s vt scratch =
+    row-small (not (eqb a (2 * (m * n)))) (ltb u (needU m n)) (ltb s (sideOf m n)) (ltb vt (needVt m n)) (ltb scratch (needScratch m n))
+
+tests-small : (a : List Float) (m n u s vt scratch : ℕ) → tests a m n u s vt scratch .0 < 8
+unfolding tests
+tests-small a m n u s vt scratch =
+    let l = lengthTests m n (length a) u s vt scratch in
+    after-small (sizeTest m n .0) (sizeTest m n) (andThen l (components 0 a)) (size-small m n)
+    (after-small (l .0) l (components 0 a) (lengths-small m n (length a) u s vt scratch) (components-small 0 a))
+
+-- an accepted call, and a refused one
+pub svd-worked : (a : List Float) (m n : ℕ) (u s vt scratch : List Float) (r : Answer) {u' s' vt' scratch' : List Float} {k : ℕ}
+    → k ≡ sideOf m n
+    → andThen (tests a m n (length u) (length s) (length vt) (length scratch)) (endTest (uOf a m n) (sOf a m n) (vtOf a m n))
+    ≡ endTest (uOf a m n) (sOf a m n) (vtOf a m n)
+    → Worked a m n r u' s' vt' scratch'
+    → Svd a m n u s vt scratch r (u' ++ drop (2 * (m * k)) u) (s' ++ drop k s) (vt' ++ drop (2 * (k * n)) vt) (scratch' ++ drop (6 * (m * n) + 2 * k) scratch)
+unfolding answerOf zeroed
+svd-worked a m n u s vt scratch r i e w =
+    let p : (paper r .0 ≡ 0) ⊎ (8 ≤ paper r .0) = rw (w .answer) (end-number (uOf a m n) (sOf a m n) (vtOf a m n)) in
+    record {
+      answer = w .answer ∙ sym e;
+      u-is = rw (i, w .u-is) (join-end (paper r .0) (uOf a m n) (zeros (needU m n)) (drop (needU m n) u) u p);
+      s-is = rw (i, w .s-is) (join-end (paper r .0) (sOf a m n) (zeros (sideOf m n)) (drop (sideOf m n) s) s p);
+      vt-is = rw (i, w .vt-is) (join-end (paper r .0) (vtOf a m n) (zeros (needVt m n)) (drop (needVt m n) vt) vt p);
+      scratch-is = rw (i, w .scratch-is) (worked-new (paper r .0) (zeros (needScratch m n) ++ drop (needScratch m n) scratch) scratch p);
+    }
+
+pub svd-refused : (a : List Float) (m n : ℕ) (u s vt scratch : List Float) (r : Answer)
+    → paper r ≡ tests a m n (length u) (length s) (length vt) (length scratch) → (paper r .0 ≡ 0 → ⊥)
+    → Svd a m n u s vt scratch r u s vt scratch
+unfolding answerOf
+svd-refused a m n u s vt scratch r e h =
+    let b : paper r .0 < 8 = rw e (tests-small a m n (length u) (length s) (length vt) (length scratch)) in
+    record {
+      answer = stays (paper r) (endTest (uOf a m n) (sOf a m n) (vtOf a m n)) h ∙ ap (λ (x : Reply). andThen x (endTest (uOf a m n) (sOf a m n) (vtOf a m n))) e;
+      u-is = end-old (paper r .0) _ _ u h b;
+      s-is = end-old (paper r .0) _ _ s h b;
+      vt-is = end-old (paper r .0) _ _ vt h b;
+      scratch-is = worked-old (paper r .0) _ scratch h b;
+    }
+
+-- ---- only one outcome
+
+pub svd-one : (a : List Float) (m n : ℕ) (u s vt scratch : List Float) (r q : Answer) (u' s' vt' scratch' u″ s″ vt″ scratch″ : List Float)
+    → Svd a m n u s vt scratch r u' s' vt' scratch' → Svd a m n u s vt scratch q u″ s″ vt″ scratch″
+    → (r ≡ q) × (u' ≡ u″) × (s' ≡ s″) × (vt' ≡ vt″) × (scratch' ≡ scratch″)
+svd-one a m n u s vt scratch r q u' s' vt' scratch' u″ s″ vt″ scratch″ x y =
+    let e : r ≡ q = paper-one r q (x .answer ∙ sym (y .answer)) in (
+      e,
+      x .u-is ∙ rw e (sym (y .u-is)),
+      x .s-is ∙ rw e (sym (y .s-is)),
+      x .vt-is ∙ rw e (sym (y .vt-is)),
+      x .scratch-is ∙ rw e (sym (y .scratch-is)),
+    )
