@@ -4,7 +4,7 @@ use Prim.Native.Nat.{ℕ, zero, suc}
 use lib.Ieee.{Float, binary64, add, sub, mul, neg, ofBits}
 use Rattle.complex.specs.declared.Complex.{Complex}
 use Rattle.complex.specs.Arithmetic.{sum, product, conjugate}
-use Rattle.entries.specs.Entries.{total}
+use Rattle.density_entries.specs.Entries.{total}
 use Rattle.signs.proofs.Signs.{neg-neg, mul-neg, mul-swap, add-swap}
 use Rattle.agreement.specs.Signs.{Alike, zeros}
 use Rattle.agreement.proofs.SignsLaws.{step, then, trans, add-neg, alike-add}

@@ -10,11 +10,11 @@ use Rattle.answers.proofs.PaperLaws.{andThen-done, done-new}
 use Rattle.complex.specs.declared.Complex.{Complex}
 use Rattle.complex.specs.Cells.{written, components}
 use Rattle.complex.proofs.CellLaws.{cells-same}
-use Rattle.sides.specs.Sides.{cutRefusal, Parted}
-use Rattle.sides.proofs.SideLaws.{is-parted}
+use Rattle.cut_sides.specs.Sides.{cutRefusal, Parted}
+use Rattle.cut_sides.proofs.SideLaws.{is-parted}
 use Rattle.cuts.specs.Cut.{cutAnswer, cutLengths, cutCell, CutMatrix}
 use Rattle.densities.specs.Density.{densityAnswer, densityList, Density}
-use Rattle.entries.specs.Entries.{densityCell}
+use Rattle.density_entries.specs.Entries.{densityCell}
 use Rattle.agreement.specs.FromCut.{cutDensityCell}
 use Rattle.agreement.proofs.Once.{once, amplitude-held}
 use Rattle.agreement.proofs.SameDensity.{same-density}

@@ -7,12 +7,12 @@ use lib.Arith.{digits-lt, digits-div, digits-mod}
 use lib.Bits.{bitOr}
 use lib.Ieee.{Float}
 use lib.Pow.{pow-pos}
-use Rattle.masks.specs.Submasks.{submaskAt, submaskNumber, others}
-use Rattle.masks.proofs.SubmaskLaws.{submaskCount, union, met, row-of, column-of, counts, submaskNumber-lt}
+use Rattle.submasks.specs.Submasks.{submaskAt, submaskNumber, others}
+use Rattle.submasks.proofs.SubmaskLaws.{submaskCount, union, met, row-of, column-of, counts, submaskNumber-lt}
 use Rattle.complex.specs.Cells.{cellAt, written}
 use Rattle.complex.proofs.CellLaws.{cell-written}
-use Rattle.sides.specs.Sides.{side, rowMask, columnMask, Parted}
-use Rattle.sides.proofs.SideLaws.{two-sides}
+use Rattle.cut_sides.specs.Sides.{side, rowMask, columnMask, Parted}
+use Rattle.cut_sides.proofs.SideLaws.{two-sides}
 use Rattle.cuts.specs.Cut.{cutCell, sourceOf}
 use Rattle.agreement.specs.FromCut.{placeOf}
 

@@ -15,11 +15,11 @@ use Rattle.complex.specs.Cells.{written, components}
 use Rattle.complex.proofs.CellLaws.{cell-written}
 use Rattle.qubits.specs.Lists.{qubitSet, densitySizes}
 use Rattle.qubits.specs.Spread.{spread}
-use Rattle.offsets.specs.Calls.{densityRefusal}
-use Rattle.sides.specs.Sides.{cutRefusal}
+use Rattle.qubit_offsets.specs.Calls.{densityRefusal}
+use Rattle.cut_sides.specs.Sides.{cutRefusal}
 use Rattle.cuts.specs.Cut.{cutLengths, CutMatrix}
-use Rattle.entries.specs.Entries.{lowerEntry, densityCell}
-use Rattle.entries.specs.Squares.{mirroredEntry, entryAt}
+use Rattle.density_entries.specs.Entries.{lowerEntry, densityCell}
+use Rattle.density_entries.specs.Squares.{mirroredEntry, entryAt}
 use Rattle.densities.specs.Density.{densityLengths, densityList, Density}
 use Rattle.agreement.specs.Across.{AlikeCells}
 use Rattle.agreement.specs.Reordered.{Reordered}

@@ -11,9 +11,9 @@ use lib.Bits.{bitOr}
 use lib.Dec.{eqb, leb}
 use lib.Ieee.{Float}
 use lib.ListN.{length}
-use Rattle.masks.specs.Submasks.{submaskAt, others}
-use Rattle.masks.proofs.SubmaskLaws.{digit, or-digit, power-digit}
-use Rattle.masks.proofs.BitLaws.{Submask, or-digit-l, or-digit-r, and-digit, same-digits}
+use Rattle.submasks.specs.Submasks.{submaskAt, others}
+use Rattle.submasks.proofs.SubmaskLaws.{digit, or-digit, power-digit}
+use Rattle.submasks.proofs.BitLaws.{Submask, or-digit-l, or-digit-r, and-digit, same-digits}
 use Rattle.qubits.specs.Lists.{stands, qubitSet}
 use Rattle.qubits.specs.Spread.{spread, named, tracedBase}
 use Rattle.qubits.proofs.SpreadLaws.{spread-cons}
@@ -23,8 +23,8 @@ use Rattle.complex.specs.declared.Complex.{Complex}
 use Rattle.complex.specs.Arithmetic.{product, conjugate}
 use Rattle.complex.specs.Cells.{cellAt}
 use Rattle.cuts.specs.Cut.{cutCell}
-use Rattle.entries.specs.Entries.{total, amplitude, lowerEntry}
-use Rattle.entries.specs.Squares.{mirroredEntry}
+use Rattle.density_entries.specs.Entries.{total, amplitude, lowerEntry}
+use Rattle.density_entries.specs.Squares.{mirroredEntry}
 use Rattle.agreement.proofs.SameDensity.{spread-submask, entry-same}
 use Rattle.agreement.specs.Signs.{same}
 use Rattle.agreement.proofs.SignsLaws.{back}

@@ -12,14 +12,14 @@ use lib.ListN.{length, getD, take, drop}
 use lib.Seq.{take-suc, take-length, split-at}
 use Rattle.answers.specs.Paper.{Reply, done, refuse, andThen}
 use Rattle.answers.proofs.PaperLaws.{refuse-done, andThen-done}
-use Rattle.masks.proofs.SubmaskLaws.{submaskCount}
-use Rattle.masks.proofs.BitLaws.{same-digits}
+use Rattle.submasks.proofs.SubmaskLaws.{submaskCount}
+use Rattle.submasks.proofs.BitLaws.{same-digits}
 use Rattle.qubits.specs.Lists.{stands, placesFrom, places, qubitSet, subsystem, densitySizes, Listed}
 use Rattle.qubits.specs.Spread.{named}
 use Rattle.qubits.proofs.NamedLaws.{is-listed, not-empty, named-count, not-there}
 use Rattle.qubits.proofs.OtherLaws.{there, pow-same}
-use Rattle.offsets.specs.Calls.{densityRefusal}
-use Rattle.sides.specs.Sides.{cutSizes, cutRefusal}
+use Rattle.qubit_offsets.specs.Calls.{densityRefusal}
+use Rattle.cut_sides.specs.Sides.{cutSizes, cutRefusal}
 use Rattle.agreement.specs.Reordered.{times, Reordered}
 
 -- ---- times and `stands`

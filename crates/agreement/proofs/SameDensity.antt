@@ -11,9 +11,9 @@ use lib.Bits.{bitOr, or-comm}
 use lib.Dec.{leb}
 use lib.Ieee.{Float}
 use lib.ListN.{length}
-use Rattle.masks.specs.Submasks.{submaskAt, others}
-use Rattle.masks.proofs.SubmaskLaws.{submaskAt-submaskNumber, submaskNumber-lt, le-or-lt, digit}
-use Rattle.masks.proofs.BitLaws.{Submask, submask-zero, submask-or, submask-self, submask-wider}
+use Rattle.submasks.specs.Submasks.{submaskAt, others}
+use Rattle.submasks.proofs.SubmaskLaws.{submaskAt-submaskNumber, submaskNumber-lt, le-or-lt, digit}
+use Rattle.submasks.proofs.BitLaws.{Submask, submask-zero, submask-or, submask-self, submask-wider}
 use Rattle.qubits.specs.Spread.{spread, maskFrom, named}
 use Rattle.qubits.proofs.NamedLaws.{named-lt, named-count, sizes-product}
 use Rattle.qubits.proofs.OtherLaws.{traced-submask}
@@ -21,11 +21,11 @@ use Rattle.complex.specs.declared.Complex.{Complex}
 use Rattle.complex.specs.Arithmetic.{sum, product, conjugate}
 use Rattle.complex.specs.Cells.{cellAt, written}
 use Rattle.complex.proofs.CellLaws.{cell-written}
-use Rattle.sides.specs.Sides.{side, Parted}
-use Rattle.sides.proofs.SideLaws.{named-yes, named-no}
+use Rattle.cut_sides.specs.Sides.{side, Parted}
+use Rattle.cut_sides.proofs.SideLaws.{named-yes, named-no}
 use Rattle.cuts.specs.Cut.{cutCell}
-use Rattle.entries.specs.Entries.{total, amplitude, lowerEntry, densityCell}
-use Rattle.entries.specs.Squares.{mirroredEntry}
+use Rattle.density_entries.specs.Entries.{total, amplitude, lowerEntry, densityCell}
+use Rattle.density_entries.specs.Squares.{mirroredEntry}
 use Rattle.agreement.specs.FromCut.{numberOf, cutAmplitude, cutEntry, cutDensityCell}
 
 -- ---- a setting of the named qubits is a submask of their mask

@@ -4,14 +4,14 @@ use mathlib.Core.List.{List}
 use Prim.Native.Nat.{ℕ, _+_, _-_, _*_, _^_}
 use lib.Ieee.{Float}
 use lib.ListN.{length}
-use Rattle.masks.specs.Submasks.{submaskNumber}
+use Rattle.submasks.specs.Submasks.{submaskNumber}
 use Rattle.qubits.specs.Spread.{named, rowOffset}
 use Rattle.complex.specs.declared.Complex.{Complex}
 use Rattle.complex.specs.Arithmetic.{product, conjugate}
 use Rattle.complex.specs.Cells.{cellAt}
-use Rattle.sides.specs.Sides.{side, namedRows, rowMask, columnMask}
-use Rattle.entries.specs.Entries.{total}
-use Rattle.entries.specs.Squares.{mirroredEntry, rowMajor}
+use Rattle.cut_sides.specs.Sides.{side, namedRows, rowMask, columnMask}
+use Rattle.density_entries.specs.Entries.{total}
+use Rattle.density_entries.specs.Squares.{mirroredEntry, rowMajor}
 
 -- the cell of the amplitude x: its row and its column are x's bits on the two sides, packed
 abbrev pub placeOf : ℕ → List ℕ → ℕ → ℕ

@@ -18,9 +18,9 @@ use Rattle.lines.specs.Lines.{refusedLine, listing}
 use Rattle.lines.proofs.LineLaws.{length-refused, length-listing}
 use Rattle.qubits.specs.Spread.{otherQubits}
 use Rattle.qubits.proofs.OtherLaws.{others-length}
-use Rattle.sides.specs.declared.Sides.{Sides}
-use Rattle.sides.specs.Sides.{cutRefusal, Parted, side, namedRows, sidesOf, sideList, othersShort, sideAnswer, SmallerSide, sidePart}
-use Rattle.sides.proofs.SideLaws.{is-parted, part-of-side}
+use Rattle.cut_sides.specs.declared.Sides.{Sides}
+use Rattle.cut_sides.specs.Sides.{cutRefusal, Parted, side, namedRows, sidesOf, sideList, othersShort, sideAnswer, SmallerSide, sidePart}
+use Rattle.cut_sides.proofs.SideLaws.{is-parted, part-of-side}
 use Rattle.certificates.specs.Accepted.{Accepted, acceptedText, Printed}
 
 -- ---- an accepted cut

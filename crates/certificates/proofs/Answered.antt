@@ -11,22 +11,22 @@ use lib.Pow.{pow-mono}
 use lib.Seq.{length-take-le, take-append-le, take-append-seam}
 use Rattle.answers.specs.Paper.{Reply, paper, ifDone}
 use Rattle.answers.proofs.PaperLaws.{andThen-done, done-new, done-old, end-new}
-use Rattle.masks.proofs.SubmaskLaws.{le-or-lt}
+use Rattle.submasks.proofs.SubmaskLaws.{le-or-lt}
 use Rattle.complex.specs.Zeros.{zeros, zeroed}
-use Rattle.sides.specs.Sides.{cutRefusal, side}
-use Rattle.loading.proofs.NumbersLaws.{length-numbers}
-use Rattle.factors.specs.Columns.{sortedOf}
+use Rattle.cut_sides.specs.Sides.{cutRefusal, side}
+use Rattle.svd_load.proofs.NumbersLaws.{length-numbers}
+use Rattle.svd_columns.specs.Columns.{sortedOf}
 use Rattle.values.specs.Lists.{keptAbove}
 use Rattle.values.proofs.ListLaws.{length-scaled, kept-le}
 use Rattle.values.specs.Sort.{sortedDown}
 use Rattle.values.proofs.SortLaws.{length-sort}
 use Rattle.finish.specs.declared.Kept.{Kept}
 use Rattle.finish.specs.Finish.{floorOf, scaled, kept, finishSorted, finishOf, padded}
-use Rattle.thin.specs.Thin.{valuesOf}
+use Rattle.svd_thin.specs.Thin.{valuesOf}
 use Rattle.svd.specs.Svd.{sideOf, sOf}
 use Rattle.svd.proofs.SvdLaws.{side-wide, side-tall}
-use Rattle.schmidt.specs.Schmidt.{rowsOf, columnsOf, singularValues, rest, tests, valuesReply, answerOf, Schmidt}
-use Rattle.schmidt.proofs.SchmidtLaws.{same-le}
+use Rattle.cut_values.specs.Schmidt.{rowsOf, columnsOf, singularValues, rest, tests, valuesReply, answerOf, Schmidt}
+use Rattle.cut_values.proofs.SchmidtLaws.{same-le}
 use Rattle.lines.specs.Lines.{refusedLine}
 use Rattle.certificates.specs.Accepted.{Accepted, acceptedText}
 use Rattle.certificates.specs.Certificate.{cutReply, cutText}

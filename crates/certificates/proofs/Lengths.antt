@@ -12,14 +12,14 @@ use Rattle.answers.specs.Paper.{Reply, done, refuse, after}
 use Rattle.numbers.specs.Numbers.{allowed}
 use Rattle.complex.specs.Cells.{components}
 use Rattle.qubits.specs.Lists.{stands, placesFrom, places, qubitSet, subsystem}
-use Rattle.sides.specs.Sides.{cutSizes, cutRefusal}
+use Rattle.cut_sides.specs.Sides.{cutSizes, cutRefusal}
 use Rattle.values.specs.Lists.{allFinite}
 use Rattle.values.specs.Sort.{sortedDown}
 use Rattle.finish.specs.Finish.{kept, finishSorted, sortedReply, finishReply}
 use Rattle.cutfile.specs.Layout.{LongEnough, componentAt}
 use Rattle.decode.proofs.TablesLaws.{length-table}
-use Rattle.schmidt.specs.Schmidt.{rowsOf, singularValues, lengthTests, rest, tests, valuesReply, answerOf}
-use Rattle.schmidt.proofs.SchmidtLaws.{lengths-good}
+use Rattle.cut_values.specs.Schmidt.{rowsOf, singularValues, lengthTests, rest, tests, valuesReply, answerOf}
+use Rattle.cut_values.proofs.SchmidtLaws.{lengths-good}
 use Rattle.certificates.proofs.Answered.{few-rows}
 use Rattle.certificates.specs.Certificate.{listOf, stateOf, cutReply}
 

@@ -4,7 +4,7 @@ use mathlib.Core.List.{List}
 use Prim.Native.Nat.{ℕ, _-_, _^_, _≤_}
 use lib.Ieee.{Float}
 use lib.ListN.{length}
-use Rattle.sides.specs.Sides.{cutRefusal, side, sideList}
+use Rattle.cut_sides.specs.Sides.{cutRefusal, side, sideList}
 use Rattle.texts.specs.Text.{Puts}
 use Rattle.lines.specs.Lines.{listing}
 

@@ -9,7 +9,7 @@ use Rattle.cutfile.specs.Layout.{headerAnswer, entryAt, componentAt}
 use Rattle.decode.specs.Tables.{table}
 use Rattle.lines.specs.Lines.{refusedLine}
 use Rattle.finish.specs.Finish.{finishOf}
-use Rattle.schmidt.specs.Schmidt.{singularValues, answerOf}
+use Rattle.cut_values.specs.Schmidt.{singularValues, answerOf}
 use Rattle.certificates.specs.Accepted.{acceptedText}
 
 -- the list and the state that a file of k entries and n qubits holds

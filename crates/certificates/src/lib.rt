@@ -15,9 +15,9 @@ pub fn put_accepted(list: &[usize], n: usize, values: &[f64], out: &mut [u8]) ->
     ensures { λ r. ⌜ Printed (acceptedText n (now (list .entry)) (now (values .entry))) (now (out .entry)) r (now (out .exit)) ⌝ }
 {
     let mut others = [0usize; 9];
-    sides::smaller_side(list, n, 10, &mut others);
-    let cut = sides::sides_of(list, n);
-    let side = sides::side_part(list, n, 10, &others);
+    cut_sides::smaller_side(list, n, 10, &mut others);
+    let cut = cut_sides::sides_of(list, n);
+    let side = cut_sides::side_part(list, n, 10, &others);
     lines::put_listing(out, n, list.len(), cut.rows, cut.columns, side, values)
 }
 
@@ -33,7 +33,7 @@ fn put_values_with(
     requires { ⌜ (n ≤ 9) × (length (now values) ≡ 16) × (length (now scratch) ≡ 4128) × (2048 ≤ length (now out)) ⌝ }
     ensures { λ r. ⌜ Printed (cutText (now (state .entry)) n (now (list .entry))) (now (out .entry)) r (now (out .exit)) ⌝ }
 {
-    let kept = schmidt::dense_schmidt_values(state, n, list, 10, values, scratch);
+    let kept = cut_values::dense_schmidt_values(state, n, list, 10, values, scratch);
     let answer = kept.answer;
     let count = kept.count;
     let Answer::Done = answer else {

@@ -17,15 +17,15 @@ use lib.Pow.{pow-pos}
 use Rattle.answers.specs.declared.Answer.{Answer}
 use Rattle.answers.specs.Paper.{Reply, paper, done, refuse}
 use Rattle.answers.proofs.PaperLaws.{refuse-done, paper-one, done-new, done-old}
-use Rattle.masks.specs.Submasks.{submaskAt, nextSubmask}
-use Rattle.masks.proofs.SubmaskLaws.{next-submaskAt, submaskAt-first, submaskAt-lt}
+use Rattle.submasks.specs.Submasks.{submaskAt, nextSubmask}
+use Rattle.submasks.proofs.SubmaskLaws.{next-submaskAt, submaskAt-first, submaskAt-lt}
 use Rattle.qubits.proofs.NamedLaws.{sizes-product}
 use Rattle.complex.specs.declared.Complex.{Complex}
 use Rattle.complex.specs.Cells.{cellAt, setCell, written}
 use Rattle.complex.proofs.CellLaws.{written-none, written-more}
-use Rattle.sides.specs.declared.Sides.{Sides}
-use Rattle.sides.specs.Sides.{Parted, side, rowMask, columnMask, sidesOf}
-use Rattle.sides.proofs.SideLaws.{two-sides}
+use Rattle.cut_sides.specs.declared.Sides.{Sides}
+use Rattle.cut_sides.specs.Sides.{Parted, side, rowMask, columnMask, sidesOf}
+use Rattle.cut_sides.proofs.SideLaws.{two-sides}
 use Rattle.cuts.specs.Cut.{cellOf, cutCell, cutLengths, cutAnswer, setCells, CutMatrix, Ready, ColumnReady}
 
 -- ---- one column

@@ -9,10 +9,10 @@ use lib.Ieee.{Float}
 use lib.ListN.{length}
 use Rattle.answers.specs.declared.Answer.{Answer}
 use Rattle.answers.specs.Paper.{Reply, paper, done, refuse, andThen, ifDone}
-use Rattle.masks.specs.Submasks.{submaskAt}
+use Rattle.submasks.specs.Submasks.{submaskAt}
 use Rattle.complex.specs.declared.Complex.{Complex}
 use Rattle.complex.specs.Cells.{cellAt, setCell, written, components}
-use Rattle.sides.specs.Sides.{cutRefusal, side, rowMask, columnMask}
+use Rattle.cut_sides.specs.Sides.{cutRefusal, side, rowMask, columnMask}
 
 -- ---- the matrix, column after column
 

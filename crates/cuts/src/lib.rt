@@ -5,9 +5,9 @@ ghost use Prim.Native.Nat.{ℕ, _*_, _^_, _≤_};
 ghost use lib.Bits.{bitOr};
 ghost use lib.ListN.{length};
 ghost use Rattle.answers.specs.Paper.{paper};
-ghost use Rattle.masks.specs.Submasks.{submaskAt};
+ghost use Rattle.submasks.specs.Submasks.{submaskAt};
 ghost use Rattle.complex.specs.Cells.{cellAt, written};
-ghost use Rattle.sides.specs.Sides.{Parted};
+ghost use Rattle.cut_sides.specs.Sides.{Parted};
 ghost use Rattle.cuts.specs.Cut.{cellOf, cutCell, cutLengths, setCells, CutMatrix, Ready, ColumnReady};
 
 // Answer 6 of a cut: the numbers of the state and of the matrix.
@@ -15,7 +15,7 @@ fn cut_lengths(n: usize, state: usize, out: usize) -> Answer
     requires { ⌜ n ≤ 12 ⌝ }
     ensures { λ r. ⌜ paper r ≡ cutLengths n state out ⌝ }
 {
-    let need = 2 * masks::bit(n);
+    let need = 2 * submasks::bit(n);
     if state != need {
         return Answer::Length(0);
     }
@@ -43,7 +43,7 @@ fn fill_column(
     while j < rows {
         let z = complex::read_cell(state, row_bits | bits);
         complex::write_cell(out, at + j, z);
-        row_bits = masks::next_submask(row_bits, row);
+        row_bits = submasks::next_submask(row_bits, row);
         j += 1;
     }
 }
@@ -66,7 +66,7 @@ fn fill_cut(
     let mut bits: usize = 0;
     while c < columns {
         fill_column(state, n, row, rows, bits, at, out);
-        bits = masks::next_submask(bits, column);
+        bits = submasks::next_submask(bits, column);
         at += rows;
         c += 1;
     }
@@ -78,7 +78,7 @@ pub fn gather(state: &[f64], n: usize, list: &[usize], out: &mut [f64])
     requires { ⌜ (length (now state) ≡ 2 * 2 ^ n) × (2 * 2 ^ n ≤ length (now out)) ⌝ }
     ensures { λ _. ⌜ now (out .exit) ≡ written (2 ^ n) (cutCell (now (state .entry)) n (now (list .entry))) (now (out .entry)) ⌝ }
 {
-    let s = sides::sides_of(list, n);
+    let s = cut_sides::sides_of(list, n);
     fill_cut(state, n, s.row, s.column, s.rows, s.columns, out);
 }
 
@@ -86,7 +86,7 @@ pub fn gather(state: &[f64], n: usize, list: &[usize], out: &mut [f64])
 pub fn cut_matrix(state: &[f64], n: usize, list: &[usize], cap: usize, out: &mut [f64]) -> Answer
     ensures { λ r. ⌜ CutMatrix (now (state .entry)) n (now (list .entry)) cap (now (out .entry)) r (now (out .exit)) ⌝ }
 {
-    let first = sides::cut_refusal(list, n, cap);
+    let first = cut_sides::cut_refusal(list, n, cap);
     let Answer::Done = first else {
         return first;
     };

@@ -53,7 +53,7 @@ fn show_offsets(list: &[usize], n: usize, cap: usize, room: usize, out: &mut [us
     if out.len() < room {
         return;
     }
-    replay::print_answer(offsets::row_offsets(list, n, cap, &mut out[..room]));
+    replay::print_answer(qubit_offsets::row_offsets(list, n, cap, &mut out[..room]));
     replay::print_counts(replay::front(out, room));
 }
 
@@ -76,7 +76,7 @@ fn base_case(text: &[u8], at: usize) -> usize {
     let mut names = [0usize; 16];
     let h = read_head(text, at, &mut names);
     let e = replay::size_at(text, h.next);
-    let r = offsets::traced_base(e, replay::front(&names, h.k), h.n, h.cap);
+    let r = qubit_offsets::traced_base(e, replay::front(&names, h.k), h.n, h.cap);
     let answer = r.answer;
     replay::print_answer(answer);
     replay::print_word(replay::word_of(r.base));
@@ -87,10 +87,10 @@ fn show_side(list: &[usize], n: usize, cap: usize, room: usize, others: &mut [us
     if others.len() < room {
         return;
     }
-    replay::print_answer(sides::smaller_side(list, n, cap, &mut others[..room]));
+    replay::print_answer(cut_sides::smaller_side(list, n, cap, &mut others[..room]));
     let left = replay::front(others, room);
     replay::print_counts(left);
-    replay::print_counts(sides::side_part(list, n, cap, left));
+    replay::print_counts(cut_sides::side_part(list, n, cap, left));
 }
 
 fn side_case(text: &[u8], at: usize) -> usize {
@@ -124,7 +124,7 @@ fn cut_into(state: &[f64], n: usize, list: &[usize], cap: usize, room: usize) {
 
 fn show_again(matrix: &[f64], n: usize, list: &[usize], cap: usize, size: usize) {
     let mut again = [0.0; 8200];
-    replay::print_answer(recount::density_from_cut(matrix, n, list, cap, &mut again));
+    replay::print_answer(density_recount::density_from_cut(matrix, n, list, cap, &mut again));
     replay::print_or_digest(replay::front_floats(&again, size));
 }
 

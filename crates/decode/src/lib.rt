@@ -20,7 +20,7 @@ pub fn decode_list(file: &[u8], n: usize, k: usize, out: &mut [usize])
 {
     let mut i = 0;
     while i < k {
-        out[i] = index(cutview::list_entry(file, n, k, i));
+        out[i] = index(cutfile_view::list_entry(file, n, k, i));
         i += 1;
     }
 }
@@ -34,7 +34,7 @@ pub fn decode_state(file: &[u8], n: usize, k: usize, out: &mut [f64])
     let components = 2 * cutfile::power_of_two(n);
     let mut j = 0;
     while j < components {
-        let bits = cutview::amplitude_bits(file, n, k, j / 2, j % 2);
+        let bits = cutfile_view::amplitude_bits(file, n, k, j / 2, j % 2);
         out[j] = cutfile::component_of(bits);
         j += 1;
     }

@@ -16,18 +16,18 @@ use Rattle.answers.proofs.PaperLaws.{refuse-done, andThen-done, paper-one, done
 use Rattle.complex.specs.Cells.{components, written}
 use Rattle.complex.specs.Zeros.{zeroed}
 use Rattle.components.proofs.EveryLaws.{every-from-done}
-use Rattle.masks.proofs.SubmaskLaws.{others-lt}
+use Rattle.submasks.proofs.SubmaskLaws.{others-lt}
 use Rattle.qubits.specs.Lists.{densitySizes, qubitSet}
 use Rattle.qubits.proofs.NamedLaws.{not-empty, pow-small, sizes-product}
 use Rattle.qubits.specs.Spread.{named}
 use Rattle.qubits.proofs.SpreadLaws.{spread-lt}
-use Rattle.offsets.specs.Calls.{densityRefusal}
-use Rattle.offsets.proofs.CallLaws.{density-listed}
-use Rattle.entries.specs.Squares.{Square, entryAt, mirrored}
-use Rattle.entries.specs.Entries.{lowerEntry, densityCell}
-use Rattle.entries.specs.Filled.{Ready, LowerTurns, tableEntry}
-use Rattle.entries.specs.EntryLaws.{OffsetTurns}
-use Rattle.entries.proofs.EntryLawsLaws.{table-entry, mirrored-density}
+use Rattle.qubit_offsets.specs.Calls.{densityRefusal}
+use Rattle.qubit_offsets.proofs.CallLaws.{density-listed}
+use Rattle.density_entries.specs.Squares.{Square, entryAt, mirrored}
+use Rattle.density_entries.specs.Entries.{lowerEntry, densityCell}
+use Rattle.density_entries.specs.Filled.{Ready, LowerTurns, tableEntry}
+use Rattle.density_entries.specs.EntryLaws.{OffsetTurns}
+use Rattle.density_entries.proofs.EntryLawsLaws.{table-entry, mirrored-density}
 use Rattle.densities.specs.Density.{densityLengths, densityAnswer, densityList, Density, Accepted}
 
 -- ---- the refusals that did not come

@@ -12,7 +12,7 @@ use Rattle.answers.specs.declared.Answer.{Answer}
 use Rattle.answers.specs.Paper.{Reply, paper, refuse}
 use Rattle.answers.proofs.PaperLaws.{refuse-done, paper-one, done-new, done-old}
 use Rattle.complex.specs.Cells.{components}
-use Rattle.entries.specs.Squares.{mirrored, Square}
+use Rattle.density_entries.specs.Squares.{mirrored, Square}
 use Rattle.densities.specs.Square.{squareAnswer, InPlace}
 
 -- a matrix that 1 and 6 do not refuse

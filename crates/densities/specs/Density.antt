@@ -11,9 +11,9 @@ use Rattle.answers.specs.Paper.{Reply, paper, done, refuse, andThen, ifDone}
 use Rattle.complex.specs.Cells.{written, components}
 use Rattle.complex.specs.Zeros.{zeroed}
 use Rattle.components.specs.Every.{everyAllowed}
-use Rattle.offsets.specs.Calls.{densityRefusal}
+use Rattle.qubit_offsets.specs.Calls.{densityRefusal}
 use Rattle.qubits.specs.Lists.{Listed}
-use Rattle.entries.specs.Entries.{densityCell}
+use Rattle.density_entries.specs.Entries.{densityCell}
 
 -- 6, of a register of `size` amplitudes and a density of side dim: the state is slice 0, out is 2 and scratch is 3
 abbrev pub densityLengths : ℕ → ℕ → ℕ → ℕ → ℕ → Reply

@@ -4,7 +4,7 @@ ghost use mathlib.Core.Path.{_≡_};
 ghost use Prim.Native.Nat.{_≤_};
 ghost use lib.ListN.{length};
 ghost use Rattle.answers.specs.Paper.{paper};
-ghost use Rattle.entries.specs.Squares.{mirrored};
+ghost use Rattle.density_entries.specs.Squares.{mirrored};
 ghost use Rattle.densities.specs.Square.{squareAnswer, InPlace};
 ghost use Rattle.densities.specs.Density.{densityLengths, densityAnswer, densityList, Density, Accepted};
 
@@ -33,7 +33,7 @@ pub fn mirror_lower_triangle(rho: &mut [f64], dim: usize) -> Answer
     let Answer::Done = first else {
         return first;
     };
-    entries::mirror(rho, dim);
+    density_entries::mirror(rho, dim);
     Answer::Done
 }
 
@@ -66,12 +66,12 @@ fn density_answer(
 ) -> Answer
     ensures { λ r. ⌜ paper r ≡ densityAnswer (now (state .entry)) n (now (list .entry)) cap out scratch ⌝ }
 {
-    let first = offsets::density_refusal(list, n, cap);
+    let first = qubit_offsets::density_refusal(list, n, cap);
     let Answer::Done = first else {
         return first;
     };
-    let size = masks::bit(n);
-    let dim = masks::bit(list.len());
+    let size = submasks::bit(n);
+    let dim = submasks::bit(list.len());
     let second = density_lengths(size, dim, state.len(), out, scratch);
     let Answer::Done = second else {
         return second;
@@ -85,14 +85,14 @@ fn fill_density(state: &[f64], n: usize, list: &[usize], out: &mut [f64])
     ensures { λ _. ⌜ now (out .exit) ≡ densityList n (now (list .entry)) (now (state .entry)) (now (out .entry)) ⌝ }
 {
     let k = list.len();
-    let dim = masks::bit(k);
-    let size = masks::bit(n);
-    let groups = masks::bit(n - k);
+    let dim = submasks::bit(k);
+    let size = submasks::bit(n);
+    let groups = submasks::bit(n - k);
     let mask = qubits::mask_of(list, n);
     let mut offsets = [0usize; 64];
-    entries::fill_offsets(list, n, dim, &mut offsets);
-    diagonals::fill_lower(state, n, size - 1 - mask, groups, &offsets, dim, out);
-    entries::mirror(out, dim);
+    density_entries::fill_offsets(list, n, dim, &mut offsets);
+    density_diagonal::fill_lower(state, n, size - 1 - mask, groups, &offsets, dim, out);
+    density_entries::mirror(out, dim);
 }
 
 // The unscaled density of the listed qubits, row after row: refused by 1 to 4, 6 and 7.
@@ -111,7 +111,7 @@ pub fn dense_reduced_density(
         return answer;
     };
     fill_density(state, n, list, out);
-    let need = 2 * masks::bit(list.len());
+    let need = 2 * submasks::bit(list.len());
     complex::zero_first(scratch, need);
     Answer::Done
 }

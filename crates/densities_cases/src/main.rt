@@ -73,7 +73,7 @@ fn show_trace(rho: &mut [f64], m: usize, dim: usize) {
     if rho.len() < m {
         return;
     }
-    replay::print_answer(traces::normalize_trace(&mut rho[..m], dim));
+    replay::print_answer(density_trace::normalize_trace(&mut rho[..m], dim));
     replay::print_floats(replay::front_floats(rho, m));
 }
 
@@ -101,7 +101,7 @@ fn show_block(
     if rho.len() < m {
         return;
     }
-    replay::print_answer(blocks::multiply_block_factor(
+    replay::print_answer(density_block::multiply_block_factor(
         &mut rho[..m],
         dim,
         positions,

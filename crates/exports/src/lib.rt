@@ -15,29 +15,29 @@ ghost use Rattle.complex.specs.Arithmetic.{complexOf};
 ghost use Rattle.modulus.specs.Modulus.{modulusOf};
 ghost use Rattle.numbers.specs.Numbers.{magnitudeOf, signOf, finite, totalOrder, orderNumber, allowed, totalLess};
 ghost use Rattle.qubits.specs.Lists.{qubitSet, subsystem};
-ghost use Rattle.offsets.specs.Calls.{RowOffsets, TracedBase};
+ghost use Rattle.qubit_offsets.specs.Calls.{RowOffsets, TracedBase};
 ghost use Rattle.densities.specs.Square.{squareAnswer, InPlace};
-ghost use Rattle.entries.specs.Squares.{mirrored};
+ghost use Rattle.density_entries.specs.Squares.{mirrored};
 ghost use Rattle.finish.specs.Outcome as finish;
-ghost use Rattle.sides.specs.Sides.{SmallerSide};
+ghost use Rattle.cut_sides.specs.Sides.{SmallerSide};
 ghost use Rattle.cuts.specs.Cut.{CutMatrix};
 ghost use Rattle.densities.specs.Density.{Density};
 ghost use Rattle.qr.specs.Call.{Factorized};
 ghost use Rattle.qr.specs.declared.Factored.{Factored};
-ghost use Rattle.traces.specs.Trace.{normalizeAnswer, normalized};
-ghost use Rattle.blocks.specs.Factor.{blockAnswer, multiplied};
+ghost use Rattle.density_trace.specs.Trace.{normalizeAnswer, normalized};
+ghost use Rattle.density_block.specs.Factor.{blockAnswer, multiplied};
 ghost use Rattle.svd.specs.Svd.{Svd};
 ghost use Rattle.spectra.specs.Outcomes.{Eigenvalues};
-ghost use Rattle.ranks.specs.Ranks.{rankOf, discardsOf, Ranked, cutSizes, cutRankOf, widestSizes, widestOf};
-ghost use Rattle.ranks.specs.declared.CutRank.{CutRank};
-ghost use Rattle.fills.specs.Sources.{siteCell, isometryCell, scaledUCell, vtCell, scaledVtCell};
+ghost use Rattle.site_ranks.specs.Ranks.{rankOf, discardsOf, Ranked, cutSizes, cutRankOf, widestSizes, widestOf};
+ghost use Rattle.site_ranks.specs.declared.CutRank.{CutRank};
+ghost use Rattle.site_lines.specs.Sources.{siteCell, isometryCell, scaledUCell, vtCell, scaledVtCell};
 ghost use Rattle.sites.specs.Calls.{columnSizes, rowSizes, plainReply, scaledUReply, scaledVtReply, Filled};
 ghost use Rattle.spectra.specs.Density.{DensityValues};
-ghost use Rattle.recount.specs.Recount.{DensityFromCut};
+ghost use Rattle.density_recount.specs.Recount.{DensityFromCut};
 ghost use Rattle.pages.specs.Agree.{Says, pagesAnswer};
 ghost use Rattle.pages.specs.declared.Agreement.{Agreement};
-ghost use Rattle.hermitian.specs.Hermitian.{Eigen};
-ghost use Rattle.schmidt.specs.Schmidt.{Schmidt};
+ghost use Rattle.hermitian_eigen.specs.Hermitian.{Eigen};
+ghost use Rattle.cut_values.specs.Schmidt.{Schmidt};
 
 // Inner: a number of the paper's table, as C has it.
 fn small(n: usize) -> u32
@@ -149,7 +149,7 @@ pub extern "C" fn zg_row_offsets(
 ) -> u32
     ensures { λ r. ⌜ Exported (λ a. RowOffsets (now (list .entry)) n cap (now (out .entry)) a (now (out .exit))) r (now (place .exit)) ⌝ }
 {
-    told(offsets::row_offsets(list, n, cap, out), place)
+    told(qubit_offsets::row_offsets(list, n, cap, out), place)
 }
 
 #[no_mangle]
@@ -163,7 +163,7 @@ pub extern "C" fn zg_traced_base(
 ) -> u32
     ensures { λ r. ⌜ ExportedWith (λ k. k .answer) (λ k. k .base) (λ k. TracedBase e (now (list .entry)) n cap k) r (now (place .exit)) (now (base .exit)) ⌝ }
 {
-    let k = offsets::traced_base(e, list, n, cap);
+    let k = qubit_offsets::traced_base(e, list, n, cap);
     *base = k.base;
     let answer = k.answer;
     told(answer, place)
@@ -179,7 +179,7 @@ pub extern "C" fn zg_smaller_side(
 ) -> u32
     ensures { λ r. ⌜ Exported (λ a. SmallerSide (now (list .entry)) n cap (now (others .entry)) a (now (others .exit))) r (now (place .exit)) ⌝ }
 {
-    told(sides::smaller_side(list, n, cap, others), place)
+    told(cut_sides::smaller_side(list, n, cap, others), place)
 }
 
 #[no_mangle]
@@ -227,7 +227,7 @@ pub extern "C" fn zg_dense_reduced_density(
 pub extern "C" fn zg_normalize_trace(rho: &mut [f64], dim: usize, place: &mut usize) -> u32
     ensures { λ r. ⌜ Exported (λ a. InPlace (normalizeAnswer (now (rho .entry)) dim) (normalized (now (rho .entry)) dim) (now (rho .entry)) a (now (rho .exit))) r (now (place .exit)) ⌝ }
 {
-    told(traces::normalize_trace(rho, dim), place)
+    told(density_trace::normalize_trace(rho, dim), place)
 }
 
 #[no_mangle]
@@ -243,7 +243,7 @@ pub extern "C" fn zg_multiply_block_factor(
         (multiplied (now (rho .entry)) dim (now (positions .entry)) (now (factor .entry)) side) (now (rho .entry)) a (now (rho .exit))) r (now (place .exit)) ⌝ }
 {
     told(
-        blocks::multiply_block_factor(rho, dim, positions, factor, side),
+        density_block::multiply_block_factor(rho, dim, positions, factor, side),
         place,
     )
 }
@@ -259,7 +259,10 @@ pub extern "C" fn zg_density_from_cut(
 ) -> u32
     ensures { λ r. ⌜ Exported (λ a. DensityFromCut (now (matrix .entry)) n (now (list .entry)) cap (now (out .entry)) a (now (out .exit))) r (now (place .exit)) ⌝ }
 {
-    told(recount::density_from_cut(matrix, n, list, cap, out), place)
+    told(
+        density_recount::density_from_cut(matrix, n, list, cap, out),
+        place,
+    )
 }
 
 #[no_mangle]
@@ -378,7 +381,7 @@ pub extern "C" fn zg_hermitian_eigen(
         (now (values .exit)) (now (vectors .exit)) (now (scratch .exit))) r (now (place .exit)) ⌝ }
 {
     told(
-        hermitian::hermitian_eigen(matrix, dim, values, vectors, scratch),
+        hermitian_eigen::hermitian_eigen(matrix, dim, values, vectors, scratch),
         place,
     )
 }
@@ -397,7 +400,7 @@ pub extern "C" fn zg_dense_schmidt_values(
     ensures { λ r. ⌜ ExportedWith (λ k. k .answer) (λ k. k .count)
         (λ k. Schmidt (now (state .entry)) n (now (list .entry)) cap (now (out .entry)) (now (scratch .entry)) k (now (out .exit)) (now (scratch .exit))) r (now (place .exit)) (now (count .exit)) ⌝ }
 {
-    let k = schmidt::dense_schmidt_values(state, n, list, cap, out, scratch);
+    let k = cut_values::dense_schmidt_values(state, n, list, cap, out, scratch);
     *count = k.count;
     let answer = k.answer;
     told(answer, place)
@@ -416,7 +419,7 @@ pub extern "C" fn zg_truncated_svd_rank(
 ) -> u32
     ensures { λ r. ⌜ (r ≡ 0) × (now (place .exit) ≡ 0) × (now (rank .exit) ≡ rankOf (now (values .entry)) epsilon «max_bond_dim») ⌝ }
 {
-    *rank = ranks::truncated_svd_rank(values, epsilon, max_bond_dim);
+    *rank = site_ranks::truncated_svd_rank(values, epsilon, max_bond_dim);
     *place = 0;
     0
 }
@@ -431,7 +434,7 @@ pub extern "C" fn zg_discards_resolvable_weight(
 ) -> u32
     ensures { λ r. ⌜ (r ≡ 0) × (now (place .exit) ≡ 0) × (now (yes .exit) ≡ discardsOf (now (values .entry)) chi) ⌝ }
 {
-    *yes = ranks::discards_resolvable_weight(values, chi);
+    *yes = site_ranks::discards_resolvable_weight(values, chi);
     *place = 0;
     0
 }
@@ -447,7 +450,7 @@ pub extern "C" fn zg_cut_rank(
     ensures { λ r. ⌜ ExportedWith {R = CutRank} (λ k. k .answer) (λ k. k .rank)
         (λ k. Ranked (cutSizes «bond_left» «bond_mid» «bond_right») (cutRankOf «bond_left» «bond_mid» «bond_right») (k .answer) (k .rank)) r (now (place .exit)) (now (rank .exit)) ⌝ }
 {
-    let k = ranks::cut_rank(bond_left, bond_mid, bond_right);
+    let k = site_ranks::cut_rank(bond_left, bond_mid, bond_right);
     *rank = k.rank;
     let answer = k.answer;
     told(answer, place)
@@ -464,7 +467,7 @@ pub extern "C" fn zg_widest_block_cut(
     ensures { λ r. ⌜ ExportedWith {R = CutRank} (λ k. k .answer) (λ k. k .rank)
         (λ k. Ranked (widestSizes «bond_left» «bond_right» n) (widestOf «bond_left» «bond_right» n) (k .answer) (k .rank)) r (now (place .exit)) (now (rank .exit)) ⌝ }
 {
-    let k = ranks::widest_block_cut(bond_left, bond_right, n);
+    let k = site_ranks::widest_block_cut(bond_left, bond_right, n);
     *rank = k.rank;
     let answer = k.answer;
     told(answer, place)

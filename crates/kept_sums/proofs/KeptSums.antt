@@ -7,11 +7,11 @@ use native.Mathlib.Omega.{arith}
 use lib.Ieee.{Float, binary64, add}
 use Rattle.complex.specs.Arithmetic.{normSqr}
 use Rattle.complex.specs.Planes.{planeAt}
-use Rattle.factors.specs.Columns.{squaresTo}
-use Rattle.gram.specs.Gram.{noSums, oneRow, gramTo}
-use Rattle.pairs.specs.declared.Decision.{Decision}
-use Rattle.pairs.specs.Turns.{applied}
-use Rattle.jacobi.proofs.UntouchedLaws.{column-other}
+use Rattle.svd_columns.specs.Columns.{squaresTo}
+use Rattle.svd_gram.specs.Gram.{noSums, oneRow, gramTo}
+use Rattle.svd_pair.specs.declared.Decision.{Decision}
+use Rattle.svd_pair.specs.Turns.{applied}
+use Rattle.svd_sweeps.proofs.UntouchedLaws.{column-other}
 
 -- on either side of a pair
 pub sum-first : (xs : List Float) (c a b k : ℕ) → gramTo xs c a b k .pp ≡ squaresTo xs c a k

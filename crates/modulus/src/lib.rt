@@ -47,7 +47,7 @@ fn power(f: u64) -> f64
 fn root_of_squares(a: f64, b: f64, t: f64) -> f64
     ensures { λ r. ⌜ r ≡ rootOfSquares a b ⌝ }
 {
-    roots::root_near(a * a + b * b, t)
+    root_guesses::root_near(a * a + b * b, t)
 }
 
 // The larger part has an exponent whose field is f. The guess t at the root of the unscaled squares is scaled as they are.
@@ -96,10 +96,10 @@ pub fn modulus_near(z: Complex, t: f64) -> f64
     ensures { λ r. ⌜ r ≡ modulusOf z ⌝ }
 {
     if !numbers::is_finite(z.re) {
-        return roots::root_near(z.norm_sqr(), t);
+        return root_guesses::root_near(z.norm_sqr(), t);
     }
     if !numbers::is_finite(z.im) {
-        return roots::root_near(z.norm_sqr(), t);
+        return root_guesses::root_near(z.norm_sqr(), t);
     }
     scaled(z.re, z.im, t)
 }
@@ -109,6 +109,6 @@ pub fn modulus(z: Complex) -> f64
     ensures { λ r. ⌜ r ≡ modulusOf z ⌝ }
 {
     let x = z.norm_sqr();
-    let y = roots::reciprocal_near(x);
-    modulus_near(z, roots::sharpened(x, x * y, y))
+    let y = root_guesses::reciprocal_near(x);
+    modulus_near(z, root_guesses::sharpened(x, x * y, y))
 }

@@ -17,16 +17,16 @@ use Rattle.answers.specs.declared.Answer.the-variants.{Done}
 use Rattle.answers.specs.Paper.{Reply, paper, andThen, ifDone}
 use Rattle.answers.proofs.PaperLaws.{andThen-done, stays, paper-one, done-new, done-old}
 use Rattle.complex.specs.Cells.{written, components}
-use Rattle.sides.specs.Sides.{cutRefusal}
+use Rattle.cut_sides.specs.Sides.{cutRefusal}
 use Rattle.cuts.specs.Cut.{cutCell, cutLengths, cutAnswer, CutMatrix}
 use Rattle.cuts.proofs.CutLaws.{lengths-done}
 use Rattle.densities.specs.Density.{densityAnswer, densityList, Density}
-use Rattle.entries.specs.Entries.{densityCell}
+use Rattle.density_entries.specs.Entries.{densityCell}
 use Rattle.agreement.specs.FromCut.{cutDensityCell}
 use Rattle.agreement.proofs.SameDensity.{same-density}
 use Rattle.agreement.proofs.AgreementLaws.{cut-parted, cut-left, density-left, written-same}
-use Rattle.recount.specs.Recount.{recountSizes, recountAnswer, recounted, DensityFromCut}
-use Rattle.recount.proofs.Pages.{front}
+use Rattle.density_recount.specs.Recount.{recountSizes, recountAnswer, recounted, DensityFromCut}
+use Rattle.density_recount.proofs.Pages.{front}
 use Rattle.pages.specs.declared.Agreement.{Agreement}
 use Rattle.pages.proofs.Both.{goes, adds-nothing, density-done, recount-done, sizes-done}
 use Rattle.pages.specs.Agree.{sameFloats, Again, comparedAnswer, Compared, bothAnswer, pagesAnswer, Says}

@@ -14,19 +14,19 @@ use lib.Seq.{drop-nil}
 use Rattle.numbers.specs.Numbers.{allowed}
 use Rattle.answers.specs.Paper.{Reply, done, refuse, after, andThen}
 use Rattle.answers.proofs.PaperLaws.{refuse-done, andThen-done}
-use Rattle.masks.specs.Submasks.{submaskAt}
-use Rattle.masks.proofs.SubmaskLaws.{submaskAt-lt}
+use Rattle.submasks.specs.Submasks.{submaskAt}
+use Rattle.submasks.proofs.SubmaskLaws.{submaskAt-lt}
 use Rattle.qubits.specs.Lists.{qubitSet, subsystem, densitySizes}
 use Rattle.complex.specs.declared.Complex.{Complex}
 use Rattle.complex.specs.Cells.{cellsOf, written, components}
 use Rattle.complex.proofs.CellLaws.{length-cells}
-use Rattle.sides.specs.Sides.{cutSizes, cutRefusal, side, rowMask, columnMask}
-use Rattle.offsets.specs.Calls.{densityRefusal}
+use Rattle.cut_sides.specs.Sides.{cutSizes, cutRefusal, side, rowMask, columnMask}
+use Rattle.qubit_offsets.specs.Calls.{densityRefusal}
 use Rattle.cuts.specs.Cut.{cutCell, sourceOf, cutLengths, cutAnswer}
 use Rattle.cuts.proofs.CutLaws as cut
 use Rattle.densities.specs.Density.{densityLengths, densityAnswer}
 use Rattle.densities.proofs.DensityLaws as density
-use Rattle.recount.specs.Recount.{recountSizes, recountLengths, recountAnswer}
+use Rattle.density_recount.specs.Recount.{recountSizes, recountLengths, recountAnswer}
 
 -- ---- answers
 

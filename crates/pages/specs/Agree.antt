@@ -9,7 +9,7 @@ use lib.ListN.{length}
 use Rattle.answers.specs.Paper.{Reply, paper, andThen, ifDone}
 use Rattle.cuts.specs.Cut.{cutAnswer}
 use Rattle.densities.specs.Density.{densityAnswer, densityList}
-use Rattle.recount.specs.Recount.{recountSizes, recountAnswer, recounted}
+use Rattle.density_recount.specs.Recount.{recountSizes, recountAnswer, recounted}
 use Rattle.pages.specs.declared.Agreement.{Agreement}
 
 -- the same length, and the same bits throughout

@@ -37,7 +37,7 @@ fn same_again(
 ) -> Agreement
     ensures { λ r. ⌜ Again (now (matrix .entry)) n (now (list .entry)) cap (now (density .entry)) (now (room .entry)) r ⌝ }
 {
-    let answer = recount::density_from_cut(matrix, n, list, cap, room);
+    let answer = density_recount::density_from_cut(matrix, n, list, cap, room);
     let Answer::Done = answer else {
         return Agreement { answer, yes: false };
     };
@@ -78,7 +78,7 @@ fn both_pages(state: &[f64], n: usize, list: &[usize], cap: usize) -> Agreement
 pub fn pages_agree(state: &[f64], n: usize, list: &[usize], cap: usize) -> Agreement
     ensures { λ r. ⌜ Says (pagesAnswer (now (state .entry)) n (now (list .entry)) cap) r ⌝ }
 {
-    let answer = recount::recount_size(n, list.len(), cap);
+    let answer = density_recount::recount_size(n, list.len(), cap);
     let Answer::Done = answer else {
         return Agreement { answer, yes: false };
     };

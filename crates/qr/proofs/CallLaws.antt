@@ -20,9 +20,9 @@ use Rattle.complex.specs.Cells.{components}
 use Rattle.complex.proofs.CellLaws.{components-small}
 use Rattle.complex.specs.Zeros.{zeros, zeroed}
 use Rattle.complex.proofs.ZerosLaws.{length-zeros}
-use Rattle.gram_schmidt.specs.Room.{Room}
-use Rattle.gram_schmidt.proofs.GramSchmidtLaws.{zeroed-all}
-use Rattle.gram_schmidt.specs.GramSchmidt.{Factors, factors, factorsOf}
+use Rattle.qr_passes.specs.Room.{Room}
+use Rattle.qr_passes.proofs.GramSchmidtLaws.{zeroed-all}
+use Rattle.qr_passes.specs.GramSchmidt.{Factors, factors, factorsOf}
 use Rattle.qr.specs.Call.{qNeed, rNeed, scratchNeed, Sized, sizes, lengths, refusal, finiteness, replyOf, Finished, Factorized}
 
 -- ---- 1

@@ -11,7 +11,7 @@ use Rattle.answers.specs.Paper.{Reply, paper, done, refuse, andThen, ifDone, if
 use Rattle.values.specs.Lists.{allFinite}
 use Rattle.complex.specs.Cells.{components}
 use Rattle.complex.specs.Zeros.{zeros, zeroed}
-use Rattle.gram_schmidt.specs.GramSchmidt.{Factors, factorsOf}
+use Rattle.qr_passes.specs.GramSchmidt.{Factors, factorsOf}
 
 -- how many numbers q, r and the scratch need
 abbrev pub qNeed : ℕ → ℕ → ℕ

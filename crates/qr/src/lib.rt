@@ -6,8 +6,8 @@ ghost use Prim.Native.Nat.{_*_, _<_, _≤_, min};
 ghost use lib.ListN.{length};
 ghost use Rattle.answers.specs.Paper.{paper};
 ghost use Rattle.complex.specs.Zeros.{zeros};
-ghost use Rattle.gram_schmidt.specs.Room.{Room};
-ghost use Rattle.gram_schmidt.specs.GramSchmidt.{factors, factorsOf};
+ghost use Rattle.qr_passes.specs.Room.{Room};
+ghost use Rattle.qr_passes.specs.GramSchmidt.{factors, factorsOf};
 ghost use Rattle.values.specs.Lists.{allFinite};
 ghost use Rattle.qr.specs.Call.{Sized, sizes, lengths, refusal, Finished, Factorized};
 
@@ -60,7 +60,7 @@ fn factor_parts(
     ensures is { λ x. ⌜ Finished (factorsOf (now (a .entry)) rows cols) (x .answer) (x .rank) (now (q .exit)) (now (r .exit)) ⌝ }
     ensures cleared { λ x. ⌜ now (scratch .exit) ≡ zeros (length (now (scratch .entry))) ⌝ }
 {
-    let rank = qr_columns::factor(a, rows, cols, q, r, scratch);
+    let rank = qr_factor::factor(a, rows, cols, q, r, scratch);
     let in_scratch = scratch.len();
     complex::zero_first(scratch, in_scratch);
     settle(q, r, rank)
@@ -93,7 +93,7 @@ fn check_lengths(rows: usize, cols: usize, a: usize, q: usize, r: usize, scratch
     requires { ⌜ Sized rows cols ⌝ }
     ensures { λ x. ⌜ paper x ≡ lengths rows cols a q r scratch ⌝ }
 {
-    let cap = gram_schmidt::smaller(rows, cols);
+    let cap = qr_passes::smaller(rows, cols);
     if a != 2 * (rows * cols) {
         return Answer::Length(0);
     }
@@ -144,7 +144,7 @@ pub fn factorize_gram_schmidt(
             rank: 0,
         };
     };
-    let cap = gram_schmidt::smaller(rows, cols);
+    let cap = qr_passes::smaller(rows, cols);
     let in_q = 2 * (cap * rows);
     let in_r = 2 * (cap * cols);
     let in_scratch = 2 * rows;

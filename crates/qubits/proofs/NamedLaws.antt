@@ -16,8 +16,8 @@ use lib.ListN.{length, getD, take, drop, drop-of-length-le}
 use lib.Seq.{take-suc, take-length, drop-cons}
 use Rattle.answers.specs.Paper.{done, refuse}
 use Rattle.answers.proofs.PaperLaws.{refuse-done, andThen-done}
-use Rattle.masks.proofs.SubmaskLaws.{submaskCount, submaskCount-set, power-digit, or-digit, submaskCount-le, le-or-lt, submaskCount-none, counts}
-use Rattle.masks.specs.Submasks.{others}
+use Rattle.submasks.proofs.SubmaskLaws.{submaskCount, submaskCount-set, power-digit, or-digit, submaskCount-le, le-or-lt, submaskCount-none, counts}
+use Rattle.submasks.specs.Submasks.{others}
 use Rattle.qubits.specs.Lists.{stands, placesFrom, places, qubitSet, Listed}
 use Rattle.qubits.proofs.ListLaws.{places-done}
 use Rattle.qubits.specs.Spread.{maskFrom, named}

@@ -12,9 +12,9 @@ use lib.Bits.{bitOr, or-step, or-shifted-r}
 use lib.Dec.{eqb}
 use lib.ListN.{length, length-map}
 use lib.Pow.{pow-lt, pow-mono, shl-shr}
-use Rattle.masks.specs.Submasks.{submaskAt, others}
-use Rattle.masks.proofs.SubmaskLaws.{submaskCount, le-or-lt, digit, submaskAt-zero, submaskAt-even, submaskAt-odd, submaskAt-lt, submaskCount-zero, submaskCount-even, submaskCount-odd, shr-suc, others-digit}
-use Rattle.masks.proofs.BitLaws.{or-digit-l, or-digit-r}
+use Rattle.submasks.specs.Submasks.{submaskAt, others}
+use Rattle.submasks.proofs.SubmaskLaws.{submaskCount, le-or-lt, digit, submaskAt-zero, submaskAt-even, submaskAt-odd, submaskAt-lt, submaskCount-zero, submaskCount-even, submaskCount-odd, shr-suc, others-digit}
+use Rattle.submasks.proofs.BitLaws.{or-digit-l, or-digit-r}
 use Rattle.qubits.specs.Lists.{stands, Listed}
 use Rattle.qubits.specs.Spread.{spread, unless, otherQubits, tracedBase, maskFrom, named}
 use Rattle.qubits.proofs.SpreadLaws.{spread-none, spread-cons}

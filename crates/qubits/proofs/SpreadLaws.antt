@@ -13,8 +13,8 @@ use lib.Pow.{pow-pos, pow-lt, pow-mono, shr-shr, shr-le, shl-exact, high, low}
 use lib.Arith.{digits-lt}
 use lib.ListN.{length, getD, drop, length-append, drop-of-length-le}
 use lib.Seq.{drop-cons}
-use Rattle.masks.proofs.SubmaskLaws.{digit, shr-suc}
-use Rattle.masks.proofs.BitLaws.{or-assoc}
+use Rattle.submasks.proofs.SubmaskLaws.{digit, shr-suc}
+use Rattle.submasks.proofs.BitLaws.{or-assoc}
 use Rattle.qubits.specs.Lists.{stands}
 use Rattle.qubits.specs.Spread.{spread, unless, otherQubits, insertZeroBit}
 

@@ -71,7 +71,7 @@ pub fn mask_of(list: &[usize], n: usize) -> usize
     let mut i = 0;
     while i < list.len() {
         let q = list[i];
-        mask = mask | masks::bit(q);
+        mask = mask | submasks::bit(q);
         i += 1;
     }
     mask
@@ -97,7 +97,7 @@ pub fn insert_zero_bit(x: usize, q: usize) -> usize
     requires { ⌜ (x < 2 ^ 32) × (q < 32) ⌝ }
     ensures { λ r. ⌜ r ≡ insertZeroBit x q ⌝ }
 {
-    ((x >> q) << (q + 1)) | (x & (masks::bit(q) - 1))
+    ((x >> q) << (q + 1)) | (x & (submasks::bit(q) - 1))
 }
 
 // Inner: the bits of e spread over the qubits that the list does not name: a zero bit inserted at each that it names, rising.

@@ -12,7 +12,7 @@ fn values(
     out: &mut [f64],
     scratch: &mut [f64],
 ) {
-    let r = schmidt::dense_schmidt_values(state, n, list, cap, out, scratch);
+    let r = cut_values::dense_schmidt_values(state, n, list, cap, out, scratch);
     let answer = r.answer;
     replay::print_answer(answer);
     replay::print_word(replay::word_of(r.count));

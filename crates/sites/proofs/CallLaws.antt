@@ -14,7 +14,7 @@ use Rattle.answers.proofs.PaperLaws.{refuse-done, stays, paper-one, done-old}
 use Rattle.values.specs.Lists.{valuesAllowed}
 use Rattle.complex.specs.declared.Complex.{Complex}
 use Rattle.complex.specs.Cells.{written}
-use Rattle.fills.specs.Sources.{linesFrom, Ready}
+use Rattle.site_lines.specs.Sources.{linesFrom, Ready}
 use Rattle.sites.specs.Calls.{lineSizes, columnSizes, rowSizes, plainReply, scaledUReply, scaledVtReply, Filled, Sized}
 
 -- ---- 1

@@ -10,7 +10,7 @@ use Rattle.answers.specs.Paper.{Reply, paper, done, refuse, andThen, ifDone}
 use Rattle.values.specs.Lists.{valuesAllowed}
 use Rattle.complex.specs.declared.Complex.{Complex}
 use Rattle.complex.specs.Cells.{written}
-use Rattle.fills.specs.Sources.{linesFrom}
+use Rattle.site_lines.specs.Sources.{linesFrom}
 
 -- ---- 1: a size above 4,096, a stride below the `width` cells that are copied of each of chi lines, a site above 4,096 cells
 

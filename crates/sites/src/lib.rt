@@ -5,7 +5,7 @@ ghost use Prim.Native.Nat.{_*_, _≤_};
 ghost use lib.ListN.{length, take};
 ghost use Rattle.answers.specs.Paper.{paper, andThen};
 ghost use Rattle.values.specs.Lists.{valuesAllowed};
-ghost use Rattle.fills.specs.Sources.{linesFrom, siteCell, isometryCell, scaledUCell, vtCell, scaledVtCell};
+ghost use Rattle.site_lines.specs.Sources.{linesFrom, siteCell, isometryCell, scaledUCell, vtCell, scaledVtCell};
 ghost use Rattle.sites.specs.Calls.{lineSizes, columnSizes, rowSizes, plainReply, scaledUReply, scaledVtReply, Filled, Sized};
 
 // Answer 1 of a source: chi lines, stride cells apart, width cells of each read.
@@ -62,7 +62,7 @@ fn check_plain(source: &[f64], stride: usize, width: usize, chi: usize, room: us
     if room < 2 * (width * chi) {
         return Answer::Length(1);
     }
-    fills::check_lines(source, stride, width, chi)
+    site_lines::check_lines(source, stride, width, chi)
 }
 
 // Answer 7 of a source and then of its values.
@@ -76,7 +76,7 @@ fn check_lines_first(
     requires { ⌜ (width ≤ stride) × (2 * (chi * stride) ≤ length (now source)) × (chi ≤ length (now values)) ⌝ }
     ensures { λ r. ⌜ paper r ≡ andThen (linesFrom (now (source .entry)) stride width 0 chi) (valuesAllowed 0 (take chi (now (values .entry)))) ⌝ }
 {
-    let answer = fills::check_lines(source, stride, width, chi);
+    let answer = site_lines::check_lines(source, stride, width, chi);
     let Answer::Done = answer else {
         return answer;
     };
@@ -98,7 +98,7 @@ fn check_values_first(
     let Answer::Done = answer else {
         return answer;
     };
-    fills::check_lines(source, stride, width, chi)
+    site_lines::check_lines(source, stride, width, chi)
 }
 
 // Answers 6 and 7 of a source, its values and a site.
@@ -169,7 +169,7 @@ pub fn fill_isometry_site_data(
     let Answer::Done = answer else {
         return answer;
     };
-    fills::fill_isometry(columns, stride, width, chi, out);
+    site_lines::fill_isometry(columns, stride, width, chi, out);
     Answer::Done
 }
 
@@ -194,7 +194,7 @@ pub fn fill_scaled_u_site_data(
     let Answer::Done = answer else {
         return answer;
     };
-    fills::fill_scaled_u(u, s, stride, width, chi, out);
+    site_lines::fill_scaled_u(u, s, stride, width, chi, out);
     Answer::Done
 }
 
@@ -219,7 +219,7 @@ pub fn fill_vt_site_data(
     let Answer::Done = answer else {
         return answer;
     };
-    fills::fill_vt(vt, row_len, width, chi, out);
+    site_lines::fill_vt(vt, row_len, width, chi, out);
     Answer::Done
 }
 
@@ -245,6 +245,6 @@ pub fn fill_scaled_vt_data(
     let Answer::Done = answer else {
         return answer;
     };
-    fills::fill_scaled_vt(s, vt, row_len, width, chi, out);
+    site_lines::fill_scaled_vt(s, vt, row_len, width, chi, out);
     Answer::Done
 }

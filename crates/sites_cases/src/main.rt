@@ -26,7 +26,7 @@ fn rank_case(text: &[u8], at: usize) -> usize {
     let epsilon = replay::float_of(replay::next_word(text, next).value);
     let cap = replay::past(text, next);
     let list = replay::front_floats(&values, count);
-    replay::print_word(replay::word_of(ranks::truncated_svd_rank(
+    replay::print_word(replay::word_of(site_ranks::truncated_svd_rank(
         list,
         epsilon,
         replay::size_at(text, cap),
@@ -39,7 +39,7 @@ fn discard_case(text: &[u8], at: usize) -> usize {
     let count = replay::size_at(text, at);
     let next = replay::read_floats(text, replay::past(text, at), &mut values, count);
     let list = replay::front_floats(&values, count);
-    if ranks::discards_resolvable_weight(list, replay::size_at(text, next)) {
+    if site_ranks::discards_resolvable_weight(list, replay::size_at(text, next)) {
         replay::print_word(1);
     } else {
         replay::print_word(0);
@@ -50,7 +50,7 @@ fn discard_case(text: &[u8], at: usize) -> usize {
 fn cut_case(text: &[u8], at: usize) -> usize {
     let second = replay::past(text, at);
     let third = replay::past(text, second);
-    let r = ranks::cut_rank(
+    let r = site_ranks::cut_rank(
         replay::size_at(text, at),
         replay::size_at(text, second),
         replay::size_at(text, third),
@@ -64,7 +64,7 @@ fn cut_case(text: &[u8], at: usize) -> usize {
 fn block_case(text: &[u8], at: usize) -> usize {
     let second = replay::past(text, at);
     let third = replay::past(text, second);
-    let r = ranks::widest_block_cut(
+    let r = site_ranks::widest_block_cut(
         replay::size_at(text, at),
         replay::size_at(text, second),
         replay::size_at(text, third),

@@ -9,7 +9,7 @@ use lib.Dec.{eqb}
 use borrow.Author.Tests.{le-ltb, eqb-true}
 use lib.Ieee.{Float, nan, inf, fin, up, down, lt, eq, isNan, below, level}
 use Rattle.numbers.specs.Numbers.{minusSign, totalLess}
-use Rattle.order.proofs.Comparing.{lt-asym, lt-under}
+use Rattle.stable_order.proofs.Comparing.{lt-asym, lt-under}
 
 -- ---- yes and no
 

@@ -10,7 +10,7 @@ use Rattle.answers.specs.declared.Answer.{Answer}
 use Rattle.answers.specs.Paper.{Reply, paper, ifDone}
 use Rattle.answers.proofs.PaperLaws.{paper-one, stays, worked-new, worked-old, done-old, end-old, end-worked}
 use Rattle.complex.specs.Zeros.{zeroed}
-use Rattle.loading.specs.Numbers.{filled}
+use Rattle.svd_load.specs.Numbers.{filled}
 use Rattle.finish.specs.declared.Kept.{Kept}
 use Rattle.finish.specs.Finish.{padded}
 use Rattle.finish.proofs.OutcomeLaws.{reply-worked, kept-same}

@@ -19,14 +19,14 @@ use Rattle.complex.specs.declared.Complex.{Complex}
 use Rattle.complex.specs.Cells.{cellAt, written, components}
 use Rattle.complex.proofs.CellLaws.{cell-written}
 use Rattle.complex.specs.Zeros.{zeroed}
-use Rattle.loading.specs.Numbers.{numbersOf, filled}
-use Rattle.loading.proofs.NumbersLaws.{length-numbers}
-use Rattle.loading.specs.Loading.{planesOf}
+use Rattle.svd_load.specs.Numbers.{numbersOf, filled}
+use Rattle.svd_load.proofs.NumbersLaws.{length-numbers}
+use Rattle.svd_load.specs.Loading.{planesOf}
 use Rattle.values.specs.Lists.{allFinite}
-use Rattle.jacobi.specs.declared.Sweeps.{Sweeps}
-use Rattle.eigenpair.specs.CellPlanes.{asPlanes}
-use Rattle.eigenpair.proofs.CellPlanesLaws.{planes-same}
-use Rattle.eigen.specs.Sweeping.{State, state, diagonal, settled}
+use Rattle.svd_sweeps.specs.declared.Sweeps.{Sweeps}
+use Rattle.eigen_pair.specs.CellPlanes.{asPlanes}
+use Rattle.eigen_pair.proofs.CellPlanesLaws.{planes-same}
+use Rattle.eigen_sweeps.specs.Sweeping.{State, state, diagonal, settled}
 use Rattle.spectra.specs.Eigenvalues.{eigenvalue, eigenvaluesOf, eigenReply, squareRefusal, eigenAnswer}
 use Rattle.spectra.specs.Outcomes.{Given, Worked, Eigenvalues}
 

@@ -7,10 +7,10 @@ use lib.Ieee.{Float}
 use lib.ListN.{length}
 use Rattle.answers.specs.Paper.{Reply, done, refuse, andThen}
 use Rattle.complex.specs.Cells.{cellAt, components}
-use Rattle.loading.specs.Numbers.{numbersOf}
-use Rattle.loading.specs.Loading.{planesOf}
+use Rattle.svd_load.specs.Numbers.{numbersOf}
+use Rattle.svd_load.specs.Loading.{planesOf}
 use Rattle.values.specs.Lists.{allFinite}
-use Rattle.eigen.specs.Sweeping.{diagonal, settled}
+use Rattle.eigen_sweeps.specs.Sweeping.{diagonal, settled}
 
 -- entry i of the diagonal that the sweeps end with
 unfoldable pub eigenvalue : List Float → ℕ → ℕ → Float

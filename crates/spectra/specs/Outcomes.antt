@@ -6,7 +6,7 @@ use lib.Ieee.{Float}
 use Rattle.answers.specs.declared.Answer.{Answer}
 use Rattle.answers.specs.Paper.{paper, ifDone, ifWorked, atEnd}
 use Rattle.complex.specs.Zeros.{zeroed}
-use Rattle.loading.specs.Numbers.{filled}
+use Rattle.svd_load.specs.Numbers.{filled}
 use Rattle.spectra.specs.Eigenvalues.{eigenvalue, eigenReply, eigenAnswer}
 
 -- the lengths of a call that is not refused

@@ -5,12 +5,12 @@ ghost use mathlib.Core.Path.{_≡_};
 ghost use Prim.Native.Nat.{_*_, _≤_};
 ghost use lib.ListN.{length};
 ghost use Rattle.answers.specs.Paper.{paper};
-ghost use Rattle.eigen.specs.Sweeping.{Square, diagonal};
-ghost use Rattle.loading.specs.Numbers.{filled};
-ghost use Rattle.loading.specs.Loading.{planesOf};
+ghost use Rattle.eigen_sweeps.specs.Sweeping.{Square, diagonal};
+ghost use Rattle.svd_load.specs.Numbers.{filled};
+ghost use Rattle.svd_load.specs.Loading.{planesOf};
 ghost use Rattle.complex.specs.Cells.{cellAt};
 ghost use Rattle.complex.specs.Zeros.{zeroed};
-ghost use Rattle.eigenpair.specs.CellPlanes.{asPlanes};
+ghost use Rattle.eigen_pair.specs.CellPlanes.{asPlanes};
 ghost use Rattle.spectra.specs.Eigenvalues.{eigenvalue, squareRefusal};
 ghost use Rattle.spectra.specs.Outcomes.{Given, Worked, Eigenvalues};
 ghost use Rattle.spectra.specs.Density.{DensityWorked, DensityValues};
@@ -66,7 +66,7 @@ fn spectrum(a: &[f64], n: usize, out: &mut [f64], work: &mut [f64])
         × (now (work .exit) ≡ zeroed (2 * (n * n)) (now (work .entry))) ⌝ }
 {
     load_cells(a, n * n, work);
-    let swept = eigen::settle(work, n);
+    let swept = eigen_sweeps::settle(work, n);
     write_diagonal(work, n, out);
     complex::zero_first(work, 2 * (n * n));
 }

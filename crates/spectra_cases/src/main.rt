@@ -26,7 +26,7 @@ fn from_density(rho: &[f64], dim: usize, out: &mut [f64], scratch: &mut [f64]) {
 }
 
 fn eigen(matrix: &[f64], dim: usize, values: &mut [f64], vectors: &mut [f64], scratch: &mut [f64]) {
-    replay::print_answer(hermitian::hermitian_eigen(matrix, dim, values, vectors, scratch));
+    replay::print_answer(hermitian_eigen::hermitian_eigen(matrix, dim, values, vectors, scratch));
     replay::print_floats(values);
     replay::print_floats(vectors);
     replay::print_floats(scratch);

@@ -8,14 +8,14 @@ use Rattle.numbers.specs.Root.{sqrtOf, rootOf, squared, size, floorRoot, nextRo
 use Rattle.complex.specs.Arithmetic.{product, sum, difference, conjugate, scaled, normSqr}
 use Rattle.complex.specs.Cells.{cellsOf}
 use Rattle.complex.specs.Zeros.{zeros}
-use Rattle.columns.specs.Dot.{noSums, addQuad, addFirst, joined, term, quadsTo, tailTo, dotOf}
-use Rattle.columns.specs.Columns.{cellFrom, columnOf, squaresTo, normOf, lessCell, lessened, scaledInto}
-use Rattle.gram_schmidt.specs.GramSchmidt.{projectedBy, projected, passTo, passes, newBasis, kept, judged, addColumn, columnsTo, basisFor, withBasis, factorsOf}
-use Rattle.ranks.specs.Ranks.{firstOrZero, aboveCount, rankOf}
-use Rattle.masks.specs.Submasks.{submaskAt}
+use Rattle.qr_column.specs.Dot.{noSums, addQuad, addFirst, joined, term, quadsTo, tailTo, dotOf}
+use Rattle.qr_column.specs.Columns.{cellFrom, columnOf, squaresTo, normOf, lessCell, lessened, scaledInto}
+use Rattle.qr_passes.specs.GramSchmidt.{projectedBy, projected, passTo, passes, newBasis, kept, judged, addColumn, columnsTo, basisFor, withBasis, factorsOf}
+use Rattle.site_ranks.specs.Ranks.{firstOrZero, aboveCount, rankOf}
+use Rattle.submasks.specs.Submasks.{submaskAt}
 use Rattle.qubits.specs.Lists.{stands, placesFrom}
 use Rattle.qubits.specs.Spread.{spread, table, otherQubits, maskFrom}
-use Rattle.eigenpair.specs.Decide.{tangentOf}
+use Rattle.eigen_pair.specs.Decide.{tangentOf}
 use Rattle.numbers.specs.Numbers.{signOf, magnitudeOf}
 use Rattle.starred.specs.Starred.{Starred}
 

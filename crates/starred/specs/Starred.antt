@@ -6,13 +6,13 @@ use lib.Ieee as Ieee
 use lib.Ieee.{Float, binary64, ofBits}
 use lib.ListN.{take}
 use Rattle.complex.specs.Zeros.{zeros}
-use Rattle.gram_schmidt.specs.GramSchmidt.{factors, factorsOf}
-use Rattle.ranks.specs.Ranks.{rankOf}
+use Rattle.qr_passes.specs.GramSchmidt.{factors, factorsOf}
+use Rattle.site_ranks.specs.Ranks.{rankOf}
 use Rattle.answers.specs.Paper.{Reply}
 use Rattle.qubits.specs.Lists.{subsystem}
 use Rattle.qubits.specs.Spread.{rowOffsets, tracedBase}
 use Rattle.cuts.specs.Cut.{sourceOf}
-use Rattle.eigenpair.specs.Decide.{thetaOf, tangentOf}
+use Rattle.eigen_pair.specs.Decide.{thetaOf, tangentOf}
 
 abbrev to8 : List ℕ
 to8 = 0 ∷ 1 ∷ 2 ∷ 3 ∷ 4 ∷ 5 ∷ 6 ∷ 7 ∷ []

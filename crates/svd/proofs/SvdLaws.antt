@@ -16,10 +16,10 @@ use Rattle.answers.proofs.PaperLaws.{refuse-done, andThen-done, stays, refuse-s
 use Rattle.complex.specs.Cells.{cellAt, components}
 use Rattle.complex.proofs.CellLaws.{components-small}
 use Rattle.complex.specs.Zeros.{zeros, zeroed}
-use Rattle.loading.specs.Loading.{planesOf, conjugateTransposed}
+use Rattle.svd_load.specs.Loading.{planesOf, conjugateTransposed}
 use Rattle.values.specs.Lists.{allFinite}
-use Rattle.thin.specs.Thin.{Thin, Lent}
-use Rattle.thin.proofs.ThinLaws.{side-fits}
+use Rattle.svd_thin.specs.Thin.{Thin, Lent}
+use Rattle.svd_thin.proofs.ThinLaws.{side-fits}
 use Rattle.svd.specs.Svd.{sideOf, rowsOf, needU, needVt, needScratch, sizeTest, lengthTests, tests, workOf, directions, turns, uOf, sOf, vtOf, finiteFactors, endTest, answerOf, Svd, Exact, Factored, Finished, Worked}
 
 -- ---- the sizes

@@ -10,10 +10,10 @@ use Rattle.answers.specs.declared.Answer.{Answer}
 use Rattle.answers.specs.Paper.{Reply, paper, done, refuse, andThen, ifDone, ifWorked, atEnd}
 use Rattle.complex.specs.Cells.{cellAt, components}
 use Rattle.complex.specs.Zeros.{zeros, zeroed}
-use Rattle.loading.specs.Loading.{planesOf, conjugateTransposed}
-use Rattle.factors.specs.Columns.{directionsOf, turnsOf}
+use Rattle.svd_load.specs.Loading.{planesOf, conjugateTransposed}
+use Rattle.svd_columns.specs.Columns.{directionsOf, turnsOf}
 use Rattle.values.specs.Lists.{allFinite}
-use Rattle.thin.specs.Thin.{swept, orderOf, valuesOf}
+use Rattle.svd_thin.specs.Thin.{swept, orderOf, valuesOf}
 
 -- ---- the sizes
 

@@ -102,14 +102,14 @@ fn factor(
 {
     if m < n {
         let w = 2 * (m * n);
-        loading::load_wide(a, m, n, &mut scratch[..w]);
-        thin::factor(n, m, true, vt, s, u, scratch);
+        svd_load::load_wide(a, m, n, &mut scratch[..w]);
+        svd_thin::factor(n, m, true, vt, s, u, scratch);
         return;
     }
     let c = n * m;
     let w = 2 * c;
-    loading::load_tall(a, c, &mut scratch[..w]);
-    thin::factor(m, n, false, u, s, vt, scratch);
+    svd_load::load_tall(a, c, &mut scratch[..w]);
+    svd_thin::factor(m, n, false, u, s, vt, scratch);
 }
 
 // Whether every number of the three is finite.

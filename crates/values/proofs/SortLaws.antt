@@ -9,8 +9,8 @@ use lib.Ieee.{Float, nan}
 use lib.ListN.{length, getD, take, drop, drop-of-length-le}
 use lib.Seq.{drop-cons, take-suc, take-at}
 use Rattle.numbers.specs.Numbers.{totalLess}
-use Rattle.order.specs.Push.{pushAt}
-use Rattle.order.proofs.PushLaws.{pushAt-snoc}
+use Rattle.stable_order.specs.Push.{pushAt}
+use Rattle.stable_order.proofs.PushLaws.{pushAt-snoc}
 use Rattle.values.specs.Sort.{insertDown, sortTo, seatOf}
 
 -- ---- the place

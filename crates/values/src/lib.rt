@@ -61,7 +61,7 @@ pub fn sort_down(values: &[f64], sorted: &mut [f64])
         let e = k + 1;
         let x = values[k];
         let at = seat(&sorted[..k], x);
-        order::insert_at(&mut sorted[..e], at, x);
+        stable_order::insert_at(&mut sorted[..e], at, x);
     }
 }
 

@@ -4,7 +4,7 @@ use mathlib.Core.Path.{refl, ap}
 use native.Mathlib.Omega.{arith}
 use denote.Ref.{now}
 use lib.ListN.{length}
-use Rattle.sides.proofs.SideLaws.{is-parted}
+use Rattle.cut_sides.proofs.SideLaws.{is-parted}
 use Rattle.texts.proofs.TextLaws.{puts-as}
 use Rattle.certificates.proofs.AcceptedLaws.{part-is, side-short, accepted-is, accepted-short}
 use borrow.Author.Needs.{needs}

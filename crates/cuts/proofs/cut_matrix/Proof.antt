@@ -5,8 +5,8 @@ use lib.ListN.{length}
 use denote.Ref.{now}
 use Rattle.answers.specs.Paper.{Reply, paper, andThen}
 use Rattle.answers.proofs.Stopped.{refused, passed, was-done, stopped-number}
-use Rattle.sides.specs.Sides.{cutRefusal, Parted}
-use Rattle.sides.proofs.SideLaws.{is-parted}
+use Rattle.cut_sides.specs.Sides.{cutRefusal, Parted}
+use Rattle.cut_sides.proofs.SideLaws.{is-parted}
 use Rattle.cuts.specs.Cut.{cutLengths}
 use Rattle.cuts.proofs.CutLaws.{cut-refused, cut-done, lengths-done}
 use borrow.Author.Needs.{needs}

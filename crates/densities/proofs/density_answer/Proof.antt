@@ -6,7 +6,7 @@ use lib.ListN.{length}
 use denote.Ref.{now}
 use Rattle.answers.proofs.Stopped.{refused, passed, was-done}
 use Rattle.qubits.proofs.NamedLaws.{pow-small}
-use Rattle.offsets.proofs.CallLaws.{density-listed}
+use Rattle.qubit_offsets.proofs.CallLaws.{density-listed}
 use Rattle.densities.specs.Density.{densityLengths}
 use Rattle.densities.proofs.DensityLaws.{side-small}
 use borrow.Author.Needs.{needs}

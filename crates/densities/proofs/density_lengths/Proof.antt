@@ -1,7 +1,7 @@
 -- `densities::density_lengths` meets its contract: each way out is the first of the tests that holds. Assumes nothing.
 use native.Mathlib.Omega.{arith}
 use borrow.Author.Tests.{lt-ltb, le-ltb, eq-eqb, ne-eqb}
-use Rattle.entries.proofs.MirroredLaws.{square-small}
+use Rattle.density_entries.proofs.MirroredLaws.{square-small}
 use Rattle.densities.proofs.density_lengths.Statement.{statement}
 use Rattle.densities.proofs.density_lengths.Tie as tie
 

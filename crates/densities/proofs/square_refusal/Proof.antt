@@ -1,7 +1,7 @@
 -- `densities::square_refusal` meets its contract: each way out is the first of the tests that holds. Assumes nothing.
 use native.Mathlib.Omega.{arith}
 use borrow.Author.Tests.{lt-ltb, le-ltb, eq-eqb, ne-eqb}
-use Rattle.entries.proofs.MirroredLaws.{square-small}
+use Rattle.density_entries.proofs.MirroredLaws.{square-small}
 use borrow.Author.Needs.{needs}
 use Rattle.densities.proofs.square_refusal.Statement.{statement}
 use Rattle.densities.proofs.square_refusal.Tie as tie

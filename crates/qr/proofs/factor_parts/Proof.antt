@@ -1,7 +1,7 @@
 -- `qr::factor_parts` meets its contract: the factors, then zeros in the scratch, then the answer 9 where a number is not finite. Assumes nothing.
 use mathlib.Core.Path.{_∙_}
 use Rattle.qr.proofs.CallLaws.{finished-as}
-use Rattle.gram_schmidt.proofs.GramSchmidtLaws.{zeroed-all}
+use Rattle.qr_passes.proofs.GramSchmidtLaws.{zeroed-all}
 use borrow.Author.Needs.{needs}
 use Rattle.qr.proofs.factor_parts.Statement.{statement}
 use Rattle.qr.proofs.factor_parts.Tie as tie

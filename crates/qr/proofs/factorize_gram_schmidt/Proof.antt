@@ -7,7 +7,7 @@ use lib.Seq.{length-take-le}
 use denote.Ref.{now}
 use Rattle.answers.proofs.Stopped.{was-done, stopped-number}
 use Rattle.complex.specs.Zeros.{zeros}
-use Rattle.gram_schmidt.specs.Room.{Room}
+use Rattle.qr_passes.specs.Room.{Room}
 use Rattle.qr.specs.Call.{Sized, refusal}
 use Rattle.qr.proofs.CallLaws.{Long, q-cells, r-cells, q-same, r-same, rows-within, refusal-sized, refusal-long, parts-room, room-some, call-refused, call-passed, call-worked}
 use borrow.Author.Needs.{needs}

@@ -4,12 +4,12 @@ use Prim.Native.Nat.{_*_, _+_, _-_, _≤_, _<_}
 use native.Mathlib.Omega.{arith}
 use denote.Ref.{now}
 use lib.ListN.{length, length-set}
-use Rattle.eigenpair.specs.CellPlanes.{asPlanes}
-use Rattle.eigenpair.proofs.CellPlanesLaws.{plane-re}
-use Rattle.eigenpair.proofs.TurnLaws.{cell-fits}
-use Rattle.eigen.specs.Sweeping.{diagonal}
-use Rattle.loading.specs.Numbers.{filled}
-use Rattle.loading.proofs.NumbersLaws.{filled-none, filled-more}
+use Rattle.eigen_pair.specs.CellPlanes.{asPlanes}
+use Rattle.eigen_pair.proofs.CellPlanesLaws.{plane-re}
+use Rattle.eigen_pair.proofs.TurnLaws.{cell-fits}
+use Rattle.eigen_sweeps.specs.Sweeping.{diagonal}
+use Rattle.svd_load.specs.Numbers.{filled}
+use Rattle.svd_load.proofs.NumbersLaws.{filled-none, filled-more}
 use borrow.Author.Needs.{needs}
 use Rattle.spectra.proofs.write_diagonal.Statement.{statement}
 use Rattle.spectra.proofs.write_diagonal.Tie as tie

@@ -1,2 +1,0 @@
--- What the contracts of `basis` cite.
-pub mod Matrix

@@ -1,3 +1,0 @@
--- What the contracts of `blocks` cite.
-pub mod Factor
-pub mod FactorLaws

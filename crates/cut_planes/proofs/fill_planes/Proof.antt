@@ -1,0 +1,62 @@
+-- `cut_planes::fill_planes` meets its contract. The loop's invariant and turn are those of `CutPlanesLaws`; here they meet the code.
+-- Assumes nothing.
+use Prim.Native.Nat.{_-_}
+use native.Mathlib.Omega.{arith}
+use Rattle.qubits.proofs.NamedLaws.{pow-small}
+use Rattle.cut_planes.proofs.CutPlanesLaws.{Columns, columns-begin, column-ready, columns-turn, columns-end}
+use borrow.Author.Needs.{needs}
+use Rattle.cut_planes.proofs.fill_planes.Statement.{statement}
+use Rattle.cut_planes.proofs.fill_planes.Tie as tie
+
+abbrev Inv-loop : tie.InvT-loop
+Inv-loop state n inner outer count columns conjugated work₀ c₀ at₀ bits₀ work c at bits = Columns n inner outer count columns conjugated state work₀ work c at bits
+
+abbrev μ-loop : tie.MeasureT-loop
+μ-loop state n inner outer count columns conjugated work₀ c₀ at₀ bits₀ work c at bits = columns - c
+
+loop-holds : tie.Need-loop-holds Inv-loop μ-loop
+loop-holds c = columns-begin _ _ _ _ _ _ _ _ (c .before .before .pre .0)
+
+fill-column-requires : tie.Need-fill-column-requires Inv-loop μ-loop
+fill-column-requires c κs = column-ready _ _ _ _ _ _ _ _ (c .before .before .before .before .before .pre .0) _ _ _ _ (c .before .before .loop .inv) (c .before .loop-test .taken)
+
+next-submask-requires : tie.Need-next-submask-requires Inv-loop μ-loop
+next-submask-requires c κs = search needs
+
+add-at : tie.Need-add-at Inv-loop μ-loop
+add-at c =
+    let z = c .before .before .before .before .before .before .before .before .before .pre .0 in
+    omega (arith, column-ready _ _ _ _ _ _ _ _ z _ _ _ _ (c .before .before .before .before .before .before .loop .inv) (c .before .before .before .before .before .loop-test .taken) .last, pow-small _ (z .small))
+
+add-c : tie.Need-add-c Inv-loop μ-loop
+add-c c = search needs
+
+loop-less : tie.Need-loop-less Inv-loop μ-loop
+loop-less c = search needs
+
+loop-again : tie.Need-loop-again Inv-loop μ-loop
+loop-again c =
+    columns-turn _ _ _ _ _ _ _ _ (c .before .before .before .before .before .before .before .before .before .pre .0) _ _ _ _ (c .before .before .before .before .before .before .loop .inv) (c .before .before .before .before .before .loop-test .taken) _ _ (c .before .before .before .fill-column .kept .1 .1 .1 .1 .1 .1 .1 .0)
+    (c .before .before .before .fill-column .ensures) (c .next-submask .ensures)
+
+same-length : tie.Need-same-length Inv-loop μ-loop
+same-length c = c .before .loop .inv .long
+
+returns : tie.Need-returns Inv-loop μ-loop
+returns c = columns-end _ _ _ _ _ _ _ _ (c .before .before .before .before .pre .0) _ _ _ _ (c .before .loop .inv) (c .loop-test .left) (c .before .before .before .before .pre .1)
+
+pub fill-planes-spec : {M : Type 1} → statement M
+fill-planes-spec =
+    tie.close
+    (tie.spec
+    Inv-loop
+    μ-loop
+    loop-holds
+    fill-column-requires
+    next-submask-requires
+    add-at
+    add-c
+    loop-less
+    loop-again
+    same-length
+    returns)

@@ -1,0 +1,2 @@
+-- What the contracts of `cut_planes` cite.
+pub mod CutPlanes

@@ -1,0 +1,324 @@
+-- Laws of the Schmidt values of a cut: each step hands on what the next asks, the call at each way out, and that only one outcome meets
+-- its contract. Assumes nothing.
+use mathlib.Core.Bool.{Bool, true, false, not}
+use mathlib.Core.Path.{_≡_, refl, sym, ap, ap₂, _∙_}
+use mathlib.Core.Logic.{_⊎_, inr, ⊎-elim}
+use mathlib.Core.List.{List, [], _∷_, _++_, append-nil}
+use Prim.Native.Nat.{ℕ, zero, suc, _+_, _-_, _*_, _^_, _≤_, _<_, min}
+use native.Mathlib.Nat.{min-le-left, min-le-right, eq-or-lt-of-le, mul-comm, mul-le-mul-right}
+use native.Mathlib.Omega.{arith}
+use borrow.Author.Tests.{lt-ltb, le-ltb, ltb-false, eq-eqb, ne-eqb, eqb-true, not-false}
+use lib.Dec.{ltb, leb, eqb}
+use lib.Ieee.{Float}
+use lib.ListN.{length, take, drop, drop-of-length-le, length-append}
+use lib.Seq.{take-at}
+use lib.Pow.{pow-mono}
+use Rattle.answers.specs.declared.Answer.{Answer}
+use Rattle.answers.specs.declared.Answer.the-variants.{NotFinite}
+use Rattle.answers.specs.Paper.{Reply, paper, done, refuse, after, andThen, ifDone, atEnd}
+use Rattle.answers.proofs.PaperLaws.{refuse-done, andThen-done, stays, refuse-small, after-small, paper-one, done-old, worked-new, worked-old, end-old}
+use Rattle.qubits.specs.Lists.{stands, placesFrom, places, qubitSet, subsystem}
+use Rattle.complex.specs.Cells.{components}
+use Rattle.complex.proofs.CellLaws.{components-small}
+use Rattle.complex.specs.Zeros.{zeros, zeroed}
+use Rattle.cut_sides.specs.declared.Sides.{Sides}
+use Rattle.cut_sides.specs.Sides.{cutSizes, cutRefusal, Parted, side, sidesOf}
+use Rattle.cuts.specs.Cut.{Ready}
+use Rattle.cuts.proofs.CutLaws.{ready}
+use Rattle.svd_sweeps.specs.declared.Sweeps.{Sweeps}
+use Rattle.svd_sweeps.specs.Sweeping.{State, state, settled}
+use Rattle.svd_sweeps.proofs.Values.{settled-alike}
+use Rattle.svd_load.specs.Loading.{unitPlanes}
+use Rattle.stable_order.specs.Order.{orderTo}
+use Rattle.svd_columns.specs.Columns.{normsOf, sortedOf}
+use Rattle.values.specs.Lists.{allFinite}
+use Rattle.values.specs.Sort.{sortedDown}
+use Rattle.finish.specs.declared.Kept.{Kept}
+use Rattle.finish.specs.Finish.{finishOf, finishReply, padded}
+use Rattle.finish.specs.Outcome.{FinishedOutcome}
+use Rattle.finish.proofs.OutcomeLaws.{reply-worked, kept-same}
+use Rattle.svd_thin.specs.Thin.{swept, orderOf, valuesOf}
+use Rattle.svd.specs.Svd.{sideOf, workOf, sOf}
+use Rattle.svd.specs.Svd as svd
+use Rattle.svd.proofs.SvdLaws.{side-wide, side-tall}
+use Rattle.cut_values.specs.Schmidt.{rowsOf, singularValues, needScratch, lengthTests, rest, tests, valuesReply, answerOf, Schmidt, Sized, matrixOf, normsAfter, singularOf, Finished, Worked}
+
+-- ---- the lengths
+
+module _ (n rows state out scratch : ℕ) {cells : ℕ} (e : cells ≡ 2 ^ n) where
+  pub lengths-0 : (state ≡ 2 * cells → ⊥) → (6, 0) ≡ lengthTests n rows state out scratch
+  unfolding lengthTests
+  lengths-0 h =
+      let g : state ≡ 2 * 2 ^ n → ⊥ = λ z. h (omega arith) in
+      rw (ne-eqb state (2 * 2 ^ n) g)
+
+  module _ (hs : state ≡ 2 * cells) where
+    gs : state ≡ 2 * 2 ^ n
+    gs = omega arith
+
+    pub lengths-2 : out < rows → (6, 2) ≡ lengthTests n rows state out scratch
+    unfolding lengthTests
+    lengths-2 h = rw (eq-eqb state (2 * 2 ^ n) gs, lt-ltb out rows h)
+
+    pub lengths-3 : rows ≤ out → scratch < 8 * cells + 2 * rows → (6, 3) ≡ lengthTests n rows state out scratch
+    unfolding lengthTests
+    lengths-3 h i =
+        let g : scratch < needScratch n rows = omega arith in
+        rw (eq-eqb state (2 * 2 ^ n) gs, le-ltb out rows h, lt-ltb scratch (needScratch n rows) g)
+
+    pub lengths-good : rows ≤ out → 8 * cells + 2 * rows ≤ scratch → done ≡ lengthTests n rows state out scratch
+    unfolding lengthTests
+    lengths-good h i =
+        let g : needScratch n rows ≤ scratch = omega arith in
+        rw (eq-eqb state (2 * 2 ^ n) gs, le-ltb out rows h, le-ltb scratch (needScratch n rows) g)
+
+pub lengths-done : (n rows state out scratch : ℕ) → lengthTests n rows state out scratch .0 ≡ 0
+    → (state ≡ 2 * 2 ^ n) × (rows ≤ out) × (needScratch n rows ≤ scratch)
+unfolding lengthTests
+lengths-done n rows state out scratch e =
+    let a = refuse-done (not (eqb state (2 * 2 ^ n))) 5 0 _ e in
+    let b = refuse-done (ltb out rows) 5 2 _ (a .1) in
+    let c = refuse-done (ltb scratch (needScratch n rows)) 5 3 _ (b .1) in
+    (eqb-true state (2 * 2 ^ n) (not-false (eqb state (2 * 2 ^ n)) (a .0)), ltb-false out rows (b .0), ltb-false scratch (needScratch n rows) (c .0))
+
+-- what a call that 6 and 7 do not refuse has
+pub rest-done : (s : List Float) (n rows out scratch : ℕ) → rest s n rows out scratch .0 ≡ 0
+    → (length s ≡ 2 * 2 ^ n) × (rows ≤ out) × (needScratch n rows ≤ scratch)
+unfolding rest
+rest-done s n rows out scratch e =
+    lengths-done n rows (length s) out scratch (andThen-done (lengthTests n rows (length s) out scratch) (components 0 s) e .0)
+
+-- ---- the sides of an accepted cut
+
+pub sides-few : (n : ℕ) (l : List ℕ) (z : Sides) → Parted l n → z ≡ sidesOf l n → z .rows ≤ 64
+sides-few n l z p e =
+    let low : side l n ≤ length l = min-le-left (length l) (n - length l) in
+    let high : side l n ≤ n - length l = min-le-right (length l) (n - length l) in
+    let six : side l n ≤ 6 = omega (arith, p .listed .small) in
+    rw e (pow-mono {i = side l n} {j = 6} six)
+
+pub sized : (s : List Float) (n : ℕ) (l : List ℕ) (z : Sides) → Parted l n → z ≡ sidesOf l n → length s ≡ 2 * 2 ^ n → Sized n z s
+sized s n l z p e k =
+    let t = ready s n l s p k (omega arith) in
+    let low : side l n ≤ length l = min-le-left (length l) (n - length l) in
+    let high : side l n ≤ n - length l = min-le-right (length l) (n - length l) in
+    let few = sides-few n l z p e in
+    record {
+      small = p .listed .small;
+      row-lt = rw e (t .row-lt);
+      column-lt = rw e (t .column-lt);
+      product = rw e (t .product);
+      some = rw e (t .some);
+      few = few;
+      wide = rw e (pow-mono {i = side l n} {j = n - side l n} (omega arith));
+      state = k;
+    }
+
+pub sized-ready : (n : ℕ) (z : Sides) (s o : List Float) → Sized n z s → length o ≡ 2 * 2 ^ n
+    → Ready n (z .row) (z .column) (z .rows) (z .columns) s o
+sized-ready n z s o p k =
+    record {
+      small = p .small;
+      row-lt = p .row-lt;
+      column-lt = p .column-lt;
+      product = p .product;
+      some = p .some;
+      state = p .state;
+      room = omega arith;
+    }
+
+-- the matrix has 2^n cells either way round
+pub all-cells : (n : ℕ) (z : Sides) (s : List Float) → Sized n z s → z .rows * z .columns ≡ 2 ^ n
+all-cells n z s p = mul-comm (z .rows) (z .columns) ∙ p .product
+
+-- and a row for each of 2^n cells at most
+pub rows-fit : (n : ℕ) (z : Sides) (s : List Float) → Sized n z s → z .rows ≤ 2 ^ n
+rows-fit n z s p =
+    let h : 1 * z .rows ≤ z .columns * z .rows = mul-le-mul-right (z .rows) (omega (arith, p .some, p .wide)) in
+    omega (arith, p .product)
+
+-- ---- the front of an array that was lent
+
+pub front-length : (k : ℕ) (x y : List Float) → length x ≡ k → length (take k (x ++ y)) ≡ k
+front-length k x y h = ap length (take-at x y k h) ∙ h
+
+pub front-in : (k : ℕ) (x y : List Float) → length x ≡ k → k ≤ length (x ++ y)
+front-in k x y h = omega (arith, length-append x y)
+
+-- lengths that are known through another
+pub le-same : {x y z : ℕ} → x ≤ y → z ≡ y → x ≤ z
+le-same h e = omega arith
+
+pub same-le : {x y z : ℕ} → x ≡ y → y ≤ z → x ≤ z
+same-le e h = omega arith
+
+-- ---- the singular values
+
+-- the sweeps alone leave the work matrix that they leave beside a V
+pub swept-alone : (m k : ℕ) (w x : List Float) (r : Sweeps) → state x [] r ≡ settled m k w [] → x ≡ swept m k w .work
+unfolding swept
+swept-alone m k w x r e = ap (λ (t : State). t .work) e ∙ settled-alike m k w [] (unitPlanes k) .work
+
+pub norms-made : (s : List Float) (n : ℕ) (z : Sides) {w x norms : List Float} (r : Sweeps) → w ≡ workOf (matrixOf s n z) (z .rows) (z .columns)
+    → state x [] r ≡ settled (z .columns) (z .rows) w [] → norms ≡ normsOf x (z .columns) (z .rows) → norms ≡ normsAfter s n z
+unfolding normsAfter
+norms-made s n z {w} {x} r e h i =
+    i ∙ ap (λ (y : List Float). normsOf y (z .columns) (z .rows)) (swept-alone (z .columns) (z .rows) w x r h ∙ ap (λ (y : List Float). swept (z .columns) (z .rows) y .work) e)
+
+-- the smaller and the larger size of a matrix that is no taller than wide
+sizes : (m k : ℕ) → m ≤ k → (sideOf m k ≡ m) × (svd.rowsOf m k ≡ k)
+sizes m k h =
+    ⊎-elim
+    (λ (e : m ≡ k). let t = side-tall m k (omega arith) in (t .0 ∙ sym e, t .1 ∙ e))
+    (λ (l : m < k). side-wide m k l)
+    (eq-or-lt-of-le h)
+
+pub values-made : (s : List Float) (n : ℕ) (z : Sides) {norms values : List Float} → Sized n z s → norms ≡ normsAfter s n z
+    → values ≡ sortedOf norms (orderTo norms (z .rows)) (z .rows) → values ≡ singularOf s n z
+unfolding singularOf sOf valuesOf orderOf normsAfter
+values-made s n z p e h =
+    let k = sizes (z .rows) (z .columns) (p .wide) in
+    h ∙ rw (e, k .0, k .1)
+
+-- ---- the finish
+
+module _ (values old : List Float) (b : Bool) (f : b ≡ allFinite values) where
+  tested : (t : Bool) → b ≡ t → valuesReply values ≡ refuse (not t) (9, 0) (finishReply values)
+  unfolding valuesReply
+  tested t h = ap (λ (x : Bool). refuse (not x) (9, 0) (finishReply values)) (sym f ∙ h)
+
+  pub finished-good : (r : Kept) (end : List Float) → b ≡ true → FinishedOutcome values old r end → Finished values old r end
+  finished-good r end h o = record {
+    answer = o .answer ∙ sym (tested true h);
+    count = rw (o .answer) (o .count);
+    out-is = rw (o .answer) (o .out);
+  }
+
+  pub finished-bad : (end : List Float) → b ≡ false → end ≡ zeroed (length values) old → Finished values old (record { answer = NotFinite; count = 0 }) end
+  finished-bad end h e = record { answer = sym (tested false h); count = refl; out-is = e }
+
+-- 0, 8 or 9
+values-number : (values : List Float) → (valuesReply values .0 ≡ 0) ⊎ (8 ≤ valuesReply values .0)
+unfolding valuesReply
+values-number values = pick (allFinite values) (reply-worked (sortedDown values))
+  where
+    pick : (t : Bool) → (finishReply values .0 ≡ 0) ⊎ (8 ≤ finishReply values .0)
+        → (refuse (not t) (9, 0) (finishReply values) .0 ≡ 0) ⊎ (8 ≤ refuse (not t) (9, 0) (finishReply values) .0)
+    pick true h = h
+    pick false h = inr (omega arith)
+
+-- ---- the work
+
+pub worked : (s : List Float) (n : ℕ) (z : Sides) (old values mid : List Float) (r : Kept) {out scratch : List Float} (k : ℕ)
+    → values ≡ singularOf s n z → length values ≡ z .rows → Finished values old r out → length mid ≡ needScratch n (z .rows) → k ≡ needScratch n (z .rows)
+    → scratch ≡ zeroed k mid → Worked s n z old r out scratch
+unfolding zeroed
+worked s n z old values mid r k e l f lm ek h =
+    let m : length mid ≤ k = omega arith in
+    record {
+      answer = f .answer ∙ ap valuesReply e;
+      count = f .count ∙ ap (λ (x : List Float). ifDone (paper (r .answer) .0) (length (finishOf x)) 0) e;
+      out-is = f .out-is ∙ ap₂ (λ (x : ℕ) (y : List Float). ifDone (paper (r .answer) .0) (padded x (finishOf y) old) (zeroed x old)) l e;
+      scratch-is = h ∙ rw (drop-of-length-le mid m, append-nil, ek);
+    }
+
+-- ---- the call
+
+places-small : (n : ℕ) (l : List ℕ) (i : ℕ) (m : List ℕ) → placesFrom n l i m .0 < 8
+unfolding placesFrom
+places-small n l i [] = omega arith
+places-small n l i (q ∷ m) =
+    refuse-small (leb n q) 2 i _ (omega arith) (refuse-small (stands q (take i l)) 3 i _ (omega arith) (places-small n l (suc i) m))
+
+done-small : (t : Bool) (k p : ℕ) → k < 8 → refuse t (k, p) done .0 < 8
+done-small t k p h = refuse-small t k p done h (omega arith)
+
+cut-small : (l : List ℕ) (n cap : ℕ) → cutRefusal l n cap .0 < 8
+cut-small l n cap =
+    let one : 1 < 8 = omega arith in
+    let reg : (b : Reply) → b .0 < 8 → refuse (ltb n 1) (1, 0) (refuse (ltb 12 n) (1, 0) b) .0 < 8
+    = λ b h. refuse-small (ltb n 1) 1 0 (refuse (ltb 12 n) (1, 0) b) one (refuse-small (ltb 12 n) 1 0 b one h) in
+    let listed : places n l .0 < 8 = after-small (placesFrom n l 0 l .0) (placesFrom n l 0 l) (refuse (eqb (length l) 0) (4, 0) done) (places-small n l 0 l) (done-small (eqb (length l) 0) 4 0 (omega arith)) in
+    let set : qubitSet n l .0 < 8 = reg (places n l) listed in
+    after-small (cutSizes n cap .0) (cutSizes n cap) (subsystem n l) (reg _ (done-small (ltb (min cap 13) (n + 1)) 1 0 one))
+    (after-small (qubitSet n l .0) (qubitSet n l) (refuse (eqb (length l) n) (5, 0) done) set (done-small (eqb (length l) n) 5 0 (omega arith)))
+
+rest-small : (s : List Float) (n rows out scratch : ℕ) → rest s n rows out scratch .0 < 8
+unfolding rest lengthTests
+rest-small s n rows out scratch =
+    let six : 6 < 8 = omega arith in
+    after-small (lengthTests n rows (length s) out scratch .0) (lengthTests n rows (length s) out scratch) (components 0 s)
+    (refuse-small (not (eqb (length s) (2 * 2 ^ n))) 6 0 _ six (refuse-small (ltb out rows) 6 2 _ six (done-small (ltb scratch (needScratch n rows)) 6 3 six)))
+    (components-small 0 s)
+
+tests-small : (s : List Float) (n : ℕ) (l : List ℕ) (cap out scratch : ℕ) → tests s n l cap out scratch .0 < 8
+unfolding tests
+tests-small s n l cap out scratch =
+    after-small (cutRefusal l n cap .0) (cutRefusal l n cap) (rest s n (rowsOf n l) out scratch) (cut-small l n cap) (rest-small s n (rowsOf n l) out scratch)
+
+-- refused: nothing lent changes
+pub schmidt-refused : (s : List Float) (n : ℕ) (l : List ℕ) (cap : ℕ) (out scratch : List Float) (r : Answer)
+    → paper r ≡ tests s n l cap (length out) (length scratch) → (paper r .0 ≡ 0 → ⊥)
+    → Schmidt s n l cap out scratch (record { answer = r; count = 0 }) out scratch
+unfolding answerOf
+schmidt-refused s n l cap out scratch r e h =
+    let b : paper r .0 < 8 = rw e (tests-small s n l cap (length out) (length scratch)) in
+    record {
+      answer = stays (paper r) (valuesReply (singularValues s n l)) h ∙ ap (λ (x : Reply). andThen x (valuesReply (singularValues s n l))) e;
+      count = done-old (paper r .0) _ 0 h;
+      out-is = end-old (paper r .0) _ _ out h b;
+      scratch-is = worked-old (paper r .0) _ scratch h b;
+    }
+
+ended : (x : ℕ) (new cleared old : List Float) → (x ≡ 0) ⊎ (8 ≤ x) → ifDone x new cleared ≡ atEnd x new cleared old
+ended zero new cleared old h = refl
+ended (suc x) new cleared old h = worked-new (suc x) cleared old h
+
+-- 1 to 5 do not refuse: 6 and 7 decide, and past them the work on the needed part of scratch
+module _ (s : List Float) (n : ℕ) (l : List ℕ) (cap : ℕ) (out scratch : List Float) (z : Sides) (e : z ≡ sidesOf l n) (c : cutRefusal l n cap .0 ≡ 0) where
+  pub tests-rest : rest s n (z .rows) (length out) (length scratch) ≡ tests s n l cap (length out) (length scratch)
+  unfolding tests
+  tests-rest =
+      let b = rest s n (rowsOf n l) (length out) (length scratch) in
+      ap (λ (y : Sides). rest s n (y .rows) (length out) (length scratch)) e ∙ sym (ap (λ (k : ℕ). after k (cutRefusal l n cap) b) c)
+
+  singular-sides : singularOf s n z ≡ singularValues s n l
+  unfolding singularOf singularValues
+  singular-sides = rw e
+
+  pub schmidt-worked : (r : Kept) {out' scratch' : List Float} (k : ℕ) → k ≡ needScratch n (z .rows)
+      → rest s n (z .rows) (length out) (length scratch) .0 ≡ 0
+      → Worked s n z out r out' scratch' → Schmidt s n l cap out scratch r out' (scratch' ++ drop k scratch)
+  unfolding answerOf zeroed
+  schmidt-worked r k ek d w =
+      let v = valuesReply (singularValues s n l) in
+      let y = tests s n l cap (length out) (length scratch) in
+      let q : andThen y v ≡ v = ap (λ (i : ℕ). after i y v) (ap (λ (i : Reply). i .0) (sym tests-rest) ∙ d) in
+      let a : paper (r .answer) ≡ valuesReply (singularValues s n l) = w .answer ∙ ap valuesReply singular-sides in
+      let p : (paper (r .answer) .0 ≡ 0) ⊎ (8 ≤ paper (r .answer) .0) = rw a (values-number (singularValues s n l)) in
+      let m : z .rows ≡ rowsOf n l = rw e in
+      let x = paper (r .answer) .0 in
+      record {
+        answer = a ∙ sym q;
+        count = w .count ∙ ap (λ (y : List Float). ifDone x (length (finishOf y)) 0) singular-sides;
+        out-is =
+            w .out-is
+            ∙ ap₂ (λ (y : ℕ) (v : List Float). ifDone x (padded y (finishOf v) out) (zeroed y out)) m singular-sides
+            ∙ ended x _ _ out p;
+        scratch-is =
+            ap₂ (λ (y : List Float) (v : ℕ). y ++ drop v scratch) (w .scratch-is) ek
+            ∙ ap (λ (y : ℕ). zeros (needScratch n y) ++ drop (needScratch n y) scratch) m
+            ∙ worked-new x _ scratch p;
+      }
+
+-- ---- only one outcome
+
+pub dense-schmidt-values-one : (s : List Float) (n : ℕ) (l : List ℕ) (cap : ℕ) (out scratch : List Float) (r q : Kept) (out' scratch' out″ scratch″ : List Float)
+    → Schmidt s n l cap out scratch r out' scratch' → Schmidt s n l cap out scratch q out″ scratch″
+    → (r ≡ q) × (out' ≡ out″) × (scratch' ≡ scratch″)
+dense-schmidt-values-one s n l cap out scratch r q out' scratch' out″ scratch″ x y =
+    let e : r .answer ≡ q .answer = paper-one (r .answer) (q .answer) (x .answer ∙ sym (y .answer)) in (
+      kept-same r q e (x .count ∙ rw e (sym (y .count))),
+      x .out-is ∙ rw e (sym (y .out-is)),
+      x .scratch-is ∙ rw e (sym (y .scratch-is)),
+    )

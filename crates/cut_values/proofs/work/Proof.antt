@@ -1,0 +1,60 @@
+-- `cut_values::work` meets its contract: the singular values, scratch zeroed, and the finish. Assumes nothing.
+use mathlib.Core.Path.{sym, _∙_}
+use native.Mathlib.Omega.{arith}
+use lib.Seq.{length-take-le, take-at}
+use Rattle.cut_values.proofs.SchmidtLaws.{front-length, front-in, same-le, worked}
+use borrow.Author.Needs.{needs}
+use Rattle.cut_values.proofs.work.Statement.{statement}
+use Rattle.cut_values.proofs.work.Tie as tie
+
+array-borrow-prefix-values : tie.Need-array-borrow-prefix-values
+array-borrow-prefix-values c = c .before .before .before .pre .0 .few
+
+slice-aggregate-singular-values : tie.Need-slice-aggregate-singular-values
+slice-aggregate-singular-values c = sym (length-take-le _ _ (c .before .before .before .before .pre .0 .few))
+
+singular-values-requires : tie.Need-singular-values-requires
+singular-values-requires c κs = let p = c .before .before .before .before .before .pre in (p .0, length-take-le _ _ (p .0 .few), omega (arith, p .2))
+
+zero-first-requires : tie.Need-zero-first-requires
+zero-first-requires c κs = search needs
+
+array-share-prefix-values : tie.Need-array-share-prefix-values
+array-share-prefix-values c = front-in _ (c .before .before .before .before .before .before .before .singular-values .last .1 .1 .1 .0) _ (c .before .before .before .before .before .before .before .singular-values .kept .1 .1 .1 .0 ∙ length-take-le _ _ (c .before .before .before .before .before .before .before .before .before .before .before .before .before .pre .0 .few))
+
+slice-aggregate-finish-finite : tie.Need-slice-aggregate-finish-finite
+slice-aggregate-finish-finite c = sym (front-length _ (c .before .before .before .before .before .before .before .before .singular-values .last .1 .1 .1 .0) _ (c .before .before .before .before .before .before .before .before .singular-values .kept .1 .1 .1 .0 ∙ length-take-le _ _ (c .before .before .before .before .before .before .before .before .before .before .before .before .before .before .pre .0 .few)))
+
+finish-finite-requires : tie.Need-finish-finite-requires
+finish-finite-requires c κs =
+    let p = c .before .before .before .before .before .before .before .before .before .before .before .before .before .before .before .pre in
+    same-le (front-length _ (c .before .before .before .before .before .before .before .before .before .singular-values .last .1 .1 .1 .0) _ (c .before .before .before .before .before .before .before .before .before .singular-values .kept .1 .1 .1 .0 ∙ length-take-le _ _ (p .0 .few))) (p .1)
+
+same-length : tie.Need-same-length
+same-length c = search needs
+
+same-length-2 : tie.Need-same-length-2
+same-length-2 c = search needs
+
+returns : tie.Need-returns
+returns c =
+    let p = c .before .before .before .before .before .before .before .before .before .before .before .before .before .before .before .before .before .before .pre in
+    let v = c .before .before .before .before .before .before .before .before .before .before .before .before .singular-values in
+    let k = v .kept .1 .1 .1 .0 ∙ length-take-le _ _ (p .0 .few) in
+    let m = v .kept .1 .1 .1 .1 .0 ∙ p .2 in
+    worked _ _ _ _ _ _ (c .before .before .finish-finite .result) _ (take-at _ _ _ k ∙ v .ensures) (front-length _ (v .last .1 .1 .1 .0) _ k) (c .before .before .finish-finite .ensures) m m (c .before .before .before .before .before .before .before .zero-first .ensures)
+
+pub work-spec : {M : Type 1} → statement M
+work-spec =
+    tie.close
+    (tie.spec
+    array-borrow-prefix-values
+    slice-aggregate-singular-values
+    singular-values-requires
+    zero-first-requires
+    array-share-prefix-values
+    slice-aggregate-finish-finite
+    finish-finite-requires
+    same-length
+    same-length-2
+    returns)

@@ -1,0 +1,2 @@
+-- What the contracts of `cut_values` cite.
+pub mod Schmidt

@@ -1,0 +1,119 @@
+// The Schmidt values of a cut of a state: the singular values of its cut matrix, and then the finish.
+use answers::Answer;
+use cut_sides::Sides;
+use finish::Kept;
+ghost use mathlib.Core.Path.{_≡_};
+ghost use Prim.Native.Nat.{_+_, _*_, _^_, _≤_};
+ghost use lib.ListN.{length};
+ghost use Rattle.answers.specs.Paper.{paper};
+ghost use Rattle.cut_values.specs.Schmidt.{lengthTests, rest, normsAfter, singularOf, Sized, Finished, Worked, Schmidt};
+
+// The first slice of a wrong length, or too short: 6.
+fn check_lengths(n: usize, rows: usize, state: usize, out: usize, scratch: usize) -> Answer
+    requires { ⌜ (n ≤ 12) × (rows ≤ 64) ⌝ }
+    ensures { λ r. ⌜ paper r ≡ lengthTests n rows state out scratch ⌝ }
+{
+    let cells = submasks::bit(n);
+    if state != 2 * cells {
+        return Answer::Length(0);
+    }
+    if out < rows {
+        return Answer::Length(2);
+    }
+    if scratch < 8 * cells + 2 * rows {
+        return Answer::Length(3);
+    }
+    Answer::Done
+}
+
+// What a cut can be refused by once its sides are known: 6 and 7.
+fn check(state: &[f64], n: usize, rows: usize, out: usize, scratch: usize) -> Answer
+    requires { ⌜ (n ≤ 12) × (rows ≤ 64) ⌝ }
+    ensures { λ r. ⌜ paper r ≡ rest (now (state .entry)) n rows out scratch ⌝ }
+{
+    let first = check_lengths(n, rows, state.len(), out, scratch);
+    let Answer::Done = first else {
+        return first;
+    };
+    components::check_components(state)
+}
+
+// The norms of the work matrix's columns after the sweeps, which need no V.
+fn sweep(state: &[f64], n: usize, cut: Sides, work: &mut [f64], norms: &mut [f64])
+    requires { ⌜ Sized n cut (now state) × (length (now work) ≡ 2 * 2 ^ n) × (length (now norms) ≡ cut .rows) ⌝ }
+    ensures { λ _. ⌜ now (norms .exit) ≡ normsAfter (now (state .entry)) n cut ⌝ }
+{
+    cut_planes::gather_work(state, n, cut, work);
+    svd_sweeps::settle_alone(work, cut.columns, cut.rows);
+    svd_columns::norms(work, cut.columns, cut.rows, norms);
+}
+
+// The singular values of the cut matrix, falling. Scratch holds the work matrix, and after it the order.
+fn singular_values(state: &[f64], n: usize, cut: Sides, values: &mut [f64], scratch: &mut [f64])
+    requires { ⌜ Sized n cut (now state) × (length (now values) ≡ cut .rows) × (2 * 2 ^ n ≤ length (now scratch)) ⌝ }
+    ensures { λ _. ⌜ now (values .exit) ≡ singularOf (now (state .entry)) n cut ⌝ }
+{
+    let rows = cut.rows;
+    let all = 2 * submasks::bit(n);
+    let mut norms = [0.0f64; 64];
+    sweep(state, n, cut, &mut scratch[..all], &mut norms[..rows]);
+    svd_thin::sort(&norms[..rows], rows, values, &mut scratch[..rows]);
+}
+
+// 9 where a singular value is not finite, before any floor is taken; else the finish decides.
+fn finish_finite(values: &[f64], out: &mut [f64]) -> Kept
+    requires { ⌜ length (now values) ≤ length (now out) ⌝ }
+    ensures { λ r. ⌜ Finished (now (values .entry)) (now (out .entry)) r (now (out .exit)) ⌝ }
+{
+    if values::all_finite(values) {
+        return finish::finish_values(values, out);
+    }
+    complex::zero_first(out, values.len());
+    Kept {
+        answer: Answer::NotFinite,
+        count: 0,
+    }
+}
+
+// The work of an accepted call, over scratch of exactly the needed length: 0, 8 or 9.
+fn work(state: &[f64], n: usize, cut: Sides, out: &mut [f64], scratch: &mut [f64]) -> Kept
+    requires { ⌜ Sized n cut (now state) × (cut .rows ≤ length (now out)) × (length (now scratch) ≡ 8 * 2 ^ n + 2 * cut .rows) ⌝ }
+    ensures { λ r. ⌜ Worked (now (state .entry)) n cut (now (out .entry)) r (now (out .exit)) (now (scratch .exit)) ⌝ }
+{
+    let rows = cut.rows;
+    let mut values = [0.0f64; 64];
+    singular_values(state, n, cut, &mut values[..rows], scratch);
+    complex::zero_first(scratch, scratch.len());
+    finish_finite(&values[..rows], out)
+}
+
+// The Schmidt values of the cut at the front of out, and how many they are.
+pub fn dense_schmidt_values(
+    state: &[f64],
+    n: usize,
+    list: &[usize],
+    cap: usize,
+    out: &mut [f64],
+    scratch: &mut [f64],
+) -> Kept
+    ensures { λ r. ⌜ Schmidt (now (state .entry)) n (now (list .entry)) cap (now (out .entry)) (now (scratch .entry)) r
+        (now (out .exit)) (now (scratch .exit)) ⌝ }
+{
+    let first = cut_sides::cut_refusal(list, n, cap);
+    let Answer::Done = first else {
+        return Kept {
+            answer: first,
+            count: 0,
+        };
+    };
+    let cut = cut_sides::sides_of(list, n);
+    let second = check(state, n, cut.rows, out.len(), scratch.len());
+    let Answer::Done = second else {
+        return Kept {
+            answer: second,
+            count: 0,
+        };
+    };
+    let need = 8 * submasks::bit(n) + 2 * cut.rows;
+    work(state, n, cut, out, &mut scratch[..need])
+}

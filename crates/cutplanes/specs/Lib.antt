@@ -1,2 +1,0 @@
--- What the contracts of `cutplanes` cite.
-pub mod CutPlanes

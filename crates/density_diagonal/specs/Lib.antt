@@ -1,0 +1,3 @@
+-- What the contracts of `density_diagonal` cite.
+pub mod Corners
+pub mod CornerRows

@@ -1,0 +1,2 @@
+-- What the contracts of `density_trace` cite.
+pub mod Trace

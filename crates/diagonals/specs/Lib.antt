@@ -1,3 +1,0 @@
--- What the contracts of `diagonals` cite.
-pub mod Corners
-pub mod CornerRows

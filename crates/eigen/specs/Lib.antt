@@ -1,2 +1,0 @@
--- What the contracts of `eigen` cite.
-pub mod Sweeping

@@ -1,0 +1,4 @@
+-- What the contracts of `eigen_pair` cite.
+pub mod Decide
+pub mod CellPlanes
+pub mod Turn

@@ -1,0 +1,2 @@
+-- What the contracts of `eigen_sweeps` cite.
+pub mod Sweeping

@@ -1,4 +1,0 @@
--- What the contracts of `eigenpair` cite.
-pub mod Decide
-pub mod CellPlanes
-pub mod Turn

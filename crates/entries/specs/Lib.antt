@@ -1,8 +1,0 @@
--- What the contracts of `entries` cite.
-pub mod Squares
-pub mod Mirrored
-pub mod Entries
-pub mod Blocks
-pub mod Pairs
-pub mod Filled
-pub mod EntryLaws

@@ -1,2 +1,0 @@
--- What the contracts of `factors` cite.
-pub mod Columns

@@ -1,2 +1,0 @@
--- What the contracts of `fills` cite.
-pub mod Sources

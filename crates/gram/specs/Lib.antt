@@ -1,3 +1,0 @@
--- What the contracts of `gram` cite.
-pub mod Gram
-pub mod Terms

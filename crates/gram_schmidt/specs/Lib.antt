@@ -1,3 +1,0 @@
--- What the contracts of `gram_schmidt` cite.
-pub mod Room
-pub mod GramSchmidt

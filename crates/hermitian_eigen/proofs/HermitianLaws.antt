@@ -1,0 +1,186 @@
+-- Laws of the statements; `hermitian-eigen-one`: only one outcome meets the contract. Assumes nothing.
+use mathlib.Core.Path.{_≡_, refl, sym, ap, ap₂, _∙_}
+use mathlib.Core.Bool.{Bool, true, false, not}
+use mathlib.Core.Logic.{_⊎_, inl, inr}
+use mathlib.Core.List.{List, _++_, append-nil}
+use Prim.Native.Nat.{ℕ, _+_, _*_, _≤_, _<_}
+use native.Mathlib.Omega.{arith}
+use lib.Dec.{ltb, eqb}
+use borrow.Author.Tests.{lt-ltb, le-ltb, ltb-false, eq-eqb, ne-eqb, eqb-true, not-false}
+use lib.ListN.{length, drop, drop-of-length-le}
+use lib.Ieee.{Float}
+use Rattle.answers.specs.declared.Answer.{Answer}
+use Rattle.answers.specs.Paper.{Reply, paper, done, refuse, andThen, ifDone}
+use Rattle.answers.proofs.PaperLaws.{refuse-done, stays, paper-one, worked-new, worked-old, end-old}
+use Rattle.complex.specs.Cells.{components}
+use Rattle.complex.proofs.CellLaws.{components-small}
+use Rattle.complex.specs.Zeros.{zeros, zeroed}
+use Rattle.values.specs.Lists.{allFinite}
+use Rattle.svd.proofs.SvdLaws.{zeroed-all, join-end}
+use Rattle.hermitian_eigen.specs.Hermitian.{needVectors, needScratch, tests, eigenvaluesOf, eigenvectorsOf, finiteResults, endTest, answerOf, Eigen, Exact, Finished, Worked}
+
+-- ---- the refusals
+
+module _ (a : List Float) (dim values vectors scratch : ℕ) where
+  pub tests-low : dim < 1 → (1, 0) ≡ tests a dim values vectors scratch
+  unfolding tests
+  tests-low h = rw (lt-ltb _ _ h)
+
+  module _ (h1 : 1 ≤ dim) where
+    pub tests-high : 64 < dim → (1, 0) ≡ tests a dim values vectors scratch
+    unfolding tests
+    tests-high h = rw (le-ltb _ _ h1, lt-ltb _ _ h)
+
+    module _ (h2 : dim ≤ 64) where
+      pub tests-matrix : (length a ≡ 2 * (dim * dim) → ⊥) → (6, 0) ≡ tests a dim values vectors scratch
+      unfolding tests
+      tests-matrix h = rw (le-ltb _ _ h1, le-ltb _ _ h2, ne-eqb _ _ h)
+
+      module _ (h3 : length a ≡ 2 * (dim * dim)) where
+        pub tests-values : values < dim → (6, 1) ≡ tests a dim values vectors scratch
+        unfolding tests
+        tests-values h = rw (le-ltb _ _ h1, le-ltb _ _ h2, eq-eqb _ _ h3, lt-ltb _ _ h)
+
+        module _ (h4 : dim ≤ values) where
+          pub tests-vectors : vectors < needVectors dim → (6, 2) ≡ tests a dim values vectors scratch
+          unfolding tests
+          tests-vectors h = rw (le-ltb _ _ h1, le-ltb _ _ h2, eq-eqb _ _ h3, le-ltb _ _ h4, lt-ltb _ _ h)
+
+          module _ (h5 : needVectors dim ≤ vectors) where
+            pub tests-scratch : scratch < needScratch dim → (6, 3) ≡ tests a dim values vectors scratch
+            unfolding tests
+            tests-scratch h = rw (le-ltb _ _ h1, le-ltb _ _ h2, eq-eqb _ _ h3, le-ltb _ _ h4, le-ltb _ _ h5, lt-ltb _ _ h)
+
+            pub tests-cells : needScratch dim ≤ scratch → components 0 a ≡ tests a dim values vectors scratch
+            unfolding tests
+            tests-cells h = rw (le-ltb _ _ h1, le-ltb _ _ h2, eq-eqb _ _ h3, le-ltb _ _ h4, le-ltb _ _ h5, le-ltb _ _ h)
+
+tests-small : (a : List Float) (dim values vectors scratch : ℕ) → tests a dim values vectors scratch .0 < 8
+unfolding tests
+tests-small a dim values vectors scratch =
+    pick (ltb dim 1) (ltb 64 dim) (eqb (length a) (2 * (dim * dim))) (ltb values dim) (ltb vectors (needVectors dim)) (ltb scratch (needScratch dim)) (components 0 a)
+    (components-small 0 a)
+  where
+    pick : (p q r s t u : Bool) (b : Reply) → b .0 < 8
+        → refuse p (1, 0) (refuse q (1, 0) (refuse (not r) (6, 0) (refuse s (6, 1) (refuse t (6, 2) (refuse u (6, 3) b))))) .0 < 8
+    pick true q r s t u b h = omega arith
+    pick false true r s t u b h = omega arith
+    pick false false false s t u b h = omega arith
+    pick false false true true t u b h = omega arith
+    pick false false true false true u b h = omega arith
+    pick false false true false false true b h = omega arith
+    pick false false true false false false b h = h
+
+-- the side and the lengths of a call that is not refused
+pub record Accepted (dim a values vectors scratch : ℕ) : Type 0 where
+  pub side : dim ≤ 64
+  pub a-is : a ≡ 2 * (dim * dim)
+  pub values-fit : dim ≤ values
+  pub vectors-fit : needVectors dim ≤ vectors
+  pub scratch-fits : needScratch dim ≤ scratch
+
+pub accepted : (a : List Float) (dim values vectors scratch : ℕ) → tests a dim values vectors scratch .0 ≡ 0 → Accepted dim (length a) values vectors scratch
+unfolding tests
+accepted a dim values vectors scratch e =
+    let t0 = refuse-done (ltb dim 1) 0 0 _ e in
+    let t1 = refuse-done (ltb 64 dim) 0 0 _ (t0 .1) in
+    let t2 = refuse-done (not (eqb (length a) (2 * (dim * dim)))) 5 0 _ (t1 .1) in
+    let t3 = refuse-done (ltb values dim) 5 1 _ (t2 .1) in
+    let t4 = refuse-done (ltb vectors (needVectors dim)) 5 2 _ (t3 .1) in
+    let t5 = refuse-done (ltb scratch (needScratch dim)) 5 3 (components 0 a) (t4 .1) in
+    record {
+      side = ltb-false 64 dim (t1 .0);
+      a-is = eqb-true (length a) (2 * (dim * dim)) (not-false (eqb (length a) (2 * (dim * dim))) (t2 .0));
+      values-fit = ltb-false values dim (t3 .0);
+      vectors-fit = ltb-false vectors (needVectors dim) (t4 .0);
+      scratch-fits = ltb-false scratch (needScratch dim) (t5 .0);
+    }
+
+-- ---- the end
+
+pub finite-first : (values vectors : List Float) → allFinite values ≡ false → false ≡ finiteResults values vectors
+unfolding finiteResults
+finite-first values vectors a = rw a
+
+pub finite-second : (values vectors : List Float) {t : Bool} → allFinite values ≡ true → t ≡ allFinite vectors → t ≡ finiteResults values vectors
+unfolding finiteResults
+finite-second values vectors a b = rw a b
+
+-- all finite, or not
+pub finished-good : (values vectors : List Float) (r : Answer) → paper r ≡ done → finiteResults values vectors ≡ true → Finished values vectors r values vectors
+unfolding endTest
+finished-good values vectors r e h = record { answer = e ∙ rw h; values-are = rw e; vectors-are = rw e }
+
+pub finished-bad : (values vectors : List Float) (r : Answer) {values' vectors' : List Float} → paper r ≡ (9, 0) → finiteResults values vectors ≡ false
+    → values' ≡ zeroed (length values) values → vectors' ≡ zeroed (length vectors) vectors → Finished values vectors r values' vectors'
+unfolding endTest
+finished-bad values vectors r e h ea ec =
+    record { answer = e ∙ rw h; values-are = rw e (ea ∙ zeroed-all values); vectors-are = rw e (ec ∙ zeroed-all vectors) }
+
+-- 0 or 9
+end-number : (values vectors : List Float) → (endTest values vectors .0 ≡ 0) ⊎ (8 ≤ endTest values vectors .0)
+unfolding endTest
+end-number values vectors = pick (finiteResults values vectors)
+  where
+    pick : (b : Bool) → (refuse (not b) (9, 0) done .0 ≡ 0) ⊎ (8 ≤ refuse (not b) (9, 0) done .0)
+    pick true = inl refl
+    pick false = inr (omega arith)
+
+pub worked : (a : List Float) (dim la : ℕ) (values₀ vectors₀ scratch₀ scratch : List Float) {values vectors values' vectors' scratch' : List Float} (r : Answer)
+    → Exact dim la (length values₀) (length vectors₀) (length scratch₀)
+    → length values ≡ length values₀ → length vectors ≡ length vectors₀
+    → values ≡ eigenvaluesOf a dim → vectors ≡ eigenvectorsOf a dim
+    → (k : ℕ) → k ≡ length scratch₀ → length scratch ≡ length scratch₀ → scratch' ≡ zeroed k scratch → Finished values vectors r values' vectors'
+    → Worked a dim r values' vectors' scratch'
+unfolding zeroed
+worked a dim la values₀ vectors₀ scratch₀ scratch r e lv lw ev ew k ek lt z g =
+    let l : length scratch ≤ k = omega arith in
+    record {
+      answer = g .answer ∙ ap₂ endTest ev ew;
+      values-are = g .values-are ∙ ap₂ (λ (x : List Float) (y : ℕ). ifDone (paper r .0) x (zeros y)) ev (lv ∙ e .values-are);
+      vectors-are = g .vectors-are ∙ ap₂ (λ (x : List Float) (y : ℕ). ifDone (paper r .0) x (zeros y)) ew (lw ∙ e .vectors-are);
+      scratch-is = z ∙ rw (drop-of-length-le scratch l, append-nil, ek, e .scratch-is);
+    }
+
+-- an accepted call, and a refused one
+pub eigen-worked : (a : List Float) (dim : ℕ) (values vectors scratch : List Float) (r : Answer) {values' vectors' scratch' : List Float}
+    → andThen (tests a dim (length values) (length vectors) (length scratch)) (endTest (eigenvaluesOf a dim) (eigenvectorsOf a dim))
+    ≡ endTest (eigenvaluesOf a dim) (eigenvectorsOf a dim)
+    → Worked a dim r values' vectors' scratch'
+    → Eigen a dim values vectors scratch r (values' ++ drop dim values) (vectors' ++ drop (2 * (dim * dim)) vectors) (scratch' ++ drop (6 * (dim * dim) + 2 * dim) scratch)
+unfolding answerOf zeroed
+eigen-worked a dim values vectors scratch r e w =
+    let p : (paper r .0 ≡ 0) ⊎ (8 ≤ paper r .0) = rw (w .answer) (end-number (eigenvaluesOf a dim) (eigenvectorsOf a dim)) in
+    record {
+      answer = w .answer ∙ sym e;
+      values-are = rw (w .values-are) (join-end (paper r .0) (eigenvaluesOf a dim) (zeros dim) (drop dim values) values p);
+      vectors-are = rw (w .vectors-are) (join-end (paper r .0) (eigenvectorsOf a dim) (zeros (needVectors dim)) (drop (needVectors dim) vectors) vectors p);
+      scratch-is = rw (w .scratch-is) (worked-new (paper r .0) (zeros (needScratch dim) ++ drop (needScratch dim) scratch) scratch p);
+    }
+
+pub eigen-refused : (a : List Float) (dim : ℕ) (values vectors scratch : List Float) (r : Answer)
+    → paper r ≡ tests a dim (length values) (length vectors) (length scratch) → (paper r .0 ≡ 0 → ⊥)
+    → Eigen a dim values vectors scratch r values vectors scratch
+unfolding answerOf
+eigen-refused a dim values vectors scratch r e h =
+    let b : paper r .0 < 8 = rw e (tests-small a dim (length values) (length vectors) (length scratch)) in
+    let end = endTest (eigenvaluesOf a dim) (eigenvectorsOf a dim) in
+    record {
+      answer = stays (paper r) end h ∙ ap (λ (x : Reply). andThen x end) e;
+      values-are = end-old (paper r .0) _ _ values h b;
+      vectors-are = end-old (paper r .0) _ _ vectors h b;
+      scratch-is = worked-old (paper r .0) _ scratch h b;
+    }
+
+-- ---- only one outcome
+
+pub hermitian-eigen-one : (a : List Float) (dim : ℕ) (values vectors scratch : List Float) (r q : Answer) (values' vectors' scratch' values″ vectors″ scratch″ : List Float)
+    → Eigen a dim values vectors scratch r values' vectors' scratch' → Eigen a dim values vectors scratch q values″ vectors″ scratch″
+    → (r ≡ q) × (values' ≡ values″) × (vectors' ≡ vectors″) × (scratch' ≡ scratch″)
+hermitian-eigen-one a dim values vectors scratch r q values' vectors' scratch' values″ vectors″ scratch″ x y =
+    let e : r ≡ q = paper-one r q (x .answer ∙ sym (y .answer)) in (
+      e,
+      x .values-are ∙ rw e (sym (y .values-are)),
+      x .vectors-are ∙ rw e (sym (y .vectors-are)),
+      x .scratch-is ∙ rw e (sym (y .scratch-is)),
+    )

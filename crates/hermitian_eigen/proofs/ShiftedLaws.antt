@@ -1,0 +1,69 @@
+-- Laws of the shifted matrix. Assumes nothing.
+use mathlib.Core.Path.{_≡_, refl, sym, ap, ap₂, _∙_}
+use mathlib.Core.List.{List, [], _++_, append-nil}
+use Prim.Native.Nat.{ℕ, zero, suc, _+_, _*_, _/_, _%_, _<_}
+use native.Mathlib.Numerals.{add-one}
+use native.Mathlib.Nat.{add-zero, mul-add-div-right, mul-add-mod-self-right, div-eq-of-lt, mod-eq-of-lt}
+use native.Mathlib.Omega.{arith}
+use lib.Dec.{eqb}
+use lib.Ieee.{Float}
+use lib.Seq.{drop-nil}
+use Rattle.complex.specs.declared.Complex.{Complex}
+use Rattle.modulus.specs.Modulus.{modulusOf}
+use Rattle.complex.specs.Cells.{cellAt, cellsOf, written}
+use Rattle.complex.proofs.CellLaws.{cell-written}
+use Rattle.complex.specs.Zeros.{zeroFloat}
+use Rattle.svd_load.specs.Numbers.{numbersOf}
+use Rattle.svd_load.specs.Loading.{planesOf}
+use Rattle.hermitian_eigen.specs.Shifted.{larger, peakTo, shiftOf, shiftedCell, shiftedAt, shiftedOf}
+
+pub peak-none : (a : List Float) → zeroFloat ≡ peakTo a 0
+unfolding peakTo
+peak-none a = refl
+
+pub peak-more : (a : List Float) (k : ℕ) {x y : Float} {z : Complex} → x ≡ peakTo a k → z ≡ cellAt a k → y ≡ modulusOf z → larger x y ≡ peakTo a (k + 1)
+unfolding peakTo
+peak-more a k e f g = rw (add-one, ← e, ← f, g)
+
+-- ---- columns of dim cells
+
+pub split : (dim k r : ℕ) → r < dim → ((k * dim + r) / dim ≡ k) × ((k * dim + r) % dim ≡ r)
+split dim k r h =
+    let pos : 0 < dim = omega arith in
+    (mul-add-div-right pos k r ∙ rw (div-eq-of-lt h) (add-zero k), mul-add-mod-self-right k dim r ∙ mod-eq-of-lt h)
+
+-- the cell r of the column col
+pub shifted-at : (shift : Float) (a : List Float) (dim col r : ℕ) → r < dim
+    → shiftedCell shift (eqb col r) (cellAt a (col * dim + r)) ≡ shiftedAt shift a dim (col * dim + r)
+unfolding shiftedAt
+shifted-at shift a dim col r h =
+    let s = split dim col r h in
+    rw (s .0, s .1)
+
+-- a cell of a list of cells
+pub cell-of : (m k : ℕ) (f : ℕ → Complex) → k < m → cellAt (cellsOf m f) k ≡ f k
+unfolding written
+cell-of m k f h =
+    let e : written m f [] ≡ cellsOf m f = rw (drop-nil, append-nil) in
+    rw e at (cell-written m k f [] h)
+
+-- numbers and planes of two functions that give the same
+pub numbers-same : (m : ℕ) (f g : ℕ → Float) → ((k : ℕ) → k < m → f k ≡ g k) → numbersOf m f ≡ numbersOf m g
+unfolding numbersOf
+numbers-same zero f g h = refl
+numbers-same (suc m) f g h =
+    let e : f m ≡ g m = h m (omega arith) in
+    rw (numbers-same m f g (λ k l. h k (omega arith)), e)
+
+planes-same : (m : ℕ) (f g : ℕ → Complex) → ((k : ℕ) → k < m → f k ≡ g k) → planesOf m f ≡ planesOf m g
+unfolding planesOf
+planes-same m f g h =
+    ap₂ (λ (p q : List Float). p ++ q) (numbers-same m (λ i. f i .re) (λ i. g i .re) (λ k l. ap (λ (z : Complex). z .re) (h k l)))
+    (numbers-same m (λ i. f i .im) (λ i. g i .im) (λ k l. ap (λ (z : Complex). z .im) (h k l)))
+
+-- the planes that the sweeps start from are those of the shifted matrix
+pub shifted-planes : (a : List Float) (dim : ℕ) → planesOf (dim * dim) (shiftedAt (shiftOf a dim) a dim) ≡ planesOf (dim * dim) (cellAt (shiftedOf a dim))
+unfolding shiftedOf
+shifted-planes a dim =
+    let f = shiftedAt (shiftOf a dim) a dim in
+    planes-same (dim * dim) f (cellAt (cellsOf (dim * dim) f)) (λ k l. sym (cell-of (dim * dim) k f l))

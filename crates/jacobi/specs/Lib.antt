@@ -1,4 +1,0 @@
--- What the contracts of `jacobi` cite, and what they imply.
-pub mod Sweeping
-pub mod Untouched
-pub mod Marks

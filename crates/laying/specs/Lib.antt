@@ -1,2 +1,0 @@
--- What the contracts of `laying` cite.
-pub mod Laying

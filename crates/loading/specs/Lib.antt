@@ -1,3 +1,0 @@
--- What the contracts of `loading` cite.
-pub mod Numbers
-pub mod Loading

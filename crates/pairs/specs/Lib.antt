@@ -1,4 +1,0 @@
--- What the contracts of `pairs` cite, and a case that tells them from a slip.
-pub mod Decisions
-pub mod Turns
-pub mod ZeroProducts

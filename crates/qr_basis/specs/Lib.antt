@@ -1,0 +1,2 @@
+-- What the contracts of `qr_basis` cite.
+pub mod Matrix

@@ -1,0 +1,2 @@
+-- What the contracts of `qr_layout` cite.
+pub mod Laying

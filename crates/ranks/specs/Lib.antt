@@ -1,2 +1,0 @@
--- What the contracts of `ranks` cite.
-pub mod Ranks

@@ -1,0 +1,1 @@
+-- The contracts of `root_guesses` cite what `numbers` says of a root.

@@ -1,1 +1,0 @@
--- The contracts of `roots` cite what `numbers` says of a root.

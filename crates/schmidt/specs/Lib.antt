@@ -1,2 +1,0 @@
--- What the contracts of `schmidt` cite.
-pub mod Schmidt

@@ -1,0 +1,2 @@
+-- What the contracts of `site_lines` cite.
+pub mod Sources

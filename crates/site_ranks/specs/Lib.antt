@@ -1,0 +1,2 @@
+-- What the contracts of `site_ranks` cite.
+pub mod Ranks

@@ -1,0 +1,2 @@
+-- What the contracts of `svd_columns` cite.
+pub mod Columns

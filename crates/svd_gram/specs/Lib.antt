@@ -1,0 +1,3 @@
+-- What the contracts of `svd_gram` cite.
+pub mod Gram
+pub mod Terms

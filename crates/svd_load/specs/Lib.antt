@@ -1,0 +1,3 @@
+-- What the contracts of `svd_load` cite.
+pub mod Numbers
+pub mod Loading

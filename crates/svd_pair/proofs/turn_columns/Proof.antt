@@ -1,0 +1,64 @@
+-- `svd_pair::turn_columns` meets its contract. The loop's invariant: the list is that with the rows below r turned. Assumes nothing.
+use borrow.Author.Needs.{needs}
+use mathlib.Core.Path.{_≡_, refl}
+use Prim.Native.Nat.{ℕ, _≤_, _-_}
+use lib.ListN.{length}
+use denote.Ref.{now}
+use Rattle.complex.proofs.Loops.{stop}
+use Rattle.svd_pair.specs.Turns.{turnRows}
+use Rattle.svd_pair.proofs.TurnsLaws.{turnRows-none, turnRows-more}
+use Rattle.svd_pair.proofs.turn_columns.Statement.{statement}
+use Rattle.svd_pair.proofs.turn_columns.Tie as tie
+
+abbrev Inv-loop : tie.InvT-loop
+Inv-loop xs₀ c a b m f r₀ xs r = (r ≤ m) × (length xs ≡ length xs₀) × (xs ≡ turnRows f c a b r xs₀)
+
+abbrev μ-loop : tie.MeasureT-loop
+μ-loop xs₀ c a b m f r₀ xs r = m - r
+
+loop-holds : tie.Need-loop-holds Inv-loop μ-loop
+loop-holds c = (search needs, refl, cc (turnRows-none _ _ _ _ _))
+
+add-turn-row : tie.Need-add-turn-row Inv-loop μ-loop
+add-turn-row c = search needs
+
+add-turn-row-2 : tie.Need-add-turn-row-2 Inv-loop μ-loop
+add-turn-row-2 c = search needs
+
+turn-row-requires : tie.Need-turn-row-requires Inv-loop μ-loop
+turn-row-requires c κs = search needs
+
+add-r : tie.Need-add-r Inv-loop μ-loop
+add-r c = search needs
+
+loop-less : tie.Need-loop-less Inv-loop μ-loop
+loop-less c = search needs
+
+loop-again : tie.Need-loop-again Inv-loop μ-loop
+loop-again c =
+    let turned = c .before .before in
+    (search needs, search needs, rw (turned .turn-row .ensures, turned .before .before .before .loop .inv .2, turnRows-more))
+
+same-length : tie.Need-same-length Inv-loop μ-loop
+same-length c = search needs
+
+returns : tie.Need-returns Inv-loop μ-loop
+returns c =
+    let a = c .before .before .before .args in
+    stop (λ (k : ℕ). turnRows (a .f) (a .c) (a .a) (a .b) k (now (a .xs))) (c .before .loop .inv .2) (search needs) (search needs)
+
+pub turn-columns-spec : {M : Type 1} → statement M
+turn-columns-spec =
+    tie.close
+    (tie.spec
+    Inv-loop
+    μ-loop
+    loop-holds
+    add-turn-row
+    add-turn-row-2
+    turn-row-requires
+    add-r
+    loop-less
+    loop-again
+    same-length
+    returns)

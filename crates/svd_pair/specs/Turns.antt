@@ -1,0 +1,45 @@
+-- Two columns of a matrix of c cells turned in place: the whole list after the rows below a count. Assumes nothing.
+use mathlib.Core.List.{List}
+use Prim.Native.Nat.{ℕ, zero, suc, _+_}
+use lib.Ieee.{Float}
+use Rattle.complex.specs.declared.Complex.{Complex}
+use Rattle.complex.specs.Arithmetic.{complexOf, product, sum, negation, conjugate}
+use Rattle.complex.specs.Planes.{planeAt, setPlane}
+use Rattle.complex.specs.Zeros.{zeroFloat}
+use Rattle.svd_pair.specs.declared.Factors.{Factors}
+use Rattle.svd_pair.specs.declared.Decision.{Decision}
+use Rattle.svd_pair.specs.declared.Decision.the-variants.{Leave, Turn}
+
+-- a real number as a complex one, with imaginary part +0.0
+abbrev pub real : Float → Complex
+real x = complexOf x zeroFloat
+
+-- the cosine and the sine are complex numbers; so the negated sine has imaginary part -0.0
+unfoldable pub factorsOf : Float → Float → Complex → Factors
+factorsOf cosine sine phase =
+    record {
+      pp = real cosine;
+      pq = product (real sine) (conjugate phase);
+      qp = negation (real sine);
+      qq = product (real cosine) (conjugate phase);
+    }
+
+unfoldable pub newP : Factors → Complex → Complex → Complex
+newP f ap aq = sum (product (f .pp) ap) (product (f .pq) aq)
+
+unfoldable pub newQ : Factors → Complex → Complex → Complex
+newQ f ap aq = sum (product (f .qp) ap) (product (f .qq) aq)
+
+-- the cells i and j are turned, both from their old values
+unfoldable pub turnRow : Factors → ℕ → ℕ → ℕ → List Float → List Float
+turnRow f c i j xs = setPlane (setPlane xs c i (newP f (planeAt xs c i) (planeAt xs c j))) c j (newQ f (planeAt xs c i) (planeAt xs c j))
+
+-- the rows below k of the columns that start at the cells a and b
+unfoldable pub turnRows : Factors → ℕ → ℕ → ℕ → ℕ → List Float → List Float
+turnRows f c a b zero xs = xs
+turnRows f c a b (suc k) xs = turnRow f c (a + k) (b + k) (turnRows f c a b k xs)
+
+-- what a decision does to two columns of m rows
+unfoldable pub applied : Decision → ℕ → ℕ → ℕ → ℕ → List Float → List Float
+applied Leave c a b m xs = xs
+applied (Turn cosine sine phase) c a b m xs = turnRows (factorsOf cosine sine phase) c a b m xs

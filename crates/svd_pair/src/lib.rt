@@ -1,0 +1,165 @@
+// Inner: what the Jacobi sweeps do with one pair of columns of a matrix that is lent as planes: the
+// decision by its Gram sums, and the turn.
+use complex::Complex;
+use root_guesses::Guesses;
+use svd_gram::GramSums;
+ghost use mathlib.Core.Path.{_≡_};
+ghost use Prim.Native.Nat.{_+_, _*_, _<_, _≤_};
+ghost use lib.ListN.{length};
+ghost use Rattle.complex.specs.Arithmetic.{scaled};
+ghost use Rattle.complex.specs.Zeros.{zeroFloat};
+ghost use Rattle.svd_pair.specs.Decisions.{verdict, decisionOf, tangentOf, turnAt};
+ghost use Rattle.svd_pair.specs.Turns.{factorsOf, newP, newQ, turnRow, turnRows, applied};
+ghost use Rattle.svd_pair.specs.ZeroProducts.{RealTurn};
+
+const JACOBI_REL_TOL: f64 = 1e-15;
+
+// ---- the decision
+
+// What is to be done with a pair of columns.
+pub enum Decision {
+    Leave,
+    Turn {
+        cosine: f64,
+        sine: f64,
+        phase: Complex,
+    },
+}
+
+// The tangent of the angle: the one of smaller magnitude.
+fn tangent(tau: f64, near: Guesses) -> f64
+    ensures { λ r. ⌜ r ≡ tangentOf tau ⌝ }
+{
+    let x = 1.0 + tau * tau;
+    let root = root_guesses::root_near(x, root_guesses::sharpened(x, near.root, near.root_over));
+    // no processor foretells the sign of tau, so it picks two numbers and no way: the first `if` is
+    // compiled to a maximum, the second to an index
+    let mut size = tau;
+    if tau < 0.0 {
+        size = -tau;
+    }
+    let mut one = 1.0;
+    if tau >= 0.0 {
+        one = -1.0;
+    }
+    one / (size + root)
+}
+
+// The turn by the tangent t, for the mixed sum pq of modulus beta.
+fn turn_at(pq: Complex, beta: f64, t: f64, near: Guesses) -> Decision
+    ensures { λ r. ⌜ r ≡ turnAt pq beta t ⌝ }
+{
+    let x = 1.0 + t * t;
+    let cosine = 1.0
+        / root_guesses::root_near(x, root_guesses::sharpened(x, near.secant, near.cosine));
+    Decision::Turn {
+        cosine,
+        sine: t * cosine,
+        phase: pq.div_real(beta),
+    }
+}
+
+// The decision on a pair with these Gram sums.
+pub fn decide(g: GramSums) -> Decision
+    ensures { λ r. ⌜ verdict r ≡ verdict (decisionOf g) ⌝ }
+{
+    let off = g.pq.norm_sqr();
+    if off <= JACOBI_REL_TOL * JACOBI_REL_TOL * g.pp * g.qq {
+        return Decision::Leave;
+    }
+    let near = root_guesses::guess_roots(g.qq - g.pp, off);
+    let beta = modulus::modulus_near(g.pq, near.modulus);
+    let tau = (g.qq - g.pp) / (2.0 * beta);
+    turn_at(g.pq, beta, tangent(tau, near), near)
+}
+
+// ---- the turn of two columns
+
+// The factors of a turn: the new p is pp times the old p and pq times the old q, the new q alike.
+pub struct Factors {
+    pub pp: Complex,
+    pub pq: Complex,
+    pub qp: Complex,
+    pub qq: Complex,
+}
+
+impl Factors {
+    // The cosine and the sine are complex numbers with imaginary part +0.0: signs of zeros hang on it.
+    pub fn new(cosine: f64, sine: f64, phase: Complex) -> Factors
+        ensures { λ r. ⌜ r ≡ factorsOf cosine sine phase ⌝ }
+    {
+        let c = Complex {
+            re: cosine,
+            im: 0.0,
+        };
+        let s = Complex { re: sine, im: 0.0 };
+        let back = phase.conj();
+        Factors {
+            pp: c,
+            pq: s.mul(back),
+            qp: s.neg(),
+            qq: c.mul(back),
+        }
+    }
+
+    // The cosine is real but for its +0.0, so z, the old p times +0.0, is what is left of the product with it.
+    pub fn new_p(self, ap: Complex, z: Complex, aq: Complex) -> Complex
+        requires { ⌜ RealTurn self × (z ≡ scaled ap zeroFloat) ⌝ }
+        ensures { λ r. ⌜ r ≡ newP self ap aq ⌝ }
+    {
+        let turned = Complex {
+            re: self.pp.re * ap.re - z.im,
+            im: self.pp.re * ap.im + z.re,
+        };
+        turned.add(self.pq.mul(aq))
+    }
+
+    // The negated sine has -0.0: the same z with the other sign.
+    pub fn new_q(self, ap: Complex, z: Complex, aq: Complex) -> Complex
+        requires { ⌜ RealTurn self × (z ≡ scaled ap zeroFloat) ⌝ }
+        ensures { λ r. ⌜ r ≡ newQ self ap aq ⌝ }
+    {
+        let turned = Complex {
+            re: self.qp.re * ap.re + z.im,
+            im: self.qp.re * ap.im - z.re,
+        };
+        turned.add(self.qq.mul(aq))
+    }
+}
+
+// The cells i and j of a matrix of c cells are turned, both from their old values.
+fn turn_row(xs: &mut [f64], c: usize, i: usize, j: usize, f: Factors)
+    requires { ⌜ (length (now xs) ≡ 2 * c) × (i < c) × (j < c) × RealTurn f ⌝ }
+    ensures { λ _. ⌜ now (xs .exit) ≡ turnRow f c i j (now (xs .entry)) ⌝ }
+{
+    let ap = complex::read_plane(xs, c, i);
+    let aq = complex::read_plane(xs, c, j);
+    let z = ap.scale(0.0);
+    complex::write_plane(xs, c, i, f.new_p(ap, z, aq));
+    complex::write_plane(xs, c, j, f.new_q(ap, z, aq));
+}
+
+// The columns that start at the cells a and b, of m rows, are turned.
+pub fn turn_columns(xs: &mut [f64], c: usize, a: usize, b: usize, m: usize, f: Factors)
+    requires { ⌜ (length (now xs) ≡ 2 * c) × (a + m ≤ c) × (b + m ≤ c) × RealTurn f ⌝ }
+    ensures { λ _. ⌜ now (xs .exit) ≡ turnRows f c a b m (now (xs .entry)) ⌝ }
+{
+    for r in 0..m {
+        turn_row(xs, c, a + r, b + r, f);
+    }
+}
+
+// What is decided is done to two columns of m rows.
+pub fn apply(xs: &mut [f64], c: usize, a: usize, b: usize, m: usize, d: Decision)
+    requires { ⌜ (length (now xs) ≡ 2 * c) × (a + m ≤ c) × (b + m ≤ c) ⌝ }
+    ensures { λ _. ⌜ now (xs .exit) ≡ applied d c a b m (now (xs .entry)) ⌝ }
+{
+    match d {
+        Decision::Leave => {}
+        Decision::Turn {
+            cosine,
+            sine,
+            phase,
+        } => turn_columns(xs, c, a, b, m, Factors::new(cosine, sine, phase)),
+    }
+}

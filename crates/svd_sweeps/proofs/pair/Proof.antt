@@ -1,0 +1,68 @@
+-- `svd_sweeps::pair` meets its contract: the decision is that of the definition, since its number and values are, and both matrices and the counts follow it. Assumes nothing.
+use Rattle.svd_pair.proofs.DecisionsLaws.{verdict-one}
+use Rattle.svd_sweeps.proofs.SweepingLaws.{column-fits, pair-made}
+use native.Mathlib.Omega.{arith}
+use Prim.Native.Nat.{_+_, _*_, _≤_}
+use borrow.Author.Needs.{needs}
+use Rattle.svd_sweeps.proofs.pair.Statement.{statement}
+use Rattle.svd_sweeps.proofs.pair.Tie as tie
+
+-- each of the columns ends within its matrix
+work-p : (c : tie.Start) → c .args .p * c .args .m + c .args .m ≤ c .args .n * c .args .m
+work-p c = column-fits _ _ _ (c .pre .1)
+
+work-q : (c : tie.Start) → c .args .q * c .args .m + c .args .m ≤ c .args .n * c .args .m
+work-q c = column-fits _ _ _ (c .pre .2)
+
+mul-a : tie.Need-mul-a
+mul-a c = omega (arith, work-p (c .before .before))
+
+mul-b : tie.Need-mul-b
+mul-b c = omega (arith, work-q (c .before .before))
+
+mul-gram-of : tie.Need-mul-gram-of
+mul-gram-of c = search needs
+
+gram-of-requires : tie.Need-gram-of-requires
+gram-of-requires c κs = omega (arith, work-p (c .before .before .before), work-q (c .before .before .before))
+
+decide-requires : tie.Need-decide-requires
+decide-requires c κs = search needs
+
+mul-apply : tie.Need-mul-apply
+mul-apply c = search needs
+
+apply-requires : tie.Need-apply-requires
+apply-requires c κs = omega (arith, work-p (c .before .before .before .before .before .before), work-q (c .before .before .before .before .before .before))
+
+apply-to-v-requires : tie.Need-apply-to-v-requires
+apply-to-v-requires c κs = search needs
+
+count-requires : tie.Need-count-requires
+count-requires c κs = search needs
+
+same-length : tie.Need-same-length
+same-length c = search needs
+
+same-length-2 : tie.Need-same-length-2
+same-length-2 c = search needs
+
+returns : tie.Need-returns
+returns c = pair-made _ _ _ _ _ _ _ _ _ (verdict-one _ _ (rw (c .before .before .before .before .before .before .before .before .before .before .gram-of .ensures) at (c .before .before .before .before .before .before .before .before .before .decide .ensures))) (c .before .before .before .before .before .before .before .apply .ensures) (c .before .before .before .apply-to-v .ensures) (c .count .ensures)
+
+pub pair-spec : {M : Type 1} → statement M
+pair-spec =
+    tie.close
+    (tie.spec
+    mul-a
+    mul-b
+    mul-gram-of
+    gram-of-requires
+    decide-requires
+    mul-apply
+    apply-requires
+    apply-to-v-requires
+    count-requires
+    same-length
+    same-length-2
+    returns)

@@ -1,0 +1,187 @@
+// Inner: the one-sided Jacobi sweeps of the SVD, over a work matrix and V that are lent as planes.
+// Row r of column p of a matrix of m rows is its cell p * m + r.
+use svd_pair::Decision;
+ghost use mathlib.Core.Path.{_≡_};
+ghost use mathlib.Core.Bool.{true};
+ghost use mathlib.Core.List.{[]};
+ghost use Prim.Native.Nat.{_+_, _-_, _*_, _<_, _≤_};
+ghost use lib.ListN.{length, getD};
+ghost use Rattle.svd_pair.specs.Turns.{applied};
+ghost use Rattle.svd_sweeps.specs.Sweeping.{ValueRoom, VRoom, SweepRoom, state, counted, pairStep, pairsTo, sweepOf, settled};
+ghost use Rattle.svd_sweeps.specs.Marks.{look, Marked, Seen};
+
+const MAX_SVD_SWEEPS: usize = 100;
+
+// Sweeps begun, whether the last one turned nothing, and pairs turned in all.
+pub struct Sweeps {
+    pub begun: usize,
+    pub quiet: bool,
+    pub turned: usize,
+}
+
+// The counts after a decision.
+pub fn count(d: Decision, s: Sweeps) -> Sweeps
+    requires { ⌜ s .turned < 1000000 ⌝ }
+    ensures { λ r. ⌜ r ≡ counted d s ⌝ }
+{
+    match d {
+        Decision::Leave => s,
+        Decision::Turn {
+            cosine: _,
+            sine: _,
+            phase: _,
+        } => Sweeps {
+            begun: s.begun,
+            quiet: false,
+            turned: s.turned + 1,
+        },
+    }
+}
+
+// What is decided for the pair p, q is done to V too, where there is one.
+fn apply_to_v(v: &mut [f64], n: usize, p: usize, q: usize, d: Decision)
+    requires { ⌜ VRoom n (length (now v)) × (n ≤ 64) × (p < n) × (q < n) ⌝ }
+    ensures { λ _. ⌜ now (v .exit) ≡ applied d (n * n) (p * n) (q * n) n (now (v .entry)) ⌝ }
+{
+    if v.len() == 0 {
+        return;
+    }
+    svd_pair::apply(v, n * n, p * n, q * n, n, d);
+}
+
+// The pair p, q.
+fn pair(
+    work: &mut [f64],
+    v: &mut [f64],
+    m: usize,
+    n: usize,
+    p: usize,
+    q: usize,
+    s: Sweeps,
+) -> Sweeps
+    requires { ⌜ SweepRoom m n (length (now work)) (length (now v)) × (p < n) × (q < n) × (s .turned < 1000000) ⌝ }
+    ensures { λ r. ⌜ state (now (work .exit)) (now (v .exit)) r ≡ pairStep m n p q (state (now (work .entry)) (now (v .entry)) s) ⌝ }
+{
+    let a = p * m;
+    let b = q * m;
+    let d = svd_pair::decide(svd_gram::gram_of(work, n * m, a, b, m));
+    svd_pair::apply(work, n * m, a, b, m, d);
+    apply_to_v(v, n, p, q, d);
+    count(d, s)
+}
+
+// Whether neither column was turned since the look with the number `last`.
+pub fn unchanged(marks: &[usize], p: usize, q: usize, last: usize) -> bool
+    requires { ⌜ (p < length (now marks)) × (q < length (now marks)) ⌝ }
+    ensures { λ r. ⌜ (r ≡ true → (getD (now (marks .entry)) p 0 < last) × (getD (now (marks .entry)) q 0 < last)) ⌝ }
+{
+    if marks[p] < last {
+        return marks[q] < last;
+    }
+    false
+}
+
+// The pair p, q, which is passed over where neither column was turned since it was left: it would be left again.
+fn visit(
+    work: &mut [f64],
+    v: &mut [f64],
+    marks: &mut [usize],
+    m: usize,
+    n: usize,
+    p: usize,
+    q: usize,
+    s: Sweeps,
+) -> Sweeps
+    requires { ⌜ SweepRoom m n (length (now work)) (length (now v)) × Marked n p q s (length (now marks)) × Seen m n (look (s .begun) p q) (now marks) (now work) ⌝ }
+    ensures done { λ r. ⌜ state (now (work .exit)) (now (v .exit)) r ≡ pairStep m n p q (state (now (work .entry)) (now (v .entry)) s) ⌝ }
+    ensures seen { λ _. ⌜ Seen m n (look (s .begun) p q + 1) (now (marks .exit)) (now (work .exit)) ⌝ }
+{
+    let now = s.begun * 4096 + p * 64 + q;
+    if unchanged(marks, p, q, now - 4096) {
+        return s;
+    }
+    let t = pair(work, v, m, n, p, q, s);
+    if t.turned == s.turned {
+        return t;
+    }
+    marks[p] = now;
+    marks[q] = now;
+    t
+}
+
+// The pairs of the column p with each later one.
+fn column(
+    work: &mut [f64],
+    v: &mut [f64],
+    marks: &mut [usize],
+    m: usize,
+    n: usize,
+    p: usize,
+    s: Sweeps,
+) -> Sweeps
+    requires { ⌜ SweepRoom m n (length (now work)) (length (now v)) × (p < n) × (s .turned + n < 1000000) × (1 ≤ s .begun) × (s .begun ≤ 1000)
+        × (length (now marks) ≡ 64) × Seen m n (look (s .begun) p 0) (now marks) (now work) ⌝ }
+    ensures done { λ r. ⌜ state (now (work .exit)) (now (v .exit)) r ≡ pairsTo m n p (n - (p + 1)) (state (now (work .entry)) (now (v .entry)) s) ⌝ }
+    ensures seen { λ _. ⌜ Seen m n (look (s .begun) (p + 1) 0) (now (marks .exit)) (now (work .exit)) ⌝ }
+{
+    let mut t = s;
+    for q in (p + 1)..n {
+        t = visit(work, v, marks, m, n, p, q, t);
+    }
+    t
+}
+
+// One sweep: all pairs p < q, rising.
+fn sweep(
+    work: &mut [f64],
+    v: &mut [f64],
+    marks: &mut [usize],
+    m: usize,
+    n: usize,
+    s: Sweeps,
+) -> Sweeps
+    requires { ⌜ SweepRoom m n (length (now work)) (length (now v)) × (s .begun < 1000) × (s .turned < 900000)
+        × (length (now marks) ≡ 64) × Seen m n (look (s .begun + 1) 0 0) (now marks) (now work) ⌝ }
+    ensures done { λ r. ⌜ state (now (work .exit)) (now (v .exit)) r ≡ sweepOf m n (state (now (work .entry)) (now (v .entry)) s) ⌝ }
+    ensures seen { λ _. ⌜ Seen m n (look (s .begun + 2) 0 0) (now (marks .exit)) (now (work .exit)) ⌝ }
+{
+    let mut t = Sweeps {
+        begun: s.begun + 1,
+        quiet: true,
+        turned: s.turned,
+    };
+    for p in 0..n {
+        t = column(work, v, marks, m, n, p, t);
+    }
+    t
+}
+
+// Up to 100 sweeps, and none after a quiet one, over the work matrix of m rows and n columns and over V, which may be empty.
+pub fn settle(work: &mut [f64], v: &mut [f64], m: usize, n: usize) -> Sweeps
+    requires { ⌜ SweepRoom m n (length (now work)) (length (now v)) ⌝ }
+    ensures { λ r. ⌜ state (now (work .exit)) (now (v .exit)) r ≡ settled m n (now (work .entry)) (now (v .entry)) ⌝ }
+{
+    let mut marks = [4096usize; 64];
+    let mut s = Sweeps {
+        begun: 0,
+        quiet: false,
+        turned: 0,
+    };
+    for k in 0..MAX_SVD_SWEEPS {
+        s = sweep(work, v, &mut marks, m, n, s);
+        if s.quiet {
+            break;
+        }
+    }
+    s
+}
+
+// The same on the work matrix alone, where no V is wanted. The contract names an empty V; no V changes the work matrix or the
+// counts (`settled-alike`, proofs/Values.antt).
+pub fn settle_alone(work: &mut [f64], m: usize, n: usize) -> Sweeps
+    requires { ⌜ ValueRoom m n (length (now work)) ⌝ }
+    ensures { λ r. ⌜ state (now (work .exit)) [] r ≡ settled m n (now (work .entry)) [] ⌝ }
+{
+    let mut none = [0.0f64; 0];
+    settle(work, &mut none, m, n)
+}

@@ -1,0 +1,2 @@
+-- What the contracts of `svd_thin` cite.
+pub mod Thin

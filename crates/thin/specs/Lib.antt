@@ -1,2 +1,0 @@
--- What the contracts of `thin` cite.
-pub mod Thin

@@ -1,2 +1,0 @@
--- What the contracts of `traces` cite.
-pub mod Trace
