@@ -11,7 +11,9 @@
  *    3 a listed qubit stood earlier: place      8 nothing is left above a floor, or a trace is zero
  *    4 the list is empty                        9 a result is not finite
  *
- * in that order. 1 to 7 change nothing lent. On 8 and 9 the needed output is +0.0 (trace scaling leaves its
+ * in that order. 10 is the program's (a malformed file). 11 to 16 belong to single calls: 11 a component off the grid
+ * (place = cell), 12 a qubit not listed, 13 a site number not held, or held, 14 no free run, 15 sixty-four sites held,
+ * 16 a broken lot. 1 to 7 change nothing lent. On 8 and 9 the needed output is +0.0 (trace scaling leaves its
  * matrix as it was). Needed scratch is +0.0 after 0, 8 and 9. What is longer than needed is never touched past
  * the need. On any refusal a returned count, rank or base is 0 and a returned yes or no is no.
  *

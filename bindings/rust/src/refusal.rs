@@ -3,9 +3,9 @@
 /// A refusal by the paper's table: a number and a place.
 #[derive(Clone, Copy, Debug, PartialEq, Eq, Hash)]
 pub struct Refusal {
-    /// 1 to 9, as the table in `include/zegrafult.h` has them.
+    /// 1 to 16, as the table in `include/zegrafult.h` has them.
     pub number: u32,
-    /// A list position (2, 3), a slice (6) or a cell (7), from 0; otherwise 0.
+    /// A list position (2, 3), a slice (6) or a cell (7, 11), from 0; otherwise 0.
     pub place: usize,
 }
 
@@ -23,6 +23,13 @@ impl Refusal {
             7 => format!("Cell {place} is not a number, infinite or above 2^200 in magnitude."),
             8 => "The data have no weight: nothing is left above the floor, or the trace is zero.".into(),
             9 => "The arithmetic gave a number that is not finite.".into(),
+            10 => "The file is not a cut file.".into(),
+            11 => format!("Cell {place} is not a whole number of 2^-18 of magnitude at most 1."),
+            12 => "The qubit is not listed.".into(),
+            13 => "The site number is not held, or is held already.".into(),
+            14 => "No run of free cells is long enough.".into(),
+            15 => "Sixty-four sites are held.".into(),
+            16 => "The lot's header is broken.".into(),
             other => format!("The answer {other} is not in the table."),
         }
     }

@@ -3,7 +3,7 @@ use mathlib.Core.Path.{_≡_, refl, sym, ap, ap₂, _∙_}
 use Prim.Native.Nat.{ℕ, zero, suc}
 use lib.Ieee.{Float, binary64, add, sub, mul, neg, ofBits}
 use Rattle.complex.specs.declared.Complex.{Complex}
-use Rattle.complex.specs.Arithmetic.{sum, product, conjugate}
+use Rattle.complex.specs.Arithmetic.{sumOf, product, conjugate}
 use Rattle.density_entries.specs.Entries.{total}
 use Rattle.signs.proofs.Signs.{neg-neg, mul-neg, mul-swap, add-swap}
 use Rattle.agreement.specs.Signs.{Alike, zeros}
@@ -35,7 +35,7 @@ module _ (a b : Complex) where
 -- two sums of the same terms the other way round
 total-conjugate : (m : ℕ) (f g : ℕ → Complex) → ((e : ℕ) → f e .re ≡ g e .re) → ((e : ℕ) → Alike (f e .im) (neg (g e .im)))
     → (total m f .re ≡ total m g .re) × Alike (total m f .im) (neg (total m g .im))
-unfolding total sum neg ofBits
+unfolding total sumOf neg ofBits
 total-conjugate zero f g p q = (refl, zeros)
 total-conjugate (suc m) f g p q =
     let i = total-conjugate m f g p q in

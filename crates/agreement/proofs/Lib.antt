@@ -2,8 +2,8 @@
 pub mod AcrossLaws
 pub mod AgreementLaws
 pub mod Once
-pub mod Orders
 pub mod RenumberedLaws
 pub mod ReorderedLaws
 pub mod SameDensity
 pub mod SignsLaws
+pub mod Theorems

@@ -23,7 +23,7 @@ use Rattle.complex.specs.declared.Complex.{Complex}
 use Rattle.complex.specs.Arithmetic.{product, conjugate}
 use Rattle.complex.specs.Cells.{cellAt}
 use Rattle.cuts.specs.Cut.{cutCell}
-use Rattle.density_entries.specs.Entries.{total, amplitude, lowerEntry}
+use Rattle.density_entries.specs.Entries.{total, settingAmplitude, lowerEntry}
 use Rattle.density_entries.specs.Squares.{mirroredEntry}
 use Rattle.agreement.proofs.SameDensity.{spread-submask, entry-same}
 use Rattle.agreement.specs.Signs.{same}
@@ -119,14 +119,14 @@ module _ (n : ℕ) (l l' : List ℕ) (order : Reordered l l') (e : qubitSet n l 
       ∙ sym (traced-submask n l' (is-listed n l' (ap (λ (x : ℕ × ℕ). x .0) (set-kept n l l' order e))) i)
 
   module _ (s : List Float) where
-    same-amplitude : (t i : ℕ) → amplitude n l s t i ≡ amplitude n l' s (renumber l l' t) i
+    same-amplitude : (t i : ℕ) → settingAmplitude n l s t i ≡ settingAmplitude n l' s (renumber l l' t) i
     same-amplitude t i = ap₂ (λ (a b : ℕ). cellAt s (bitOr a b)) (sym (renumbered t)) (same-base i)
 
     -- the sums of the lower half are those of the other list, under the other numbers
     same-sums : (t u : ℕ) → lowerEntry n l s t u ≡ lowerEntry n l' s (renumber l l' t) (renumber l l' u)
     same-sums t u =
-        entry-same (2 ^ (n - length l)) (amplitude n l s) (λ x i. amplitude n l' s (renumber l l' x) i) (λ x i h. same-amplitude x i) t u
-        ∙ ap (λ (k : ℕ). total (2 ^ (n - k)) (λ i. product (amplitude n l' s (renumber l l' t) i) (conjugate (amplitude n l' s (renumber l l' u) i)))) (same-length n l l' order e)
+        entry-same (2 ^ (n - length l)) (settingAmplitude n l s) (λ x i. settingAmplitude n l' s (renumber l l' x) i) (λ x i h. same-amplitude x i) t u
+        ∙ ap (λ (k : ℕ). total (2 ^ (n - k)) (λ i. product (settingAmplitude n l' s (renumber l l' t) i) (conjugate (settingAmplitude n l' s (renumber l l' u) i)))) (same-length n l l' order e)
 
     -- THE DENSITY IS ONLY RENUMBERED, signs of zeros aside
     pub same-entries : (t u : ℕ)
@@ -135,4 +135,4 @@ module _ (n : ℕ) (l l' : List ℕ) (order : Reordered l l') (e : qubitSet n l 
         subst (λ (z : Complex). AlikeCells (mirroredEntry (lowerEntry n l s) t u) z)
         (ap₂ (λ (x y : Complex). cond (leb (renumber l l' u) (renumber l l' t)) x (conjugate y)) (same-sums t u) (same-sums u t))
         (either-half (leb u t) (leb (renumber l l' u) (renumber l l' t)) (lowerEntry n l s t u) (conjugate (lowerEntry n l s u t))
-        (across (2 ^ (n - length l)) (amplitude n l s) t u))
+        (across (2 ^ (n - length l)) (settingAmplitude n l s) t u))

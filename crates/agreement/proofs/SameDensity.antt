@@ -18,13 +18,13 @@ use Rattle.qubits.specs.Spread.{spread, maskFrom, named}
 use Rattle.qubits.proofs.NamedLaws.{named-lt, named-count, sizes-product}
 use Rattle.qubits.proofs.OtherLaws.{traced-submask}
 use Rattle.complex.specs.declared.Complex.{Complex}
-use Rattle.complex.specs.Arithmetic.{sum, product, conjugate}
+use Rattle.complex.specs.Arithmetic.{sumOf, product, conjugate}
 use Rattle.complex.specs.Cells.{cellAt, written}
 use Rattle.complex.proofs.CellLaws.{cell-written}
 use Rattle.cut_sides.specs.Sides.{side, Parted}
 use Rattle.cut_sides.proofs.SideLaws.{named-yes, named-no}
 use Rattle.cuts.specs.Cut.{cutCell}
-use Rattle.density_entries.specs.Entries.{total, amplitude, lowerEntry, densityCell}
+use Rattle.density_entries.specs.Entries.{total, settingAmplitude, lowerEntry, densityCell}
 use Rattle.density_entries.specs.Squares.{mirroredEntry}
 use Rattle.agreement.specs.FromCut.{numberOf, cutAmplitude, cutEntry, cutDensityCell}
 
@@ -54,7 +54,7 @@ spread-submask m (q ∷ l) t =
 pub total-same : (m : ℕ) (f g : ℕ → Complex) → ((e : ℕ) → e < m → f e ≡ g e) → total m f ≡ total m g
 unfolding total
 total-same zero f g h = refl
-total-same (suc m) f g h = ap₂ sum (total-same m f g (λ e l. h e (omega arith))) (h m (omega arith))
+total-same (suc m) f g h = ap₂ sumOf (total-same m f g (λ e l. h e (omega arith))) (h m (omega arith))
 
 module _ (m : ℕ) (a b : ℕ → ℕ → Complex) (h : (t e : ℕ) → e < m → a t e ≡ b t e) where
   pub entry-same : (t u : ℕ) → total m (λ e. product (a t e) (conjugate (a u e))) ≡ total m (λ e. product (b t e) (conjugate (b u e)))
@@ -76,7 +76,7 @@ module _ (n : ℕ) (l : List ℕ) (p : Parted l n) where
 
   module _ (s o : List Float) where
     -- one amplitude: the cell of the cut matrix holds the state's
-    pub same-amplitude : (t e : ℕ) → e < 2 ^ (n - length l) → cutAmplitude n l (written (2 ^ n) (cutCell s n l) o) t e ≡ amplitude n l s t e
+    pub same-amplitude : (t e : ℕ) → e < 2 ^ (n - length l) → cutAmplitude n l (written (2 ^ n) (cutCell s n l) o) t e ≡ settingAmplitude n l s t e
     same-amplitude t e h =
         let M = written (2 ^ n) (cutCell s n l) o in
         let X = e * 2 ^ side l n + numberOf n l t in
@@ -104,5 +104,5 @@ module _ (n : ℕ) (l : List ℕ) (p : Parted l n) where
     pub same-density : (k : ℕ) → cutDensityCell n l (written (2 ^ n) (cutCell s n l) o) k ≡ densityCell n l s k
     same-density k =
         mirrored-same (cutEntry n l (written (2 ^ n) (cutCell s n l) o)) (lowerEntry n l s)
-        (entry-same (2 ^ (n - length l)) (cutAmplitude n l (written (2 ^ n) (cutCell s n l) o)) (amplitude n l s) same-amplitude)
+        (entry-same (2 ^ (n - length l)) (cutAmplitude n l (written (2 ^ n) (cutCell s n l) o)) (settingAmplitude n l s) same-amplitude)
         (k / 2 ^ length l) (k % 2 ^ length l)

@@ -21,7 +21,7 @@ use Rattle.qubits.proofs.OtherLaws.{others-length}
 use Rattle.cut_sides.specs.declared.Sides.{Sides}
 use Rattle.cut_sides.specs.Sides.{cutRefusal, Parted, side, namedRows, sidesOf, sideList, othersShort, sideAnswer, SmallerSide, sidePart}
 use Rattle.cut_sides.proofs.SideLaws.{is-parted, part-of-side}
-use Rattle.certificates.specs.Accepted.{Accepted, acceptedText, Printed}
+use Rattle.certificates.specs.Accepted.{Printable, acceptedText, Printed}
 
 -- ---- an accepted cut
 
@@ -52,7 +52,7 @@ pub accepted-is : (n : ℕ) (list : List ℕ) (values : List Float) (cut : Sides
 unfolding acceptedText
 accepted-is n list values cut part e f = ap₂ (λ (c : Sides) (p : List ℕ). listing n (length list) (c .rows) (c .columns) p values) e f
 
-pub accepted-short : (n : ℕ) (list : List ℕ) (values : List Float) → Accepted list n values → length (acceptedText n list values) ≤ 2048
+pub accepted-short : (n : ℕ) (list : List ℕ) (values : List Float) → Printable list n values → length (acceptedText n list values) ≤ 2048
 unfolding acceptedText
 accepted-short n list values a =
     omega (

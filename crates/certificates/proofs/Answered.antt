@@ -21,24 +21,24 @@ use Rattle.values.proofs.ListLaws.{length-scaled, kept-le}
 use Rattle.values.specs.Sort.{sortedDown}
 use Rattle.values.proofs.SortLaws.{length-sort}
 use Rattle.finish.specs.declared.Kept.{Kept}
-use Rattle.finish.specs.Finish.{floorOf, scaled, kept, finishSorted, finishOf, padded}
+use Rattle.finish.specs.Finish.{floorOf, normalised, keptValues, finishSorted, finishOf, padded}
 use Rattle.svd_thin.specs.Thin.{valuesOf}
 use Rattle.svd.specs.Svd.{sideOf, sOf}
 use Rattle.svd.proofs.SvdLaws.{side-wide, side-tall}
-use Rattle.cut_values.specs.Schmidt.{rowsOf, columnsOf, singularValues, rest, tests, valuesReply, answerOf, Schmidt}
+use Rattle.cut_values.specs.Schmidt.{cutRows, cutColumns, singularValues, cutValuesRest, cutValuesTests, valuesReply, cutValuesAnswer, Schmidt}
 use Rattle.cut_values.proofs.SchmidtLaws.{same-le}
 use Rattle.lines.specs.Lines.{refusedLine}
-use Rattle.certificates.specs.Accepted.{Accepted, acceptedText}
+use Rattle.certificates.specs.Accepted.{Printable, acceptedText}
 use Rattle.certificates.specs.Certificate.{cutReply, cutText}
 
 -- ---- how many values there are
 
-length-of-scaled : (l : List Float) → length (scaled l) ≡ length l
-unfolding scaled
+length-of-scaled : (l : List Float) → length (normalised l) ≡ length l
+unfolding normalised
 length-of-scaled l = length-scaled _ l
 
 few-left : (values : List Float) → length (finishOf values) ≤ length values
-unfolding finishSorted kept
+unfolding finishSorted keptValues
 few-left values =
     let s = sortedDown values in
     omega (arith, length-of-scaled (keptAbove (floorOf s) s), kept-le (floorOf s) s, length-sort values (length values))
@@ -48,12 +48,12 @@ side-first : (m k : ℕ) → sideOf m k ≤ m
 side-first m k =
     ⊎-elim (λ (h : k ≤ m). omega (arith, side-tall m k h .0)) (λ (h : m < k). omega (arith, side-wide m k h .0)) (le-or-lt k m)
 
-few-singular : (s : List Float) (n : ℕ) (l : List ℕ) → length (singularValues s n l) ≤ rowsOf n l
+few-singular : (s : List Float) (n : ℕ) (l : List ℕ) → length (singularValues s n l) ≤ cutRows n l
 unfolding singularValues sOf valuesOf sortedOf
-few-singular s n l = same-le (length-numbers (sideOf (rowsOf n l) (columnsOf n l)) _) (side-first (rowsOf n l) (columnsOf n l))
+few-singular s n l = same-le (length-numbers (sideOf (cutRows n l) (cutColumns n l)) _) (side-first (cutRows n l) (cutColumns n l))
 
 -- a file's cut has at most 16 rows
-pub few-rows : (n : ℕ) (l : List ℕ) → n ≤ 9 → rowsOf n l ≤ 16
+pub few-rows : (n : ℕ) (l : List ℕ) → n ≤ 9 → cutRows n l ≤ 16
 few-rows n l h =
     let low : side l n ≤ length l = min-le-left (length l) (n - length l) in
     let high : side l n ≤ n - length l = min-le-right (length l) (n - length l) in
@@ -77,7 +77,7 @@ module _ (state : List Float) (n : ℕ) (list : List ℕ) (values scratch : List
     (r : Kept) (end scratch' : List Float) (is : Schmidt state n list 10 values scratch r end scratch') where
   answer-is : paper (r .answer) ≡ cutReply state n list
   unfolding cutReply
-  answer-is = is .answer ∙ ap₂ (answerOf state n list 10) lv ls
+  answer-is = is .answer ∙ ap₂ (cutValuesAnswer state n list 10) lv ls
 
   pub count-few : n ≤ 9 → r .count ≤ 16
   count-few h =
@@ -97,12 +97,12 @@ module _ (state : List Float) (n : ℕ) (list : List ℕ) (values scratch : List
     done-is = sym (ap (λ (x : Reply). x .0) answer-is) ∙ e
 
     taken : cutRefusal list n 10 .0 ≡ 0
-    unfolding cutReply answerOf tests
+    unfolding cutReply cutValuesAnswer cutValuesTests
     taken =
-        andThen-done (cutRefusal list n 10) (rest state n (rowsOf n list) 16 4128)
-        (andThen-done (tests state n list 10 16 4128) (valuesReply (singularValues state n list)) done-is .0) .0
+        andThen-done (cutRefusal list n 10) (cutValuesRest state n (cutRows n list) 16 4128)
+        (andThen-done (cutValuesTests state n list 10 16 4128) (valuesReply (singularValues state n list)) done-is .0) .0
 
-    pub cut-accepted : n ≤ 9 → length end ≡ 16 → Accepted list n (take (r .count) end)
+    pub cut-accepted : n ≤ 9 → length end ≡ 16 → Printable list n (take (r .count) end)
     cut-accepted h l =
         let c = count-few h in
         record { small = h; taken = taken; few = omega (arith, length-take-le (r .count) end (omega arith)) }
@@ -113,8 +113,8 @@ module _ (state : List Float) (n : ℕ) (list : List ℕ) (values scratch : List
         let x = paper (r .answer) .0 in
         ap₂ (λ (k : ℕ) (l : List Float). take k l)
         (is .count ∙ sym (done-new x (length v) 0 e))
-        (is .out-is ∙ sym (end-new x (padded (rowsOf n list) v values) (zeroed (rowsOf n list) values) values e))
-        ∙ front (rowsOf n list) v values
+        (is .out-is ∙ sym (end-new x (padded (cutRows n list) v values) (zeroed (cutRows n list) values) values e))
+        ∙ front (cutRows n list) v values
 
     pub cut-done : acceptedText n list (take (r .count) end) ≡ cutText state n list
     unfolding cutText

@@ -2,4 +2,4 @@
 pub mod AcceptedLaws
 pub mod Answered
 pub mod CertificateLaws
-pub mod Lengths
+pub mod Theorems

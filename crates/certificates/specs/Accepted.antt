@@ -13,7 +13,7 @@ unfoldable pub acceptedText : ℕ → List ℕ → List Float → List ℕ
 acceptedText n list values = listing n (length list) (2 ^ side list n) (2 ^ (n - side list n)) (sideList list n) values
 
 -- what these lines ask: a cut that is not refused by 1 to 5, and the values that a cut of 9 qubits can have
-pub record Accepted (list : List ℕ) (n : ℕ) (values : List Float) : Type 0 where
+pub record Printable (list : List ℕ) (n : ℕ) (values : List Float) : Type 0 where
   pub small : n ≤ 9
   pub taken : cutRefusal list n 10 .0 ≡ 0
   pub few : length values ≤ 16

@@ -5,23 +5,23 @@ use Prim.Native.Nat.{ℕ, _*_, _^_}
 use lib.Ieee.{Float}
 use Rattle.answers.specs.Paper.{Reply, ifDone}
 use Rattle.cutfile.specs.Bytes.{word32}
-use Rattle.cutfile.specs.Layout.{headerAnswer, entryAt, componentAt}
+use Rattle.cutfile.specs.Layout.{headerAnswer, fileEntry, componentAt}
 use Rattle.decode.specs.Tables.{table}
 use Rattle.lines.specs.Lines.{refusedLine}
 use Rattle.finish.specs.Finish.{finishOf}
-use Rattle.cut_values.specs.Schmidt.{singularValues, answerOf}
+use Rattle.cut_values.specs.Schmidt.{singularValues, cutValuesAnswer}
 use Rattle.certificates.specs.Accepted.{acceptedText}
 
 -- the list and the state that a file of k entries and n qubits holds
 abbrev pub listOf : List ℕ → ℕ → List ℕ
-listOf file k = table k (entryAt file)
+listOf file k = table k (fileEntry file)
 
 abbrev pub stateOf : List ℕ → ℕ → ℕ → List Float
 stateOf file n k = table (2 * 2 ^ n) (componentAt file k)
 
 -- the library's answer with export cap 10, room for 16 values and 4,128 numbers of scratch
 unfoldable pub cutReply : List Float → ℕ → List ℕ → Reply
-cutReply state n list = answerOf state n list 10 16 4128
+cutReply state n list = cutValuesAnswer state n list 10 16 4128
 
 -- the lines of a cut, accepted or refused by the library
 unfoldable pub cutText : List Float → ℕ → List ℕ → List ℕ

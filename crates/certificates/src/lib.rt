@@ -6,12 +6,12 @@ ghost use Prim.Native.Nat.{_*_, _^_, _≤_};
 ghost use lib.ListN.{length};
 ghost use Rattle.io.specs.Counts.{Counts};
 ghost use Rattle.cutfile.specs.Layout.{LongEnough};
-ghost use Rattle.certificates.specs.Accepted.{Accepted, acceptedText, Printed};
+ghost use Rattle.certificates.specs.Accepted.{Printable, acceptedText, Printed};
 ghost use Rattle.certificates.specs.Certificate.{cutText, fileText, certificateOf};
 
 // Inner: puts the lines of a cut that the library accepts.
 pub fn put_accepted(list: &[usize], n: usize, values: &[f64], out: &mut [u8]) -> usize
-    requires { ⌜ Accepted (now list) n (now values) × (2048 ≤ length (now out)) ⌝ }
+    requires { ⌜ Printable (now list) n (now values) × (2048 ≤ length (now out)) ⌝ }
     ensures { λ r. ⌜ Printed (acceptedText n (now (list .entry)) (now (values .entry))) (now (out .entry)) r (now (out .exit)) ⌝ }
 {
     let mut others = [0usize; 9];

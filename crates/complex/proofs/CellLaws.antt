@@ -1,7 +1,7 @@
 -- Laws of the cells. Assumes nothing.
 use mathlib.Core.Path.{_≡_, refl, ap₂, _∙_}
 use mathlib.Core.Bool.{true, false, not}
-use mathlib.Core.List.{List, [], _∷_, _++_, append-assoc}
+use mathlib.Core.List.{List, [], _∷_, _++_, append-assoc, append-nil}
 use Prim.Native.Nat.{ℕ, zero, suc, _+_, _*_, _/_, _≤_, _<_}
 use native.Mathlib.Numerals.{add-one}
 use native.Mathlib.Omega.{arith}
@@ -9,7 +9,7 @@ use lib.Ieee.{Float, nan}
 use lib.ListN.{length, getD, drop, length-append, length-drop, List·getD-append, drop-of-length-le}
 use mathlib.Core.Logic.{⊎-elim}
 use native.Mathlib.Nat.{eq-or-lt-of-le}
-use lib.Seq.{set-at, drop-cons, getD-at, append-snoc}
+use lib.Seq.{set-at, drop-cons, getD-at, append-snoc, drop-nil}
 use Rattle.answers.specs.Paper.{done}
 use Rattle.answers.proofs.PaperLaws.{refuse-small}
 use Rattle.numbers.specs.Numbers.{allowed}
@@ -108,3 +108,10 @@ pub components-small : (i : ℕ) (l : List Float) → components i l .0 < 8
 unfolding components
 components-small i [] = omega arith
 components-small i (x ∷ l) = refuse-small (not (allowed x)) 7 (i / 2) (components (suc i) l) (omega arith) (components-small (suc i) l)
+
+-- a cell of a list of cells
+pub cell-of : (m k : ℕ) (f : ℕ → Complex) → k < m → cellAt (cellsOf m f) k ≡ f k
+unfolding written
+cell-of m k f h =
+    let e : written m f [] ≡ cellsOf m f = rw (drop-nil, append-nil) in
+    rw e at (cell-written m k f [] h)

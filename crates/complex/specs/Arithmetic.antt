@@ -12,8 +12,8 @@ product a b =
     complexOf (Ieee.sub binary64 (Ieee.mul binary64 (a .re) (b .re)) (Ieee.mul binary64 (a .im) (b .im)))
     (Ieee.add binary64 (Ieee.mul binary64 (a .re) (b .im)) (Ieee.mul binary64 (a .im) (b .re)))
 
-unfoldable pub sum : Complex → Complex → Complex
-sum a b = complexOf (Ieee.add binary64 (a .re) (b .re)) (Ieee.add binary64 (a .im) (b .im))
+unfoldable pub sumOf : Complex → Complex → Complex
+sumOf a b = complexOf (Ieee.add binary64 (a .re) (b .re)) (Ieee.add binary64 (a .im) (b .im))
 
 unfoldable pub difference : Complex → Complex → Complex
 difference a b = complexOf (Ieee.sub binary64 (a .re) (b .re)) (Ieee.sub binary64 (a .im) (b .im))

@@ -2,7 +2,7 @@
 ghost use mathlib.Core.Path.{_≡_};
 ghost use Prim.Native.Nat.{_+_, _*_, _<_, _≤_};
 ghost use lib.ListN.{length};
-ghost use Rattle.complex.specs.Arithmetic.{complexOf, product, sum, difference, negation, conjugate, scaled, quotient, normSqr};
+ghost use Rattle.complex.specs.Arithmetic.{complexOf, product, sumOf, difference, negation, conjugate, scaled, quotient, normSqr};
 ghost use Rattle.complex.specs.Cells.{cellAt, setCell};
 ghost use Rattle.complex.specs.Planes.{planeAt, setPlane};
 ghost use Rattle.complex.specs.Zeros.{zeroed};
@@ -29,7 +29,7 @@ impl Complex {
     }
 
     pub fn add(self, o: Complex) -> Complex
-        ensures { λ r. ⌜ r ≡ sum self o ⌝ }
+        ensures { λ r. ⌜ r ≡ sumOf self o ⌝ }
     {
         Complex {
             re: self.re + o.re,

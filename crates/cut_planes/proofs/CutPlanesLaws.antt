@@ -21,7 +21,7 @@ use Rattle.complex.proofs.CellLaws.{cell-written}
 use Rattle.complex.proofs.Loops.{cond-yes, cond-no}
 use Rattle.complex.specs.Planes.{setPlane}
 use Rattle.complex.proofs.PlanesLaws.{length-setPlane}
-use Rattle.cuts.specs.Cut.{amplitude, cellOf, Ready, ColumnReady}
+use Rattle.cuts.specs.Cut.{amplitude, cellOf, CutReady, ColumnReady}
 use Rattle.svd_load.specs.Numbers.{numbersOf}
 use Rattle.svd_load.specs.Loading.{planesOf, planesTo, conjugateTransposed}
 use Rattle.svd_load.proofs.LoadingLaws.{planes-none, planes-more, planes-join, planes-all}
@@ -108,7 +108,7 @@ pub record Columns (n inner outer count columns : ℕ) (b : Bool) (s o work : Li
   pub long : length work ≡ length o
   pub cells : work ≡ planesTo (2 ^ n) (workCell n inner outer count b s) 0 at o
 
-module _ (n inner outer count columns : ℕ) (b : Bool) (s o : List Float) (p : Ready n inner outer count columns s o) where
+module _ (n inner outer count columns : ℕ) (b : Bool) (s o : List Float) (p : CutReady n inner outer count columns s o) where
   pub columns-begin : Columns n inner outer count columns b s o o 0 0 0
   columns-begin = record {
     more = omega arith;
@@ -180,9 +180,9 @@ cell-at m k f h =
     let e : cellsOf m f ++ drop (2 * m) [] ≡ cellsOf m f = rw (drop-of-length-le {A = Float} [] none, append-nil) in
     ap (λ (l : List Float). cellAt l k) (sym e) ∙ cell-written m k f [] h
 
-module _ (n row column rows columns : ℕ) (s o : List Float) (p : Ready n row column rows columns s o) where
+module _ (n row column rows columns : ℕ) (s o : List Float) (p : CutReady n row column rows columns s o) where
   -- the masks of a wide cut change places
-  pub turned : rows < columns → Ready n column row columns rows s o
+  pub turned : rows < columns → CutReady n column row columns rows s o
   turned h = record {
     small = p .small;
     row-lt = p .column-lt;

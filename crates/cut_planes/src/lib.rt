@@ -6,7 +6,7 @@ ghost use mathlib.Core.Path.{_≡_};
 ghost use Prim.Native.Nat.{_*_, _^_};
 ghost use lib.ListN.{length};
 ghost use Rattle.complex.specs.Cells.{cellsOf};
-ghost use Rattle.cuts.specs.Cut.{cellOf, Ready, ColumnReady};
+ghost use Rattle.cuts.specs.Cut.{cellOf, CutReady, ColumnReady};
 ghost use Rattle.svd_load.specs.Loading.{planesOf, planesTo};
 ghost use Rattle.svd.specs.Svd.{workOf};
 ghost use Rattle.cut_planes.specs.CutPlanes.{shown, workCell, columnCell};
@@ -54,7 +54,7 @@ fn fill_planes(
     conjugated: bool,
     work: &mut [f64],
 )
-    requires { ⌜ Ready n inner outer count columns (now state) (now work) × (length (now work) ≡ 2 * 2 ^ n) ⌝ }
+    requires { ⌜ CutReady n inner outer count columns (now state) (now work) × (length (now work) ≡ 2 * 2 ^ n) ⌝ }
     ensures { λ _. ⌜ now (work .exit) ≡ planesOf (2 ^ n) (workCell n inner outer count conjugated (now (state .entry))) ⌝ }
 {
     let mut c: usize = 0;
@@ -70,7 +70,7 @@ fn fill_planes(
 
 // The work matrix of a cut whose sides are given: a wide one's columns are the rows' submasks.
 pub fn gather_work(state: &[f64], n: usize, cut: Sides, work: &mut [f64])
-    requires { ⌜ Ready n (cut .row) (cut .column) (cut .rows) (cut .columns) (now state) (now work) × (length (now work) ≡ 2 * 2 ^ n) ⌝ }
+    requires { ⌜ CutReady n (cut .row) (cut .column) (cut .rows) (cut .columns) (now state) (now work) × (length (now work) ≡ 2 * 2 ^ n) ⌝ }
     ensures { λ _. ⌜ now (work .exit) ≡ workOf (cellsOf (2 ^ n) (cellOf n (cut .row) (cut .column) (cut .rows) (now (state .entry)))) (cut .rows) (cut .columns) ⌝ }
 {
     if cut.rows < cut.columns {

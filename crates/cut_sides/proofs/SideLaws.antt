@@ -16,7 +16,7 @@ use lib.ListN.{length, set, take, drop, length-append, length-set}
 use lib.Seq.{set-at, drop-cons, append-snoc, take-at, take-length}
 use Rattle.answers.specs.declared.Answer.{Answer}
 use Rattle.answers.specs.Paper.{Reply, paper, done, refuse}
-use Rattle.answers.proofs.PaperLaws.{refuse-done, andThen-done, paper-one, done-new, done-old}
+use Rattle.answers.proofs.PaperLaws.{refuse-done, andThen-done, done-new, done-old}
 use Rattle.submasks.proofs.SubmaskLaws.{submaskCount, le-or-lt, others-lt, others-others}
 use Rattle.submasks.specs.Submasks.{others}
 use Rattle.qubits.specs.Lists.{stands, qubitSet, subsystem}
@@ -193,14 +193,6 @@ module _ (l : List ℕ) (n cap : ℕ) (o : List ℕ) where
 
   pub part-others : sideAnswer l n cap (length o) .0 ≡ 0 → n - length l < length l → take (n - length l) o ≡ sidePart l n cap o
   part-others e h = sym (cond-no l (take (n - length l) o) (named-no l n h)) ∙ done-new _ _ [] e
-
--- ONE OUTCOME
-pub smaller-side-one : (l : List ℕ) (n cap : ℕ) (o : List ℕ) (r r' : Answer) (end end' : List ℕ)
-    → SmallerSide l n cap o r end → SmallerSide l n cap o r' end' → (r ≡ r') × (end ≡ end')
-smaller-side-one l n cap o r r' end end' a b = (paper-one r r' (a .answer ∙ sym (b .answer)), a .numbers ∙ sym (b .numbers))
-
-pub side-part-one : (l : List ℕ) (n cap : ℕ) (o p p' : List ℕ) → p ≡ sidePart l n cap o → p' ≡ sidePart l n cap o → p ≡ p'
-side-part-one l n cap o p p' a b = a ∙ sym b
 
 -- THE TWO CALLS TOGETHER: after `smaller_side` answered 0, `side_part` of what it left hands back the smaller side's list
 pub part-of-side : (l : List ℕ) (n cap : ℕ) (o : List ℕ) (r : Answer) (end : List ℕ) → SmallerSide l n cap o r end → paper r .0 ≡ 0

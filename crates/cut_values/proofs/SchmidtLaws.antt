@@ -2,9 +2,9 @@
 -- its contract. Assumes nothing.
 use mathlib.Core.Bool.{Bool, true, false, not}
 use mathlib.Core.Path.{_≡_, refl, sym, ap, ap₂, _∙_}
-use mathlib.Core.Logic.{_⊎_, inr, ⊎-elim}
+use mathlib.Core.Logic.{_⊎_, ⊎-elim}
 use mathlib.Core.List.{List, [], _∷_, _++_, append-nil}
-use Prim.Native.Nat.{ℕ, zero, suc, _+_, _-_, _*_, _^_, _≤_, _<_, min}
+use Prim.Native.Nat.{ℕ, suc, _+_, _-_, _*_, _^_, _≤_, _<_, min}
 use native.Mathlib.Nat.{min-le-left, min-le-right, eq-or-lt-of-le, mul-comm, mul-le-mul-right}
 use native.Mathlib.Omega.{arith}
 use borrow.Author.Tests.{lt-ltb, le-ltb, ltb-false, eq-eqb, ne-eqb, eqb-true, not-false}
@@ -15,15 +15,15 @@ use lib.Seq.{take-at}
 use lib.Pow.{pow-mono}
 use Rattle.answers.specs.declared.Answer.{Answer}
 use Rattle.answers.specs.declared.Answer.the-variants.{NotFinite}
-use Rattle.answers.specs.Paper.{Reply, paper, done, refuse, after, andThen, ifDone, atEnd}
-use Rattle.answers.proofs.PaperLaws.{refuse-done, andThen-done, stays, refuse-small, after-small, paper-one, done-old, worked-new, worked-old, end-old}
+use Rattle.answers.specs.Paper.{Reply, paper, done, refuse, after, andThen, ifDone}
+use Rattle.answers.proofs.PaperLaws.{refuse-done, andThen-done, stays, refuse-small, after-small, done-old, Ended, nine-ended, worked-new, worked-old, end-old, end-worked}
 use Rattle.qubits.specs.Lists.{stands, placesFrom, places, qubitSet, subsystem}
 use Rattle.complex.specs.Cells.{components}
 use Rattle.complex.proofs.CellLaws.{components-small}
 use Rattle.complex.specs.Zeros.{zeros, zeroed}
 use Rattle.cut_sides.specs.declared.Sides.{Sides}
 use Rattle.cut_sides.specs.Sides.{cutSizes, cutRefusal, Parted, side, sidesOf}
-use Rattle.cuts.specs.Cut.{Ready}
+use Rattle.cuts.specs.Cut.{CutReady}
 use Rattle.cuts.proofs.CutLaws.{ready}
 use Rattle.svd_sweeps.specs.declared.Sweeps.{Sweeps}
 use Rattle.svd_sweeps.specs.Sweeping.{State, state, settled}
@@ -36,18 +36,18 @@ use Rattle.values.specs.Sort.{sortedDown}
 use Rattle.finish.specs.declared.Kept.{Kept}
 use Rattle.finish.specs.Finish.{finishOf, finishReply, padded}
 use Rattle.finish.specs.Outcome.{FinishedOutcome}
-use Rattle.finish.proofs.OutcomeLaws.{reply-worked, kept-same}
+use Rattle.finish.proofs.OutcomeLaws.{reply-worked}
 use Rattle.svd_thin.specs.Thin.{swept, orderOf, valuesOf}
 use Rattle.svd.specs.Svd.{sideOf, workOf, sOf}
 use Rattle.svd.specs.Svd as svd
 use Rattle.svd.proofs.SvdLaws.{side-wide, side-tall}
-use Rattle.cut_values.specs.Schmidt.{rowsOf, singularValues, needScratch, lengthTests, rest, tests, valuesReply, answerOf, Schmidt, Sized, matrixOf, normsAfter, singularOf, Finished, Worked}
+use Rattle.cut_values.specs.Schmidt.{cutRows, singularValues, cutValuesScratch, cutValuesLengths, cutValuesRest, cutValuesTests, valuesReply, cutValuesAnswer, Schmidt, CutValuesSized, sidesMatrix, normsAfter, singularOf, CutValuesFinished, CutValuesWorked}
 
 -- ---- the lengths
 
 module _ (n rows state out scratch : ℕ) {cells : ℕ} (e : cells ≡ 2 ^ n) where
-  pub lengths-0 : (state ≡ 2 * cells → ⊥) → (6, 0) ≡ lengthTests n rows state out scratch
-  unfolding lengthTests
+  pub lengths-0 : (state ≡ 2 * cells → ⊥) → (6, 0) ≡ cutValuesLengths n rows state out scratch
+  unfolding cutValuesLengths
   lengths-0 h =
       let g : state ≡ 2 * 2 ^ n → ⊥ = λ z. h (omega arith) in
       rw (ne-eqb state (2 * 2 ^ n) g)
@@ -56,37 +56,37 @@ module _ (n rows state out scratch : ℕ) {cells : ℕ} (e : cells ≡ 2 ^ n) wh
     gs : state ≡ 2 * 2 ^ n
     gs = omega arith
 
-    pub lengths-2 : out < rows → (6, 2) ≡ lengthTests n rows state out scratch
-    unfolding lengthTests
+    pub lengths-2 : out < rows → (6, 2) ≡ cutValuesLengths n rows state out scratch
+    unfolding cutValuesLengths
     lengths-2 h = rw (eq-eqb state (2 * 2 ^ n) gs, lt-ltb out rows h)
 
-    pub lengths-3 : rows ≤ out → scratch < 8 * cells + 2 * rows → (6, 3) ≡ lengthTests n rows state out scratch
-    unfolding lengthTests
+    pub lengths-3 : rows ≤ out → scratch < 8 * cells + 2 * rows → (6, 3) ≡ cutValuesLengths n rows state out scratch
+    unfolding cutValuesLengths
     lengths-3 h i =
-        let g : scratch < needScratch n rows = omega arith in
-        rw (eq-eqb state (2 * 2 ^ n) gs, le-ltb out rows h, lt-ltb scratch (needScratch n rows) g)
+        let g : scratch < cutValuesScratch n rows = omega arith in
+        rw (eq-eqb state (2 * 2 ^ n) gs, le-ltb out rows h, lt-ltb scratch (cutValuesScratch n rows) g)
 
-    pub lengths-good : rows ≤ out → 8 * cells + 2 * rows ≤ scratch → done ≡ lengthTests n rows state out scratch
-    unfolding lengthTests
+    pub lengths-good : rows ≤ out → 8 * cells + 2 * rows ≤ scratch → done ≡ cutValuesLengths n rows state out scratch
+    unfolding cutValuesLengths
     lengths-good h i =
-        let g : needScratch n rows ≤ scratch = omega arith in
-        rw (eq-eqb state (2 * 2 ^ n) gs, le-ltb out rows h, le-ltb scratch (needScratch n rows) g)
+        let g : cutValuesScratch n rows ≤ scratch = omega arith in
+        rw (eq-eqb state (2 * 2 ^ n) gs, le-ltb out rows h, le-ltb scratch (cutValuesScratch n rows) g)
 
-pub lengths-done : (n rows state out scratch : ℕ) → lengthTests n rows state out scratch .0 ≡ 0
-    → (state ≡ 2 * 2 ^ n) × (rows ≤ out) × (needScratch n rows ≤ scratch)
-unfolding lengthTests
+pub lengths-done : (n rows state out scratch : ℕ) → cutValuesLengths n rows state out scratch .0 ≡ 0
+    → (state ≡ 2 * 2 ^ n) × (rows ≤ out) × (cutValuesScratch n rows ≤ scratch)
+unfolding cutValuesLengths
 lengths-done n rows state out scratch e =
     let a = refuse-done (not (eqb state (2 * 2 ^ n))) 5 0 _ e in
     let b = refuse-done (ltb out rows) 5 2 _ (a .1) in
-    let c = refuse-done (ltb scratch (needScratch n rows)) 5 3 _ (b .1) in
-    (eqb-true state (2 * 2 ^ n) (not-false (eqb state (2 * 2 ^ n)) (a .0)), ltb-false out rows (b .0), ltb-false scratch (needScratch n rows) (c .0))
+    let c = refuse-done (ltb scratch (cutValuesScratch n rows)) 5 3 _ (b .1) in
+    (eqb-true state (2 * 2 ^ n) (not-false (eqb state (2 * 2 ^ n)) (a .0)), ltb-false out rows (b .0), ltb-false scratch (cutValuesScratch n rows) (c .0))
 
 -- what a call that 6 and 7 do not refuse has
-pub rest-done : (s : List Float) (n rows out scratch : ℕ) → rest s n rows out scratch .0 ≡ 0
-    → (length s ≡ 2 * 2 ^ n) × (rows ≤ out) × (needScratch n rows ≤ scratch)
-unfolding rest
+pub rest-done : (s : List Float) (n rows out scratch : ℕ) → cutValuesRest s n rows out scratch .0 ≡ 0
+    → (length s ≡ 2 * 2 ^ n) × (rows ≤ out) × (cutValuesScratch n rows ≤ scratch)
+unfolding cutValuesRest
 rest-done s n rows out scratch e =
-    lengths-done n rows (length s) out scratch (andThen-done (lengthTests n rows (length s) out scratch) (components 0 s) e .0)
+    lengths-done n rows (length s) out scratch (andThen-done (cutValuesLengths n rows (length s) out scratch) (components 0 s) e .0)
 
 -- ---- the sides of an accepted cut
 
@@ -97,7 +97,7 @@ sides-few n l z p e =
     let six : side l n ≤ 6 = omega (arith, p .listed .small) in
     rw e (pow-mono {i = side l n} {j = 6} six)
 
-pub sized : (s : List Float) (n : ℕ) (l : List ℕ) (z : Sides) → Parted l n → z ≡ sidesOf l n → length s ≡ 2 * 2 ^ n → Sized n z s
+pub sized : (s : List Float) (n : ℕ) (l : List ℕ) (z : Sides) → Parted l n → z ≡ sidesOf l n → length s ≡ 2 * 2 ^ n → CutValuesSized n z s
 sized s n l z p e k =
     let t = ready s n l s p k (omega arith) in
     let low : side l n ≤ length l = min-le-left (length l) (n - length l) in
@@ -114,8 +114,8 @@ sized s n l z p e k =
       state = k;
     }
 
-pub sized-ready : (n : ℕ) (z : Sides) (s o : List Float) → Sized n z s → length o ≡ 2 * 2 ^ n
-    → Ready n (z .row) (z .column) (z .rows) (z .columns) s o
+pub sized-ready : (n : ℕ) (z : Sides) (s o : List Float) → CutValuesSized n z s → length o ≡ 2 * 2 ^ n
+    → CutReady n (z .row) (z .column) (z .rows) (z .columns) s o
 sized-ready n z s o p k =
     record {
       small = p .small;
@@ -128,11 +128,11 @@ sized-ready n z s o p k =
     }
 
 -- the matrix has 2^n cells either way round
-pub all-cells : (n : ℕ) (z : Sides) (s : List Float) → Sized n z s → z .rows * z .columns ≡ 2 ^ n
+pub all-cells : (n : ℕ) (z : Sides) (s : List Float) → CutValuesSized n z s → z .rows * z .columns ≡ 2 ^ n
 all-cells n z s p = mul-comm (z .rows) (z .columns) ∙ p .product
 
 -- and a row for each of 2^n cells at most
-pub rows-fit : (n : ℕ) (z : Sides) (s : List Float) → Sized n z s → z .rows ≤ 2 ^ n
+pub rows-fit : (n : ℕ) (z : Sides) (s : List Float) → CutValuesSized n z s → z .rows ≤ 2 ^ n
 rows-fit n z s p =
     let h : 1 * z .rows ≤ z .columns * z .rows = mul-le-mul-right (z .rows) (omega (arith, p .some, p .wide)) in
     omega (arith, p .product)
@@ -159,7 +159,7 @@ pub swept-alone : (m k : ℕ) (w x : List Float) (r : Sweeps) → state x [] r �
 unfolding swept
 swept-alone m k w x r e = ap (λ (t : State). t .work) e ∙ settled-alike m k w [] (unitPlanes k) .work
 
-pub norms-made : (s : List Float) (n : ℕ) (z : Sides) {w x norms : List Float} (r : Sweeps) → w ≡ workOf (matrixOf s n z) (z .rows) (z .columns)
+pub norms-made : (s : List Float) (n : ℕ) (z : Sides) {w x norms : List Float} (r : Sweeps) → w ≡ workOf (sidesMatrix s n z) (z .rows) (z .columns)
     → state x [] r ≡ settled (z .columns) (z .rows) w [] → norms ≡ normsOf x (z .columns) (z .rows) → norms ≡ normsAfter s n z
 unfolding normsAfter
 norms-made s n z {w} {x} r e h i =
@@ -173,7 +173,7 @@ sizes m k h =
     (λ (l : m < k). side-wide m k l)
     (eq-or-lt-of-le h)
 
-pub values-made : (s : List Float) (n : ℕ) (z : Sides) {norms values : List Float} → Sized n z s → norms ≡ normsAfter s n z
+pub values-made : (s : List Float) (n : ℕ) (z : Sides) {norms values : List Float} → CutValuesSized n z s → norms ≡ normsAfter s n z
     → values ≡ sortedOf norms (orderTo norms (z .rows)) (z .rows) → values ≡ singularOf s n z
 unfolding singularOf sOf valuesOf orderOf normsAfter
 values-made s n z p e h =
@@ -187,31 +187,26 @@ module _ (values old : List Float) (b : Bool) (f : b ≡ allFinite values) where
   unfolding valuesReply
   tested t h = ap (λ (x : Bool). refuse (not x) (9, 0) (finishReply values)) (sym f ∙ h)
 
-  pub finished-good : (r : Kept) (end : List Float) → b ≡ true → FinishedOutcome values old r end → Finished values old r end
+  pub finished-good : (r : Kept) (end : List Float) → b ≡ true → FinishedOutcome values old r end → CutValuesFinished values old r end
   finished-good r end h o = record {
     answer = o .answer ∙ sym (tested true h);
     count = rw (o .answer) (o .count);
     out-is = rw (o .answer) (o .out);
   }
 
-  pub finished-bad : (end : List Float) → b ≡ false → end ≡ zeroed (length values) old → Finished values old (record { answer = NotFinite; count = 0 }) end
+  pub finished-bad : (end : List Float) → b ≡ false → end ≡ zeroed (length values) old → CutValuesFinished values old (record { answer = NotFinite; count = 0 }) end
   finished-bad end h e = record { answer = sym (tested false h); count = refl; out-is = e }
 
 -- 0, 8 or 9
-values-number : (values : List Float) → (valuesReply values .0 ≡ 0) ⊎ (8 ≤ valuesReply values .0)
+values-number : (values : List Float) → Ended (valuesReply values .0)
 unfolding valuesReply
-values-number values = pick (allFinite values) (reply-worked (sortedDown values))
-  where
-    pick : (t : Bool) → (finishReply values .0 ≡ 0) ⊎ (8 ≤ finishReply values .0)
-        → (refuse (not t) (9, 0) (finishReply values) .0 ≡ 0) ⊎ (8 ≤ refuse (not t) (9, 0) (finishReply values) .0)
-    pick true h = h
-    pick false h = inr (omega arith)
+values-number values = nine-ended (allFinite values) (finishReply values) (reply-worked (sortedDown values))
 
 -- ---- the work
 
 pub worked : (s : List Float) (n : ℕ) (z : Sides) (old values mid : List Float) (r : Kept) {out scratch : List Float} (k : ℕ)
-    → values ≡ singularOf s n z → length values ≡ z .rows → Finished values old r out → length mid ≡ needScratch n (z .rows) → k ≡ needScratch n (z .rows)
-    → scratch ≡ zeroed k mid → Worked s n z old r out scratch
+    → values ≡ singularOf s n z → length values ≡ z .rows → CutValuesFinished values old r out → length mid ≡ cutValuesScratch n (z .rows) → k ≡ cutValuesScratch n (z .rows)
+    → scratch ≡ zeroed k mid → CutValuesWorked s n z old r out scratch
 unfolding zeroed
 worked s n z old values mid r k e l f lm ek h =
     let m : length mid ≤ k = omega arith in
@@ -243,24 +238,24 @@ cut-small l n cap =
     after-small (cutSizes n cap .0) (cutSizes n cap) (subsystem n l) (reg _ (done-small (ltb (min cap 13) (n + 1)) 1 0 one))
     (after-small (qubitSet n l .0) (qubitSet n l) (refuse (eqb (length l) n) (5, 0) done) set (done-small (eqb (length l) n) 5 0 (omega arith)))
 
-rest-small : (s : List Float) (n rows out scratch : ℕ) → rest s n rows out scratch .0 < 8
-unfolding rest lengthTests
+rest-small : (s : List Float) (n rows out scratch : ℕ) → cutValuesRest s n rows out scratch .0 < 8
+unfolding cutValuesRest cutValuesLengths
 rest-small s n rows out scratch =
     let six : 6 < 8 = omega arith in
-    after-small (lengthTests n rows (length s) out scratch .0) (lengthTests n rows (length s) out scratch) (components 0 s)
-    (refuse-small (not (eqb (length s) (2 * 2 ^ n))) 6 0 _ six (refuse-small (ltb out rows) 6 2 _ six (done-small (ltb scratch (needScratch n rows)) 6 3 six)))
+    after-small (cutValuesLengths n rows (length s) out scratch .0) (cutValuesLengths n rows (length s) out scratch) (components 0 s)
+    (refuse-small (not (eqb (length s) (2 * 2 ^ n))) 6 0 _ six (refuse-small (ltb out rows) 6 2 _ six (done-small (ltb scratch (cutValuesScratch n rows)) 6 3 six)))
     (components-small 0 s)
 
-tests-small : (s : List Float) (n : ℕ) (l : List ℕ) (cap out scratch : ℕ) → tests s n l cap out scratch .0 < 8
-unfolding tests
+tests-small : (s : List Float) (n : ℕ) (l : List ℕ) (cap out scratch : ℕ) → cutValuesTests s n l cap out scratch .0 < 8
+unfolding cutValuesTests
 tests-small s n l cap out scratch =
-    after-small (cutRefusal l n cap .0) (cutRefusal l n cap) (rest s n (rowsOf n l) out scratch) (cut-small l n cap) (rest-small s n (rowsOf n l) out scratch)
+    after-small (cutRefusal l n cap .0) (cutRefusal l n cap) (cutValuesRest s n (cutRows n l) out scratch) (cut-small l n cap) (rest-small s n (cutRows n l) out scratch)
 
 -- refused: nothing lent changes
 pub schmidt-refused : (s : List Float) (n : ℕ) (l : List ℕ) (cap : ℕ) (out scratch : List Float) (r : Answer)
-    → paper r ≡ tests s n l cap (length out) (length scratch) → (paper r .0 ≡ 0 → ⊥)
+    → paper r ≡ cutValuesTests s n l cap (length out) (length scratch) → (paper r .0 ≡ 0 → ⊥)
     → Schmidt s n l cap out scratch (record { answer = r; count = 0 }) out scratch
-unfolding answerOf
+unfolding cutValuesAnswer
 schmidt-refused s n l cap out scratch r e h =
     let b : paper r .0 < 8 = rw e (tests-small s n l cap (length out) (length scratch)) in
     record {
@@ -270,33 +265,29 @@ schmidt-refused s n l cap out scratch r e h =
       scratch-is = worked-old (paper r .0) _ scratch h b;
     }
 
-ended : (x : ℕ) (new cleared old : List Float) → (x ≡ 0) ⊎ (8 ≤ x) → ifDone x new cleared ≡ atEnd x new cleared old
-ended zero new cleared old h = refl
-ended (suc x) new cleared old h = worked-new (suc x) cleared old h
-
 -- 1 to 5 do not refuse: 6 and 7 decide, and past them the work on the needed part of scratch
 module _ (s : List Float) (n : ℕ) (l : List ℕ) (cap : ℕ) (out scratch : List Float) (z : Sides) (e : z ≡ sidesOf l n) (c : cutRefusal l n cap .0 ≡ 0) where
-  pub tests-rest : rest s n (z .rows) (length out) (length scratch) ≡ tests s n l cap (length out) (length scratch)
-  unfolding tests
+  pub tests-rest : cutValuesRest s n (z .rows) (length out) (length scratch) ≡ cutValuesTests s n l cap (length out) (length scratch)
+  unfolding cutValuesTests
   tests-rest =
-      let b = rest s n (rowsOf n l) (length out) (length scratch) in
-      ap (λ (y : Sides). rest s n (y .rows) (length out) (length scratch)) e ∙ sym (ap (λ (k : ℕ). after k (cutRefusal l n cap) b) c)
+      let b = cutValuesRest s n (cutRows n l) (length out) (length scratch) in
+      ap (λ (y : Sides). cutValuesRest s n (y .rows) (length out) (length scratch)) e ∙ sym (ap (λ (k : ℕ). after k (cutRefusal l n cap) b) c)
 
   singular-sides : singularOf s n z ≡ singularValues s n l
   unfolding singularOf singularValues
   singular-sides = rw e
 
-  pub schmidt-worked : (r : Kept) {out' scratch' : List Float} (k : ℕ) → k ≡ needScratch n (z .rows)
-      → rest s n (z .rows) (length out) (length scratch) .0 ≡ 0
-      → Worked s n z out r out' scratch' → Schmidt s n l cap out scratch r out' (scratch' ++ drop k scratch)
-  unfolding answerOf zeroed
+  pub schmidt-worked : (r : Kept) {out' scratch' : List Float} (k : ℕ) → k ≡ cutValuesScratch n (z .rows)
+      → cutValuesRest s n (z .rows) (length out) (length scratch) .0 ≡ 0
+      → CutValuesWorked s n z out r out' scratch' → Schmidt s n l cap out scratch r out' (scratch' ++ drop k scratch)
+  unfolding cutValuesAnswer zeroed
   schmidt-worked r k ek d w =
       let v = valuesReply (singularValues s n l) in
-      let y = tests s n l cap (length out) (length scratch) in
+      let y = cutValuesTests s n l cap (length out) (length scratch) in
       let q : andThen y v ≡ v = ap (λ (i : ℕ). after i y v) (ap (λ (i : Reply). i .0) (sym tests-rest) ∙ d) in
       let a : paper (r .answer) ≡ valuesReply (singularValues s n l) = w .answer ∙ ap valuesReply singular-sides in
-      let p : (paper (r .answer) .0 ≡ 0) ⊎ (8 ≤ paper (r .answer) .0) = rw a (values-number (singularValues s n l)) in
-      let m : z .rows ≡ rowsOf n l = rw e in
+      let p : Ended (paper (r .answer) .0) = rw a (values-number (singularValues s n l)) in
+      let m : z .rows ≡ cutRows n l = rw e in
       let x = paper (r .answer) .0 in
       record {
         answer = a ∙ sym q;
@@ -304,21 +295,11 @@ module _ (s : List Float) (n : ℕ) (l : List ℕ) (cap : ℕ) (out scratch : Li
         out-is =
             w .out-is
             ∙ ap₂ (λ (y : ℕ) (v : List Float). ifDone x (padded y (finishOf v) out) (zeroed y out)) m singular-sides
-            ∙ ended x _ _ out p;
+            ∙ end-worked x _ _ out p;
         scratch-is =
             ap₂ (λ (y : List Float) (v : ℕ). y ++ drop v scratch) (w .scratch-is) ek
-            ∙ ap (λ (y : ℕ). zeros (needScratch n y) ++ drop (needScratch n y) scratch) m
+            ∙ ap (λ (y : ℕ). zeros (cutValuesScratch n y) ++ drop (cutValuesScratch n y) scratch) m
             ∙ worked-new x _ scratch p;
       }
 
 -- ---- only one outcome
-
-pub dense-schmidt-values-one : (s : List Float) (n : ℕ) (l : List ℕ) (cap : ℕ) (out scratch : List Float) (r q : Kept) (out' scratch' out″ scratch″ : List Float)
-    → Schmidt s n l cap out scratch r out' scratch' → Schmidt s n l cap out scratch q out″ scratch″
-    → (r ≡ q) × (out' ≡ out″) × (scratch' ≡ scratch″)
-dense-schmidt-values-one s n l cap out scratch r q out' scratch' out″ scratch″ x y =
-    let e : r .answer ≡ q .answer = paper-one (r .answer) (q .answer) (x .answer ∙ sym (y .answer)) in (
-      kept-same r q e (x .count ∙ rw e (sym (y .count))),
-      x .out-is ∙ rw e (sym (y .out-is)),
-      x .scratch-is ∙ rw e (sym (y .scratch-is)),
-    )

@@ -22,51 +22,51 @@ use Rattle.svd.specs.Svd.{workOf, sOf}
 -- ---- the values
 
 -- how many rows and columns the cut matrix has; there are as many values as rows
-abbrev pub rowsOf : ℕ → List ℕ → ℕ
-rowsOf n l = 2 ^ side l n
+abbrev pub cutRows : ℕ → List ℕ → ℕ
+cutRows n l = 2 ^ side l n
 
-abbrev pub columnsOf : ℕ → List ℕ → ℕ
-columnsOf n l = 2 ^ (n - side l n)
+abbrev pub cutColumns : ℕ → List ℕ → ℕ
+cutColumns n l = 2 ^ (n - side l n)
 
 -- the SVD's values of the cut matrix
 unfoldable pub singularValues : List Float → ℕ → List ℕ → List Float
-singularValues s n l = sOf (cellsOf (2 ^ n) (cutCell s n l)) (rowsOf n l) (columnsOf n l)
+singularValues s n l = sOf (cellsOf (2 ^ n) (cutCell s n l)) (cutRows n l) (cutColumns n l)
 
 -- ---- the answer
 
-abbrev pub needScratch : ℕ → ℕ → ℕ
-needScratch n rows = 8 * 2 ^ n + 2 * rows
+abbrev pub cutValuesScratch : ℕ → ℕ → ℕ
+cutValuesScratch n rows = 8 * 2 ^ n + 2 * rows
 
 -- 6: the state, slice 0, has exactly 2·2^n numbers; out, slice 2 after the list, at least one for each row; scratch, slice 3, its need
-unfoldable pub lengthTests : ℕ → ℕ → ℕ → ℕ → ℕ → Reply
-lengthTests n rows state out scratch =
-    refuse (not (eqb state (2 * 2 ^ n))) (6, 0) (refuse (ltb out rows) (6, 2) (refuse (ltb scratch (needScratch n rows)) (6, 3) done))
+unfoldable pub cutValuesLengths : ℕ → ℕ → ℕ → ℕ → ℕ → Reply
+cutValuesLengths n rows state out scratch =
+    refuse (not (eqb state (2 * 2 ^ n))) (6, 0) (refuse (ltb out rows) (6, 2) (refuse (ltb scratch (cutValuesScratch n rows)) (6, 3) done))
 
 -- 6 and 7
-unfoldable pub rest : List Float → ℕ → ℕ → ℕ → ℕ → Reply
-rest s n rows out scratch = andThen (lengthTests n rows (length s) out scratch) (components 0 s)
+unfoldable pub cutValuesRest : List Float → ℕ → ℕ → ℕ → ℕ → Reply
+cutValuesRest s n rows out scratch = andThen (cutValuesLengths n rows (length s) out scratch) (components 0 s)
 
 -- 1 to 7
-unfoldable pub tests : List Float → ℕ → List ℕ → ℕ → ℕ → ℕ → Reply
-tests s n l cap out scratch = andThen (cutRefusal l n cap) (rest s n (rowsOf n l) out scratch)
+unfoldable pub cutValuesTests : List Float → ℕ → List ℕ → ℕ → ℕ → ℕ → Reply
+cutValuesTests s n l cap out scratch = andThen (cutRefusal l n cap) (cutValuesRest s n (cutRows n l) out scratch)
 
 -- 9 where a value is not finite, before any floor is taken; then the finish's 8 or 9
 unfoldable pub valuesReply : List Float → Reply
 valuesReply values = refuse (not (allFinite values)) (9, 0) (finishReply values)
 
-unfoldable pub answerOf : List Float → ℕ → List ℕ → ℕ → ℕ → ℕ → Reply
-answerOf s n l cap out scratch = andThen (tests s n l cap out scratch) (valuesReply (singularValues s n l))
+unfoldable pub cutValuesAnswer : List Float → ℕ → List ℕ → ℕ → ℕ → ℕ → Reply
+cutValuesAnswer s n l cap out scratch = andThen (cutValuesTests s n l cap out scratch) (valuesReply (singularValues s n l))
 
 -- the answer, the count, and what out and scratch hold at the end
 pub record Schmidt (s : List Float) (n : ℕ) (l : List ℕ) (cap : ℕ) (out scratch : List Float) (r : Kept) (out' scratch' : List Float) : Type 0 where
-  pub answer : paper (r .answer) ≡ answerOf s n l cap (length out) (length scratch)
+  pub answer : paper (r .answer) ≡ cutValuesAnswer s n l cap (length out) (length scratch)
   pub count : r .count ≡ ifDone (paper (r .answer) .0) (length (finishOf (singularValues s n l))) 0
-  pub out-is : out' ≡ atEnd (paper (r .answer) .0) (padded (rowsOf n l) (finishOf (singularValues s n l)) out) (zeroed (rowsOf n l) out) out
-  pub scratch-is : scratch' ≡ ifWorked (paper (r .answer) .0) (zeroed (needScratch n (rowsOf n l)) scratch) scratch
+  pub out-is : out' ≡ atEnd (paper (r .answer) .0) (padded (cutRows n l) (finishOf (singularValues s n l)) out) (zeroed (cutRows n l) out) out
+  pub scratch-is : scratch' ≡ ifWorked (paper (r .answer) .0) (zeroed (cutValuesScratch n (cutRows n l)) scratch) scratch
 
 -- ---- the steps, over the sides of an accepted cut
 
-pub record Sized (n : ℕ) (z : Sides) (s : List Float) : Type 0 where
+pub record CutValuesSized (n : ℕ) (z : Sides) (s : List Float) : Type 0 where
   pub small : n ≤ 12
   pub row-lt : z .row < 2 ^ n
   pub column-lt : z .column < 2 ^ n
@@ -77,24 +77,24 @@ pub record Sized (n : ℕ) (z : Sides) (s : List Float) : Type 0 where
   pub state : length s ≡ 2 * 2 ^ n
 
 -- the cut matrix
-abbrev pub matrixOf : List Float → ℕ → Sides → List Float
-matrixOf s n z = cellsOf (2 ^ n) (cellOf n (z .row) (z .column) (z .rows) s)
+abbrev pub sidesMatrix : List Float → ℕ → Sides → List Float
+sidesMatrix s n z = cellsOf (2 ^ n) (cellOf n (z .row) (z .column) (z .rows) s)
 
 -- the norms of the columns of its work matrix after the sweeps
 unfoldable pub normsAfter : List Float → ℕ → Sides → List Float
-normsAfter s n z = normsOf (swept (z .columns) (z .rows) (workOf (matrixOf s n z) (z .rows) (z .columns)) .work) (z .columns) (z .rows)
+normsAfter s n z = normsOf (swept (z .columns) (z .rows) (workOf (sidesMatrix s n z) (z .rows) (z .columns)) .work) (z .columns) (z .rows)
 
 unfoldable pub singularOf : List Float → ℕ → Sides → List Float
-singularOf s n z = sOf (matrixOf s n z) (z .rows) (z .columns)
+singularOf s n z = sOf (sidesMatrix s n z) (z .rows) (z .columns)
 
 -- the values finished, or 9
-pub record Finished (values old : List Float) (r : Kept) (end : List Float) : Type 0 where
+pub record CutValuesFinished (values old : List Float) (r : Kept) (end : List Float) : Type 0 where
   pub answer : paper (r .answer) ≡ valuesReply values
   pub count : r .count ≡ ifDone (paper (r .answer) .0) (length (finishOf values)) 0
   pub out-is : end ≡ ifDone (paper (r .answer) .0) (padded (length values) (finishOf values) old) (zeroed (length values) old)
 
-pub record Worked (s : List Float) (n : ℕ) (z : Sides) (old : List Float) (r : Kept) (out scratch : List Float) : Type 0 where
+pub record CutValuesWorked (s : List Float) (n : ℕ) (z : Sides) (old : List Float) (r : Kept) (out scratch : List Float) : Type 0 where
   pub answer : paper (r .answer) ≡ valuesReply (singularOf s n z)
   pub count : r .count ≡ ifDone (paper (r .answer) .0) (length (finishOf (singularOf s n z))) 0
   pub out-is : out ≡ ifDone (paper (r .answer) .0) (padded (z .rows) (finishOf (singularOf s n z)) old) (zeroed (z .rows) old)
-  pub scratch-is : scratch ≡ zeros (needScratch n (z .rows))
+  pub scratch-is : scratch ≡ zeros (cutValuesScratch n (z .rows))

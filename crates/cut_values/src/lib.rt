@@ -6,12 +6,12 @@ ghost use mathlib.Core.Path.{_≡_};
 ghost use Prim.Native.Nat.{_+_, _*_, _^_, _≤_};
 ghost use lib.ListN.{length};
 ghost use Rattle.answers.specs.Paper.{paper};
-ghost use Rattle.cut_values.specs.Schmidt.{lengthTests, rest, normsAfter, singularOf, Sized, Finished, Worked, Schmidt};
+ghost use Rattle.cut_values.specs.Schmidt.{cutValuesLengths, cutValuesRest, normsAfter, singularOf, CutValuesSized, CutValuesFinished, CutValuesWorked, Schmidt};
 
 // The first slice of a wrong length, or too short: 6.
 fn check_lengths(n: usize, rows: usize, state: usize, out: usize, scratch: usize) -> Answer
     requires { ⌜ (n ≤ 12) × (rows ≤ 64) ⌝ }
-    ensures { λ r. ⌜ paper r ≡ lengthTests n rows state out scratch ⌝ }
+    ensures { λ r. ⌜ paper r ≡ cutValuesLengths n rows state out scratch ⌝ }
 {
     let cells = submasks::bit(n);
     if state != 2 * cells {
@@ -29,7 +29,7 @@ fn check_lengths(n: usize, rows: usize, state: usize, out: usize, scratch: usize
 // What a cut can be refused by once its sides are known: 6 and 7.
 fn check(state: &[f64], n: usize, rows: usize, out: usize, scratch: usize) -> Answer
     requires { ⌜ (n ≤ 12) × (rows ≤ 64) ⌝ }
-    ensures { λ r. ⌜ paper r ≡ rest (now (state .entry)) n rows out scratch ⌝ }
+    ensures { λ r. ⌜ paper r ≡ cutValuesRest (now (state .entry)) n rows out scratch ⌝ }
 {
     let first = check_lengths(n, rows, state.len(), out, scratch);
     let Answer::Done = first else {
@@ -40,7 +40,7 @@ fn check(state: &[f64], n: usize, rows: usize, out: usize, scratch: usize) -> An
 
 // The norms of the work matrix's columns after the sweeps, which need no V.
 fn sweep(state: &[f64], n: usize, cut: Sides, work: &mut [f64], norms: &mut [f64])
-    requires { ⌜ Sized n cut (now state) × (length (now work) ≡ 2 * 2 ^ n) × (length (now norms) ≡ cut .rows) ⌝ }
+    requires { ⌜ CutValuesSized n cut (now state) × (length (now work) ≡ 2 * 2 ^ n) × (length (now norms) ≡ cut .rows) ⌝ }
     ensures { λ _. ⌜ now (norms .exit) ≡ normsAfter (now (state .entry)) n cut ⌝ }
 {
     cut_planes::gather_work(state, n, cut, work);
@@ -50,7 +50,7 @@ fn sweep(state: &[f64], n: usize, cut: Sides, work: &mut [f64], norms: &mut [f64
 
 // The singular values of the cut matrix, falling. Scratch holds the work matrix, and after it the order.
 fn singular_values(state: &[f64], n: usize, cut: Sides, values: &mut [f64], scratch: &mut [f64])
-    requires { ⌜ Sized n cut (now state) × (length (now values) ≡ cut .rows) × (2 * 2 ^ n ≤ length (now scratch)) ⌝ }
+    requires { ⌜ CutValuesSized n cut (now state) × (length (now values) ≡ cut .rows) × (2 * 2 ^ n ≤ length (now scratch)) ⌝ }
     ensures { λ _. ⌜ now (values .exit) ≡ singularOf (now (state .entry)) n cut ⌝ }
 {
     let rows = cut.rows;
@@ -63,7 +63,7 @@ fn singular_values(state: &[f64], n: usize, cut: Sides, values: &mut [f64], scra
 // 9 where a singular value is not finite, before any floor is taken; else the finish decides.
 fn finish_finite(values: &[f64], out: &mut [f64]) -> Kept
     requires { ⌜ length (now values) ≤ length (now out) ⌝ }
-    ensures { λ r. ⌜ Finished (now (values .entry)) (now (out .entry)) r (now (out .exit)) ⌝ }
+    ensures { λ r. ⌜ CutValuesFinished (now (values .entry)) (now (out .entry)) r (now (out .exit)) ⌝ }
 {
     if values::all_finite(values) {
         return finish::finish_values(values, out);
@@ -77,8 +77,8 @@ fn finish_finite(values: &[f64], out: &mut [f64]) -> Kept
 
 // The work of an accepted call, over scratch of exactly the needed length: 0, 8 or 9.
 fn work(state: &[f64], n: usize, cut: Sides, out: &mut [f64], scratch: &mut [f64]) -> Kept
-    requires { ⌜ Sized n cut (now state) × (cut .rows ≤ length (now out)) × (length (now scratch) ≡ 8 * 2 ^ n + 2 * cut .rows) ⌝ }
-    ensures { λ r. ⌜ Worked (now (state .entry)) n cut (now (out .entry)) r (now (out .exit)) (now (scratch .exit)) ⌝ }
+    requires { ⌜ CutValuesSized n cut (now state) × (cut .rows ≤ length (now out)) × (length (now scratch) ≡ 8 * 2 ^ n + 2 * cut .rows) ⌝ }
+    ensures { λ r. ⌜ CutValuesWorked (now (state .entry)) n cut (now (out .entry)) r (now (out .exit)) (now (scratch .exit)) ⌝ }
 {
     let rows = cut.rows;
     let mut values = [0.0f64; 64];

@@ -5,7 +5,7 @@ use Prim.Native.Nat.{ℕ}
 use lib.ListN.{replicate}
 use Rattle.answers.specs.Paper.{Reply}
 use Rattle.cutfile.specs.Bytes.{word32, begins, allZero}
-use Rattle.cutfile.specs.Layout.{mark, sizeAnswer, offsetsAnswer, lengthAnswer, fieldsAnswer, headerAnswer}
+use Rattle.cutfile.specs.Layout.{mark, sizeAnswer, fileOffsetsAnswer, lengthAnswer, fieldsAnswer, headerAnswer}
 
 u32 : ℕ → List ℕ
 u32 x = x ∷ 0 ∷ 0 ∷ 0 ∷ []
@@ -32,5 +32,5 @@ cases =
     ∷ []
 
 pub cases-are : cases ≡ (10, 0) ∷ (10, 0) ∷ (1, 0) ∷ (1, 0) ∷ (1, 0) ∷ (10, 0) ∷ (0, 0) ∷ (0, 0) ∷ (10, 0) ∷ (10, 0) ∷ []
-unfolding cases headerAnswer fieldsAnswer sizeAnswer offsetsAnswer lengthAnswer word32 begins allZero header u32 nought
+unfolding cases headerAnswer fieldsAnswer sizeAnswer fileOffsetsAnswer lengthAnswer word32 begins allZero header u32 nought
 cases-are = refl

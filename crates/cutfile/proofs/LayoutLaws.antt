@@ -13,10 +13,10 @@ use native.Mathlib.Omega.{arith}
 use Rattle.answers.specs.declared.Answer.{Answer}
 use Rattle.answers.specs.declared.Answer.the-variants.{Done}
 use Rattle.answers.specs.Paper.{Reply, paper, done, ifDone}
-use Rattle.answers.proofs.PaperLaws.{refuse-done, andThen-done, paper-one, done-new, done-old}
+use Rattle.answers.proofs.PaperLaws.{refuse-done, andThen-done, done-new, done-old}
 use Rattle.cutfile.specs.declared.Header.{Header}
 use Rattle.cutfile.specs.Bytes.{word32, begins}
-use Rattle.cutfile.specs.Layout.{mark, fileLength, sizeAnswer, offsetsAnswer, lengthAnswer, fieldsAnswer, headerAnswer, Header·is, LongEnough, bitsAt, component, componentAt}
+use Rattle.cutfile.specs.Layout.{mark, fileLength, sizeAnswer, fileOffsetsAnswer, lengthAnswer, fieldsAnswer, headerAnswer, Header·is, LongEnough, bitsAt, component, componentAt}
 
 pub small-power : (n : ℕ) → n ≤ 9 → 2 ^ n ≤ 512
 small-power n h = pow-mono h
@@ -93,8 +93,8 @@ size-small n e =
     let b = refuse-done (ltb 9 n) 0 0 _ (a .1) in
     (ltb-false n 1 (a .0), ltb-false 9 n (b .0))
 
-pub offsets-small : (k : ℕ) (file : List ℕ) → offsetsAnswer k file .0 ≡ 0 → k ≤ 64
-unfolding offsetsAnswer
+pub offsets-small : (k : ℕ) (file : List ℕ) → fileOffsetsAnswer k file .0 ≡ 0 → k ≤ 64
+unfolding fileOffsetsAnswer
 offsets-small k file e = ltb-false 64 k (refuse-done (ltb 64 k) 9 0 _ e .0)
 
 length-fits : (n k : ℕ) (file : List ℕ) → lengthAnswer n k file .0 ≡ 0 → length file ≡ fileLength n k
@@ -108,7 +108,7 @@ fields-fit : (n k : ℕ) (file : List ℕ) → fieldsAnswer n k file .0 ≡ 0 �
 unfolding fieldsAnswer
 fields-fit n k file e =
     let a = andThen-done (sizeAnswer n) _ e in
-    let b = andThen-done (offsetsAnswer k file) _ (a .1) in
+    let b = andThen-done (fileOffsetsAnswer k file) _ (a .1) in
     let s = size-small n (a .0) in
     let l = length-fits n k file (b .1) in
     (record { n-small = s .1; k-small = offsets-small k file (b .0); reaches = omega (arith, l) }, s .0)
@@ -124,11 +124,3 @@ accepted file e =
 -- the j-th component is a part of an amplitude
 pub of-parts : (file : List ℕ) (k j b : ℕ) (x : Float) → b ≡ bitsAt file k (2 * (j / 2) + j % 2) → x ≡ component b → x ≡ componentAt file k j
 of-parts file k j b x e p = p ∙ ap component (e ∙ ap (bitsAt file k) (omega arith))
-
--- only one outcome satisfies `check_header`'s contract
-pub header-one : (file : List ℕ) (r s : Header) → Header·is file r → Header·is file s → r ≡ s
-header-one file r s p q =
-    let a : r .answer ≡ s .answer = paper-one (r .answer) (s .answer) (p .answer-is ∙ sym (q .answer-is)) in
-    let n : r .n ≡ s .n = p .n-is ∙ sym (q .n-is) in
-    let k : r .k ≡ s .k = p .k-is ∙ sym (q .k-is) in
-    λ i. record { answer = a i; n = n i; k = k i }

@@ -3,3 +3,4 @@ pub mod BytesLaws
 pub mod Cases
 pub mod LayoutLaws
 pub mod Longer
+pub mod Theorems

@@ -11,7 +11,7 @@ use lib.ListN.{length, take}
 use lib.Seq.{getD-take, length-take-le}
 use Rattle.answers.specs.Paper.{Reply, refuse, andThen}
 use Rattle.cutfile.specs.Bytes.{word32, begins}
-use Rattle.cutfile.specs.Layout.{mark, amplitudeOffset, fileLength, sizeAnswer, offsetsAnswer, lengthAnswer, fieldsAnswer, headerAnswer}
+use Rattle.cutfile.specs.Layout.{mark, amplitudeOffset, fileLength, sizeAnswer, fileOffsetsAnswer, lengthAnswer, fieldsAnswer, headerAnswer}
 use Rattle.cutfile.proofs.LayoutLaws.{small-power}
 
 -- the longest valid file: n = 9, k = 64
@@ -28,8 +28,8 @@ length-ten n k file h l long = rw (ne-eqb (length file) (fileLength n k) (λ e. 
     go true = refl
     go false = refl
 
-layout-ten : (n k : ℕ) (file : List ℕ) → n ≤ 9 → longest < length file → andThen (offsetsAnswer k file) (lengthAnswer n k file) ≡ (10, 0)
-unfolding offsetsAnswer
+layout-ten : (n k : ℕ) (file : List ℕ) → n ≤ 9 → longest < length file → andThen (fileOffsetsAnswer k file) (lengthAnswer n k file) ≡ (10, 0)
+unfolding fileOffsetsAnswer
 layout-ten n k file h long = go (ltb 64 k) (not (eqb (word32 file 12) 24)) (not (eqb (word32 file 16) (amplitudeOffset k))) refl
   where
     go : (a b c : Bool) → ltb 64 k ≡ a → andThen (refuse a (10, 0) (refuse b (10, 0) (refuse c (10, 0) (0, 0)))) (lengthAnswer n k file) ≡ (10, 0)
@@ -42,7 +42,7 @@ fields-ten : (n k : ℕ) (file : List ℕ) → longest < length file → fieldsA
 unfolding fieldsAnswer sizeAnswer
 fields-ten n k file long = go (ltb n 1) (ltb 9 n) refl
   where
-    go : (a b : Bool) → ltb 9 n ≡ b → andThen (refuse a (1, 0) (refuse b (1, 0) (0, 0))) (andThen (offsetsAnswer k file) (lengthAnswer n k file)) ≡ andThen (refuse a (1, 0) (refuse b (1, 0) (0, 0))) (10, 0)
+    go : (a b : Bool) → ltb 9 n ≡ b → andThen (refuse a (1, 0) (refuse b (1, 0) (0, 0))) (andThen (fileOffsetsAnswer k file) (lengthAnswer n k file)) ≡ andThen (refuse a (1, 0) (refuse b (1, 0) (0, 0))) (10, 0)
     go true b e = refl
     go false true e = refl
     go false false e = layout-ten n k file (ltb-false 9 n e) long

@@ -33,8 +33,8 @@ sizeAnswer n =
     done)
 
 -- k is at most 64, and the two offsets are 24 and what k gives
-unfoldable pub offsetsAnswer : ℕ → List ℕ → Reply
-offsetsAnswer k file =
+unfoldable pub fileOffsetsAnswer : ℕ → List ℕ → Reply
+fileOffsetsAnswer k file =
     refuse (ltb 64 k) (10, 0)
     (refuse (not (eqb (word32 file 12) 24)) (10, 0)
     (refuse (not (eqb (word32 file 16) (amplitudeOffset k))) (10, 0)
@@ -50,8 +50,8 @@ lengthAnswer n k file =
 
 -- n decides first
 unfoldable pub fieldsAnswer : ℕ → ℕ → List ℕ → Reply
-unfolding sizeAnswer offsetsAnswer lengthAnswer
-fieldsAnswer n k file = andThen (sizeAnswer n) (andThen (offsetsAnswer k file) (lengthAnswer n k file))
+unfolding sizeAnswer fileOffsetsAnswer lengthAnswer
+fieldsAnswer n k file = andThen (sizeAnswer n) (andThen (fileOffsetsAnswer k file) (lengthAnswer n k file))
 
 -- under 24 bytes or at a wrong mark 10; then n and k, the second and third field
 unfoldable pub headerAnswer : List ℕ → Reply
@@ -75,8 +75,8 @@ pub record Header·is (file : List ℕ) (r : Header) : Type 0 where
   pub k-is : r .k ≡ kOf file
 
 -- the i-th entry of the list
-abbrev pub entryAt : List ℕ → ℕ → ℕ
-entryAt file i = word32 file (24 + 4 * i)
+abbrev pub fileEntry : List ℕ → ℕ → ℕ
+fileEntry file i = word32 file (24 + 4 * i)
 
 -- the bits of the j-th component of the state, two to an amplitude, real part first
 abbrev pub bitsAt : List ℕ → ℕ → ℕ → ℕ

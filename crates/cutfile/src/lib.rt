@@ -6,7 +6,7 @@ ghost use Prim.Native.Nat.{_+_, _*_, _^_, _<_, _≤_};
 ghost use lib.ListN.{length};
 ghost use Rattle.answers.specs.Paper.{paper};
 ghost use Rattle.cutfile.specs.Bytes.{word32, word64, begins, allZero};
-ghost use Rattle.cutfile.specs.Layout.{amplitudeOffset, fileLength, gap, sizeAnswer, offsetsAnswer, lengthAnswer, fieldsAnswer, Header·is, LongEnough, entryAt, bitsAt, component};
+ghost use Rattle.cutfile.specs.Layout.{amplitudeOffset, fileLength, gap, sizeAnswer, fileOffsetsAnswer, lengthAnswer, fieldsAnswer, Header·is, LongEnough, fileEntry, bitsAt, component};
 
 // What a header is answered by and, where that is 0, the register and how many qubits are listed; else noughts.
 pub struct Header {
@@ -129,7 +129,7 @@ fn answer_size(n: usize) -> Answer
 // The list's length and the two offsets.
 fn answer_offsets(file: &[u8], k: usize) -> Answer
     requires { ⌜ 24 ≤ length (now file) ⌝ }
-    ensures { λ r. ⌜ paper r ≡ offsetsAnswer k (now (file .entry)) ⌝ }
+    ensures { λ r. ⌜ paper r ≡ fileOffsetsAnswer k (now (file .entry)) ⌝ }
 {
     if 64 < k {
         return Answer::Malformed;
@@ -211,7 +211,7 @@ pub fn check_header(file: &[u8]) -> Header
 // Inner: the i-th entry of the list.
 pub fn entry_at(file: &[u8], n: usize, k: usize, i: usize) -> u32
     requires { ⌜ LongEnough (now file) n k × (i < k) ⌝ }
-    ensures { λ r. ⌜ r ≡ entryAt (now (file .entry)) i ⌝ }
+    ensures { λ r. ⌜ r ≡ fileEntry (now (file .entry)) i ⌝ }
 {
     u32_at(file, 24 + 4 * i)
 }

@@ -3,7 +3,7 @@
 // is proved by hand; callers use the two at the end, whose parameters are plain. All but `open` are inner.
 ghost use mathlib.Core.Path.{_≡_};
 ghost use Prim.Native.Nat.{_+_, _*_, _^_, _<_};
-ghost use Rattle.cutfile.specs.Layout.{LongEnough, entryAt, bitsAt, nOf, kOf};
+ghost use Rattle.cutfile.specs.Layout.{LongEnough, fileEntry, bitsAt, nOf, kOf};
 
 pub struct CutFile<'a> {
     pub bytes: &'a [u8],
@@ -33,7 +33,7 @@ pub fn open<'a>(bytes: &'a [u8]) -> CutFile<'a>
 // The i-th entry of the list.
 pub fn entry<'a>(v: CutFile<'a>, i: usize) -> u32
     requires { ⌜ LongEnough (now (v .bytes)) (v .n) (v .k) × (i < v .k) ⌝ }
-    ensures { λ r. ⌜ r ≡ entryAt (now (v .entry .bytes)) i ⌝ }
+    ensures { λ r. ⌜ r ≡ fileEntry (now (v .entry .bytes)) i ⌝ }
 {
     cutfile::entry_at(v.bytes, v.n, v.k, i)
 }
@@ -49,7 +49,7 @@ pub fn amplitude<'a>(v: CutFile<'a>, i: usize, part: usize) -> u64
 // The i-th entry of the list, through the view: who calls this needs no proof by hand.
 pub fn list_entry(file: &[u8], n: usize, k: usize, i: usize) -> u32
     requires { ⌜ LongEnough (now file) n k × (i < k) ⌝ }
-    ensures { λ r. ⌜ r ≡ entryAt (now (file .entry)) i ⌝ }
+    ensures { λ r. ⌜ r ≡ fileEntry (now (file .entry)) i ⌝ }
 {
     entry(view(file, n, k), i)
 }

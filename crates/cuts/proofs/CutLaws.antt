@@ -16,7 +16,7 @@ use lib.ListN.{length, length-set}
 use lib.Pow.{pow-pos}
 use Rattle.answers.specs.declared.Answer.{Answer}
 use Rattle.answers.specs.Paper.{Reply, paper, done, refuse}
-use Rattle.answers.proofs.PaperLaws.{refuse-done, paper-one, done-new, done-old}
+use Rattle.answers.proofs.PaperLaws.{refuse-done, done-new, done-old}
 use Rattle.submasks.specs.Submasks.{submaskAt, nextSubmask}
 use Rattle.submasks.proofs.SubmaskLaws.{next-submaskAt, submaskAt-first, submaskAt-lt}
 use Rattle.qubits.proofs.NamedLaws.{sizes-product}
@@ -26,7 +26,7 @@ use Rattle.complex.proofs.CellLaws.{written-none, written-more}
 use Rattle.cut_sides.specs.declared.Sides.{Sides}
 use Rattle.cut_sides.specs.Sides.{Parted, side, rowMask, columnMask, sidesOf}
 use Rattle.cut_sides.proofs.SideLaws.{two-sides}
-use Rattle.cuts.specs.Cut.{cellOf, cutCell, cutLengths, cutAnswer, setCells, CutMatrix, Ready, ColumnReady}
+use Rattle.cuts.specs.Cut.{cellOf, cutCell, cutLengths, cutAnswer, setCells, CutMatrix, CutReady, ColumnReady}
 
 -- ---- one column
 
@@ -101,7 +101,7 @@ pub record Columns (n row column rows columns : ℕ) (s o out : List Float) (c a
   pub long : length out ≡ length o
   pub cells : out ≡ written at (cellOf n row column rows s) o
 
-module _ (n row column rows columns : ℕ) (s o : List Float) (p : Ready n row column rows columns s o) where
+module _ (n row column rows columns : ℕ) (s o : List Float) (p : CutReady n row column rows columns s o) where
   pub columns-begin : Columns n row column rows columns s o o 0 0 0
   columns-begin = record {
     more = omega arith;
@@ -158,7 +158,7 @@ module _ (n row column rows columns : ℕ) (s o : List Float) (p : Ready n row c
 -- ---- the sides of an accepted cut
 
 pub ready : (s : List Float) (n : ℕ) (l : List ℕ) (o : List Float) → Parted l n → length s ≡ 2 * 2 ^ n → 2 * 2 ^ n ≤ length o
-    → Ready n (rowMask l n) (columnMask l n) (2 ^ side l n) (2 ^ (n - side l n)) s o
+    → CutReady n (rowMask l n) (columnMask l n) (2 ^ side l n) (2 ^ (n - side l n)) s o
 ready s n l o p e h =
     let t = two-sides l n p in
     let k : side l n ≤ n - length l = min-le-right (length l) (n - length l) in
@@ -175,7 +175,7 @@ ready s n l o p e h =
 -- the same of the record that `sides_of` hands back, and what the gather over it leaves
 module _ (s : List Float) (n : ℕ) (l : List ℕ) (o : List Float) (z : Sides) where
   pub ready-sides : Parted l n → length s ≡ 2 * 2 ^ n → 2 * 2 ^ n ≤ length o → z ≡ sidesOf l n
-      → Ready n (z .row) (z .column) (z .rows) (z .columns) s o
+      → CutReady n (z .row) (z .column) (z .rows) (z .columns) s o
   ready-sides p e h q = rw q (ready s n l o p e h)
 
   pub gathered : (end : List Float) → z ≡ sidesOf l n → end ≡ written (2 ^ n) (cellOf n (z .row) (z .column) (z .rows) s) o
@@ -198,8 +198,3 @@ module _ (s : List Float) (n : ℕ) (l : List ℕ) (cap : ℕ) (o : List Float) 
 
   pub cut-done : (end : List Float) → paper r .0 ≡ 0 → end ≡ written (2 ^ n) (cutCell s n l) o → CutMatrix s n l cap o r end
   cut-done end h c = record { answer = e; cells = c ∙ done-new _ _ o (sym (ap (λ (x : Reply). x .0) e) ∙ h) }
-
--- ONE OUTCOME
-pub cut-matrix-one : (s : List Float) (n : ℕ) (l : List ℕ) (cap : ℕ) (o : List Float) (r r' : Answer) (end end' : List Float)
-    → CutMatrix s n l cap o r end → CutMatrix s n l cap o r' end' → (r ≡ r') × (end ≡ end')
-cut-matrix-one s n l cap o r r' end end' a b = (paper-one r r' (a .answer ∙ sym (b .answer)), a .cells ∙ sym (b .cells))

@@ -54,7 +54,7 @@ setCells at f zero xs = xs
 setCells at f (suc m) xs = setCell (setCells at f m xs) (at + m) (f m)
 
 -- masks, sizes and lengths as the gather wants them
-pub record Ready (n row column rows columns : ℕ) (s o : List Float) : Type 0 where
+pub record CutReady (n row column rows columns : ℕ) (s o : List Float) : Type 0 where
   pub small : n ≤ 12
   pub row-lt : row < 2 ^ n
   pub column-lt : column < 2 ^ n

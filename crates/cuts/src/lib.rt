@@ -8,7 +8,7 @@ ghost use Rattle.answers.specs.Paper.{paper};
 ghost use Rattle.submasks.specs.Submasks.{submaskAt};
 ghost use Rattle.complex.specs.Cells.{cellAt, written};
 ghost use Rattle.cut_sides.specs.Sides.{Parted};
-ghost use Rattle.cuts.specs.Cut.{cellOf, cutCell, cutLengths, setCells, CutMatrix, Ready, ColumnReady};
+ghost use Rattle.cuts.specs.Cut.{cellOf, cutCell, cutLengths, setCells, CutMatrix, CutReady, ColumnReady};
 
 // Answer 6 of a cut: the numbers of the state and of the matrix.
 fn cut_lengths(n: usize, state: usize, out: usize) -> Answer
@@ -58,7 +58,7 @@ fn fill_cut(
     columns: usize,
     out: &mut [f64],
 )
-    requires { ⌜ Ready n row column rows columns (now state) (now out) ⌝ }
+    requires { ⌜ CutReady n row column rows columns (now state) (now out) ⌝ }
     ensures { λ _. ⌜ now (out .exit) ≡ written (2 ^ n) (cellOf n row column rows (now (state .entry))) (now (out .entry)) ⌝ }
 {
     let mut c: usize = 0;

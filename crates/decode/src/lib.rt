@@ -3,7 +3,7 @@
 ghost use mathlib.Core.Path.{_≡_};
 ghost use Prim.Native.Nat.{_*_, _^_, _≤_};
 ghost use lib.ListN.{length};
-ghost use Rattle.cutfile.specs.Layout.{LongEnough, entryAt, componentAt};
+ghost use Rattle.cutfile.specs.Layout.{LongEnough, fileEntry, componentAt};
 ghost use Rattle.decode.specs.Tables.{filled};
 
 fn index(x: u32) -> usize
@@ -16,7 +16,7 @@ fn index(x: u32) -> usize
 pub fn decode_list(file: &[u8], n: usize, k: usize, out: &mut [usize])
     requires { ⌜ LongEnough (now file) n k ⌝ }
     requires { ⌜ k ≤ length (now out) ⌝ }
-    ensures { λ r. ⌜ now (out .exit) ≡ filled k (entryAt (now (file .entry))) (now (out .entry)) ⌝ }
+    ensures { λ r. ⌜ now (out .exit) ≡ filled k (fileEntry (now (file .entry))) (now (out .entry)) ⌝ }
 {
     let mut i = 0;
     while i < k {

@@ -12,7 +12,7 @@ use lib.Pow.{pow-mono}
 use native.Mathlib.Nat.{pow-suc}
 use Rattle.answers.specs.declared.Answer.{Answer}
 use Rattle.answers.specs.Paper.{Reply, paper, done, refuse, andThen}
-use Rattle.answers.proofs.PaperLaws.{refuse-done, andThen-done, paper-one, done-new, done-old}
+use Rattle.answers.proofs.PaperLaws.{refuse-done, andThen-done, done-new, done-old}
 use Rattle.complex.specs.Cells.{components, written}
 use Rattle.complex.specs.Zeros.{zeroed}
 use Rattle.components.proofs.EveryLaws.{every-from-done}
@@ -25,10 +25,10 @@ use Rattle.qubit_offsets.specs.Calls.{densityRefusal}
 use Rattle.qubit_offsets.proofs.CallLaws.{density-listed}
 use Rattle.density_entries.specs.Squares.{Square, entryAt, mirrored}
 use Rattle.density_entries.specs.Entries.{lowerEntry, densityCell}
-use Rattle.density_entries.specs.Filled.{Ready, LowerTurns, tableEntry}
-use Rattle.density_entries.specs.EntryLaws.{OffsetTurns}
-use Rattle.density_entries.proofs.EntryLawsLaws.{table-entry, mirrored-density}
-use Rattle.densities.specs.Density.{densityLengths, densityAnswer, densityList, Density, Accepted}
+use Rattle.density_entries.specs.Filled.{EntriesReady, LowerTurns, tableEntry}
+use Rattle.density_entries.specs.OffsetLoop.{OffsetSteps}
+use Rattle.density_entries.proofs.EntryLaws.{table-entry, mirrored-density}
+use Rattle.densities.specs.Density.{densityLengths, densityAnswer, densityList, Density, DensityAccepted}
 
 -- ---- the refusals that did not come
 
@@ -45,7 +45,7 @@ lengths-done size dim s o w e =
       ltb-false w (2 * dim) (refuse-done (ltb w (2 * dim)) 5 3 done (b .1) .0),
     )
 
-pub accepted : (s : List Float) (n : ℕ) (l : List ℕ) (cap o w : ℕ) → densityAnswer s n l cap o w .0 ≡ 0 → Accepted s n l o × (2 * 2 ^ length l ≤ w)
+pub accepted : (s : List Float) (n : ℕ) (l : List ℕ) (cap o w : ℕ) → densityAnswer s n l cap o w .0 ≡ 0 → DensityAccepted s n l o × (2 * 2 ^ length l ≤ w)
 accepted s n l cap o w e =
     let a = andThen-done (densityRefusal n cap l) (andThen (densityLengths (2 ^ n) (2 ^ length l) (length s) o w) (components 0 s)) e in
     let b = andThen-done (densityLengths (2 ^ n) (2 ^ length l) (length s) o w) (components 0 s) (a .1) in
@@ -62,7 +62,7 @@ side-small k h = pow-mono h
 pub even-power : (k : ℕ) → 1 ≤ k → 2 ^ k % 2 ≡ 0
 even-power (suc k) h = omega (arith, pow-suc 2 k)
 
-module _ (s : List Float) (n : ℕ) (l : List ℕ) (o : List Float) (p : Accepted s n l (length o)) where
+module _ (s : List Float) (n : ℕ) (l : List ℕ) (o : List Float) (p : DensityAccepted s n l (length o)) where
   -- the matrix has room
   pub density-square : (dim : ℕ) → dim ≡ 2 ^ length l → Square dim o
   density-square dim e = record { small = rw e (side-small (length l) (p .few)); room = rw e (p .room) }
@@ -71,8 +71,8 @@ module _ (s : List Float) (n : ℕ) (l : List ℕ) (o : List Float) (p : Accepte
   pub density-few : (dim groups : ℕ) → dim ≡ 2 ^ length l → groups ≡ 2 ^ (n - length l) → groups * dim ≤ 4096
   density-few dim groups e eg = rw (e, eg, sizes-product n (length l) (p .listed .short)) (pow-small n (p .listed .small))
 
-  pub density-ready : (dim full mask : ℕ) (old table : List ℕ) → dim ≡ 2 ^ length l → OffsetTurns l dim old table dim → dim ≤ length old
-      → full ≡ 2 ^ n → mask ≡ named l → Ready n s (full - 1 - mask) table dim
+  pub density-ready : (dim full mask : ℕ) (old table : List ℕ) → dim ≡ 2 ^ length l → OffsetSteps l dim old table dim → dim ≤ length old
+      → full ≡ 2 ^ n → mask ≡ named l → EntriesReady n s (full - 1 - mask) table dim
   density-ready dim full mask old table e t room ef em = record {
     small = p .listed .small;
     long = p .state;
@@ -83,7 +83,7 @@ module _ (s : List Float) (n : ℕ) (l : List ℕ) (o : List Float) (p : Accepte
   }
 
   -- the lower half filled and mirrored
-  pub density-end : (dim full mask groups : ℕ) (old table : List ℕ) (mid end : List Float) → dim ≡ 2 ^ length l → OffsetTurns l dim old table dim
+  pub density-end : (dim full mask groups : ℕ) (old table : List ℕ) (mid end : List Float) → dim ≡ 2 ^ length l → OffsetSteps l dim old table dim
       → full ≡ 2 ^ n → mask ≡ named l → groups ≡ 2 ^ (n - length l)
       → LowerTurns dim (tableEntry n s (full - 1 - mask) groups table) o mid (dim / 2) → end ≡ mirrored mid dim → end ≡ densityList n l s o
   density-end dim full mask groups old table mid end e t ef em eg i ee =
@@ -105,9 +105,3 @@ module _ (s : List Float) (n : ℕ) (l : List ℕ) (cap : ℕ) (o w : List Float
   density-done out scratch h eo ew =
       let z : densityAnswer s n l cap (length o) (length w) .0 ≡ 0 = sym (ap (λ (y : Reply). y .0) e) ∙ h in
       record { answer = e; matrix = eo ∙ done-new _ (densityList n l s o) o z; cleared = ew ∙ done-new _ (zeroed (2 * 2 ^ length l) w) w z }
-
--- ONE OUTCOME: two ends of a call that both meet the contract are the same
-pub dense-reduced-density-one : (s : List Float) (n : ℕ) (l : List ℕ) (cap : ℕ) (o w : List Float) (r r′ : Answer) (out out′ scratch scratch′ : List Float)
-    → Density s n l cap o w r out scratch → Density s n l cap o w r′ out′ scratch′ → (r ≡ r′) × (out ≡ out′) × (scratch ≡ scratch′)
-dense-reduced-density-one s n l cap o w r r′ out out′ scratch scratch′ a b =
-    (paper-one r r′ (a .answer ∙ sym (b .answer)), a .matrix ∙ sym (b .matrix), a .cleared ∙ sym (b .cleared))

@@ -10,9 +10,10 @@ use lib.Ieee.{Float}
 use lib.ListN.{length}
 use Rattle.answers.specs.declared.Answer.{Answer}
 use Rattle.answers.specs.Paper.{Reply, paper, refuse}
-use Rattle.answers.proofs.PaperLaws.{refuse-done, paper-one, done-new, done-old}
+use Rattle.answers.proofs.PaperLaws.{refuse-done, done-new, done-old}
+use Rattle.answers.proofs.Theorems.{paper-one}
 use Rattle.complex.specs.Cells.{components}
-use Rattle.density_entries.specs.Squares.{mirrored, Square}
+use Rattle.density_entries.specs.Squares.{Square}
 use Rattle.densities.specs.Square.{squareAnswer, InPlace}
 
 -- a matrix that 1 and 6 do not refuse
@@ -36,7 +37,3 @@ module _ (a : Reply) (new old : List Float) (r : Answer) (e : paper r ≡ a) whe
 pub place-one : (a : Reply) (new old : List Float) (r r′ : Answer) (end end′ : List Float)
     → InPlace a new old r end → InPlace a new old r′ end′ → (r ≡ r′) × (end ≡ end′)
 place-one a new old r r′ end end′ p q = (paper-one r r′ (p .answer ∙ sym (q .answer)), p .matrix ∙ sym (q .matrix))
-
-pub mirror-lower-triangle-one : (s : List Float) (dim : ℕ) (r r′ : Answer) (end end′ : List Float)
-    → InPlace (squareAnswer s dim) (mirrored s dim) s r end → InPlace (squareAnswer s dim) (mirrored s dim) s r′ end′ → (r ≡ r′) × (end ≡ end′)
-mirror-lower-triangle-one s dim r r′ end end′ p q = place-one (squareAnswer s dim) (mirrored s dim) s r r′ end end′ p q

@@ -35,7 +35,7 @@ pub record Density (s : List Float) (n : ℕ) (l : List ℕ) (cap : ℕ) (o w : 
   pub cleared : scratch ≡ ifDone (densityAnswer s n l cap (length o) (length w) .0) (zeroed (2 * 2 ^ length l) w) w
 
 -- what the inner functions ask
-pub record Accepted (s : List Float) (n : ℕ) (l : List ℕ) (o : ℕ) : Type 0 where
+pub record DensityAccepted (s : List Float) (n : ℕ) (l : List ℕ) (o : ℕ) : Type 0 where
   pub listed : Listed n l
   pub some : 1 ≤ length l
   pub few : length l ≤ 6

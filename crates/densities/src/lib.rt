@@ -6,7 +6,7 @@ ghost use lib.ListN.{length};
 ghost use Rattle.answers.specs.Paper.{paper};
 ghost use Rattle.density_entries.specs.Squares.{mirrored};
 ghost use Rattle.densities.specs.Square.{squareAnswer, InPlace};
-ghost use Rattle.densities.specs.Density.{densityLengths, densityAnswer, densityList, Density, Accepted};
+ghost use Rattle.densities.specs.Density.{densityLengths, densityAnswer, densityList, Density, DensityAccepted};
 
 // Inner: a square matrix among a call's own arguments: 1 by its side, 6 by its length, 7 by its components.
 pub fn square_refusal(rho: &[f64], dim: usize) -> Answer
@@ -81,7 +81,7 @@ fn density_answer(
 
 // The density at the front of out.
 fn fill_density(state: &[f64], n: usize, list: &[usize], out: &mut [f64])
-    requires { ⌜ Accepted (now state) n (now list) (length (now out)) ⌝ }
+    requires { ⌜ DensityAccepted (now state) n (now list) (length (now out)) ⌝ }
     ensures { λ _. ⌜ now (out .exit) ≡ densityList n (now (list .entry)) (now (state .entry)) (now (out .entry)) ⌝ }
 {
     let k = list.len();

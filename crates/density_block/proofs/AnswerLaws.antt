@@ -8,17 +8,14 @@ use borrow.Author.Tests.{eq-eqb, ne-eqb, eqb-true, not-false}
 use lib.Dec.{eqb}
 use lib.Ieee.{Float}
 use lib.ListN.{length, getD}
-use Rattle.answers.specs.declared.Answer.{Answer}
 use Rattle.answers.specs.Paper.{done, refuse, andThen}
 use Rattle.answers.proofs.PaperLaws.{refuse-done, andThen-done}
 use Rattle.complex.specs.Cells.{components}
 use Rattle.qubits.specs.Lists.{qubitSet}
 use Rattle.qubits.proofs.NamedLaws.{is-listed, not-empty}
-use Rattle.densities.specs.Square.{InPlace}
-use Rattle.densities.proofs.SquareLaws.{place-one}
 use Rattle.densities.proofs.DensityLaws.{side-small}
-use Rattle.density_block.specs.Factor.{widthOf, blockSizes, blockLengths, blockAnswer, multiplied, Factored}
-use Rattle.density_block.proofs.FactorLawsLaws.{width-power}
+use Rattle.density_block.specs.Factor.{widthOf, blockSizes, blockLengths, blockAnswer, Factored}
+use Rattle.density_block.proofs.FactorLaws.{width-power}
 
 -- ---- answer 1
 
@@ -78,10 +75,3 @@ accepted-factor s dim l f side e =
       side-is = q .2;
       factor = d .1;
     }
-
--- ONE OUTCOME
-pub multiply-block-factor-one : (s : List Float) (dim : ℕ) (l : List ℕ) (f : List Float) (side : ℕ) (r r′ : Answer) (end end′ : List Float)
-    → InPlace (blockAnswer s dim l f side) (multiplied s dim l f side) s r end → InPlace (blockAnswer s dim l f side) (multiplied s dim l f side) s r′ end′
-    → (r ≡ r′) × (end ≡ end′)
-multiply-block-factor-one s dim l f side r r′ end end′ p q =
-    place-one (blockAnswer s dim l f side) (multiplied s dim l f side) s r r′ end end′ p q

@@ -1,3 +1,4 @@
 -- The laws, and what the functions' proofs share.
 pub mod AnswerLaws
-pub mod FactorLawsLaws
+pub mod FactorLaws
+pub mod Theorems

@@ -1,3 +1,3 @@
 -- What the contracts of `density_block` cite.
 pub mod Factor
-pub mod FactorLaws
+pub mod FactorLoops

@@ -6,7 +6,7 @@ ghost use lib.ListN.{length};
 ghost use Rattle.answers.specs.Paper.{paper};
 ghost use Rattle.densities.specs.Square.{InPlace};
 ghost use Rattle.density_block.specs.Factor.{widthOf, blockIndex, blockSizes, blockLengths, blockAnswer, factorEntry, multiplied, Below, Factored};
-ghost use Rattle.density_block.specs.FactorLaws.{RowTurns};
+ghost use Rattle.density_block.specs.FactorLoops.{FactorSteps};
 
 // log2 of a power of two from 2 to 64; any other number gives 0, below which there is no position.
 fn width_of(dim: usize) -> usize
@@ -77,7 +77,7 @@ fn multiply_row(
     side: usize,
 )
     requires { ⌜ Factored (now rho) dim (now positions) (now factor) side × (t < dim) ⌝ }
-    ensures { λ _. ⌜ RowTurns dim t (factorEntry (now (positions .entry)) (now (factor .entry)) side t) (now (rho .entry)) (now (rho .exit)) dim ⌝ }
+    ensures { λ _. ⌜ FactorSteps dim t (factorEntry (now (positions .entry)) (now (factor .entry)) side t) (now (rho .entry)) (now (rho .exit)) dim ⌝ }
 {
     let row = block_index(positions, t) * side;
     let mut u: usize = 0;

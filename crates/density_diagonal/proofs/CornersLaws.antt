@@ -9,14 +9,14 @@ use lib.Bits.{bitOr}
 use lib.Ieee.{Float, binary64, add}
 use lib.ListN.{length}
 use Rattle.complex.specs.declared.Complex.{Complex}
-use Rattle.complex.specs.Arithmetic.{complexOf, sum, product, conjugate, normSqr}
+use Rattle.complex.specs.Arithmetic.{complexOf, sumOf, product, conjugate, normSqr}
 use Rattle.complex.specs.Cells.{cellAt}
 use Rattle.complex.specs.Zeros.{zeroFloat}
 use Rattle.components.specs.Every.{everyAllowed}
 use Rattle.components.proofs.EveryLaws.{every-at}
 use Rattle.submasks.specs.Submasks.{submaskAt, nextSubmask}
 use Rattle.submasks.proofs.SubmaskLaws.{submaskAt-first, next-submaskAt}
-use Rattle.density_entries.specs.Entries.{term}
+use Rattle.density_entries.specs.Entries.{densityTerm}
 use Rattle.density_entries.specs.Blocks.{Reach}
 use Rattle.density_entries.proofs.BlocksLaws.{reached}
 use Rattle.density_rows.proofs.RowSumsLaws.{total-none, total-more}
@@ -37,11 +37,11 @@ turned-same k e f = ap₂ (cornerTurn k) e f
 
 -- one more term of an entry on the diagonal
 own-more : (s : List Float) (x : ℕ) (p : Float) (t : Complex) → everyAllowed s ≡ true → 2 * x + 1 < length s → complexOf p zeroFloat ≡ t
-    → complexOf (add binary64 p (normSqr (cellAt s x))) zeroFloat ≡ sum t (product (cellAt s x) (conjugate (cellAt s x)))
-unfolding sum
+    → complexOf (add binary64 p (normSqr (cellAt s x))) zeroFloat ≡ sumOf t (product (cellAt s x) (conjugate (cellAt s x)))
+unfolding sumOf
 own-more s x p t ev h e =
     ap (complexOf (add binary64 p (normSqr (cellAt s x)))) (sym zero-zero)
-    ∙ ap₂ sum e (sym (own-product (cellAt s x) (every-at s (2 * x) ev (omega arith)) (every-at s (2 * x + 1) ev h)))
+    ∙ ap₂ sumOf e (sym (own-product (cellAt s x) (every-at s (2 * x) ev (omega arith)) (every-at s (2 * x + 1) ev h)))
 
 module _ (n : ℕ) (s : List Float) (mask m a0 a1 : ℕ) where
   pub corner-begin : (k : Corner) (z : Complex) → z ≡ complexOf zeroFloat zeroFloat → k ≡ cornerOf zeroFloat z zeroFloat → CornerTurns n s mask m a0 a1 k 0 0
@@ -49,7 +49,7 @@ module _ (n : ℕ) (s : List Float) (mask m a0 a1 : ℕ) where
     within = omega arith;
     base-is = sym (submaskAt-first n mask);
     sums = subst (λ (x : Corner). CornerSums n s mask 0 a0 a1 x) (sym ek)
-        (record { first-is = total-none (term n s mask a0 a0); between-is = ez ∙ total-none (term n s mask a1 a0); last-is = total-none (term n s mask a1 a1) });
+        (record { first-is = total-none (densityTerm n s mask a0 a0); between-is = ez ∙ total-none (densityTerm n s mask a1 a0); last-is = total-none (densityTerm n s mask a1 a1) });
   }
 
   more : (k : Corner) (e : ℕ) → everyAllowed s ≡ true → 2 * bitOr a0 (submaskAt n mask e) + 1 < length s → 2 * bitOr a1 (submaskAt n mask e) + 1 < length s
@@ -57,9 +57,9 @@ module _ (n : ℕ) (s : List Float) (mask m a0 a1 : ℕ) where
       → CornerSums n s mask (e + 1) a0 a1 (cornerTurn k (cellAt s (bitOr a0 (submaskAt n mask e))) (cellAt s (bitOr a1 (submaskAt n mask e))))
   unfolding cornerTurn
   more k e ev h0 h1 i = record {
-    first-is = own-more s (bitOr a0 (submaskAt n mask e)) (k .first) _ ev h0 (i .first-is) ∙ total-more e (term n s mask a0 a0);
-    between-is = ap (λ (z : Complex). sum z (term n s mask a1 a0 e)) (i .between-is) ∙ total-more e (term n s mask a1 a0);
-    last-is = own-more s (bitOr a1 (submaskAt n mask e)) (k .last) _ ev h1 (i .last-is) ∙ total-more e (term n s mask a1 a1);
+    first-is = own-more s (bitOr a0 (submaskAt n mask e)) (k .first) _ ev h0 (i .first-is) ∙ total-more e (densityTerm n s mask a0 a0);
+    between-is = ap (λ (z : Complex). sumOf z (densityTerm n s mask a1 a0 e)) (i .between-is) ∙ total-more e (densityTerm n s mask a1 a0);
+    last-is = own-more s (bitOr a1 (submaskAt n mask e)) (k .last) _ ev h1 (i .last-is) ∙ total-more e (densityTerm n s mask a1 a1);
   }
 
   pub corner-turn : (k k′ : Corner) (base base′ e : ℕ) → Reach n s mask a0 a1 a0 a1 → everyAllowed s ≡ true → CornerTurns n s mask m a0 a1 k base e → e < m

@@ -13,7 +13,7 @@ use lib.Ieee.{Float, nan, inf, fin, binary64, round, units, odd, add, mul, neg, 
 use lib.Ieee.Fits.{round-is}
 use lib.Ieee.Order.{round-mono}
 use lib.Ieee.Scale.{round-same}
-use Rattle.numbers.specs.Numbers.{allowed, finite}
+use Rattle.numbers.specs.Numbers.{allowed, isFinite}
 use Rattle.complex.specs.declared.Complex.{Complex}
 use Rattle.complex.specs.Arithmetic.{complexOf, product, conjugate, normSqr}
 use Rattle.complex.specs.Zeros.{zeroFloat}
@@ -29,23 +29,23 @@ down-pos (negsuc k) = pow-pos (suc k)
 unfoldable bound : ℕ
 bound = 2 ^ 200 * 2 ^ 200
 
-odd-finite : (d : ℕ) (s : Bool) (q k l : ℕ) → finite (odd d s q k l) ≡ true
-unfolding odd finite
+odd-finite : (d : ℕ) (s : Bool) (q k l : ℕ) → isFinite (odd d s q k l) ≡ true
+unfolding odd isFinite
 odd-finite d s zero k l = refl
 odd-finite d s (suc q) k l = refl
 
-either : (b : Bool) (x : Float) → finite x ≡ true → (finite (cond b x (inf false)) ≡ true) ⊎ (cond b x (inf false) ≡ inf false)
+either : (b : Bool) (x : Float) → isFinite x ≡ true → (isFinite (cond b x (inf false)) ≡ true) ⊎ (cond b x (inf false) ≡ inf false)
 either true x h = inl h
 either false x h = inr refl
 
-units-either : (q k : ℕ) → (finite (units binary64 false q k) ≡ true) ⊎ (units binary64 false q k ≡ inf false)
+units-either : (q k : ℕ) → (isFinite (units binary64 false q k) ≡ true) ⊎ (units binary64 false q k ≡ inf false)
 unfolding units
 units-either q k =
     either (ltb (q * 2 ^ k) (2 ^ (low binary64 + suc (emax binary64)))) (odd (suc (prec binary64)) false q k (low binary64))
     (odd-finite (suc (prec binary64)) false q k (low binary64))
 
-round-either : (a c : ℕ) → (finite (round binary64 false a c) ≡ true) ⊎ (round binary64 false a c ≡ inf false)
-round-either a c = subst (λ (x : Float). (finite x ≡ true) ⊎ (x ≡ inf false)) (sym (round-is binary64 false a c)) (units-either _ _)
+round-either : (a c : ℕ) → (isFinite (round binary64 false a c) ≡ true) ⊎ (round binary64 false a c ≡ inf false)
+round-either a c = subst (λ (x : Float). (isFinite x ≡ true) ⊎ (x ≡ inf false)) (sym (round-is binary64 false a c)) (units-either _ _)
 
 bound-rounded : round binary64 false bound 1 ≡ fin false 1 (pos 400)
 unfolding round bound
@@ -55,32 +55,32 @@ not-below : T (le (inf false) (fin false 1 (pos 400))) → ⊥
 unfolding le lt eq
 not-below h = h
 
-round-finite : (a c : ℕ) → 0 < c → a ≤ bound * c → finite (round binary64 false a c) ≡ true
+round-finite : (a c : ℕ) → 0 < c → a ≤ bound * c → isFinite (round binary64 false a c) ≡ true
 round-finite a c hc h =
     ⊎-elim
-    (λ (e : finite (round binary64 false a c) ≡ true). e)
+    (λ (e : isFinite (round binary64 false a c) ≡ true). e)
     (λ (e : round binary64 false a c ≡ inf false).
     absurd (not-below (subst (λ (x : Float). T (le x (fin false 1 (pos 400)))) e
     (subst (λ (x : Float). T (le (round binary64 false a c) x)) bound-rounded
     (round-mono binary64 a c bound 1 hc (omega arith) (le-trans (le-of-eq (mul-one a)) h))))))
     (round-either a c)
 
-finite-neg : (x : Float) → finite (neg x) ≡ finite x
-unfolding finite neg
+finite-neg : (x : Float) → isFinite (neg x) ≡ isFinite x
+unfolding isFinite neg
 finite-neg nan = refl
 finite-neg (inf s) = refl
 finite-neg (fin s m e) = refl
 
 -- the same with either sign
-signed-finite : (s : Bool) (a c : ℕ) → 0 < c → a ≤ bound * c → finite (round binary64 s a c) ≡ true
-signed-finite true a c hc h = ap finite (round-neg binary64 false a c) ∙ finite-neg (round binary64 false a c) ∙ round-finite a c hc h
+signed-finite : (s : Bool) (a c : ℕ) → 0 < c → a ≤ bound * c → isFinite (round binary64 s a c) ≡ true
+signed-finite true a c hc h = ap isFinite (round-neg binary64 false a c) ∙ finite-neg (round binary64 false a c) ∙ round-finite a c hc h
 signed-finite false a c hc h = round-finite a c hc h
 
 times-times : (k x y : ℕ) → k * x * (k * y) ≡ k * k * (x * y)
 times-times k x y = mul-assoc k x (k * y) ∙ ap (λ (z : ℕ). k * z) (mul-left-comm x k y) ∙ sym (mul-assoc k k (x * y))
 
 -- a product of two allowed components is finite
-mul-finite : (x y : Float) → allowed x ≡ true → allowed y ≡ true → finite (mul binary64 x y) ≡ true
+mul-finite : (x y : Float) → allowed x ≡ true → allowed y ≡ true → isFinite (mul binary64 x y) ≡ true
 unfolding allowed mul bound
 mul-finite nan y h g = cc
 mul-finite (inf s) y h g = cc
@@ -100,8 +100,8 @@ alone : (s t : Bool) (a c : ℕ) → 0 < c → cond (ltb a a) (round binary64 t 
 alone s t a c h = rw (le-ltb a a (omega arith), sub-self a)
 
 -- p + (-p) is +0.0
-cancels : (p : Float) → finite p ≡ true → add binary64 p (neg p) ≡ zeroFloat
-unfolding finite add sum neg
+cancels : (p : Float) → isFinite p ≡ true → add binary64 p (neg p) ≡ zeroFloat
+unfolding isFinite add sum neg
 cancels nan h = cc
 cancels (inf s) h = cc
 cancels (fin true m e) h =

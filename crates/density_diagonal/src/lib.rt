@@ -7,7 +7,7 @@ ghost use Prim.Native.Nat.{_+_, _*_, _/_, _<_, _≤_};
 ghost use Rattle.components.specs.Every.{everyAllowed};
 ghost use Rattle.density_entries.specs.Squares.{Square};
 ghost use Rattle.density_entries.specs.Blocks.{Reach};
-ghost use Rattle.density_entries.specs.Filled.{tableEntry, Ready, LowerTurns};
+ghost use Rattle.density_entries.specs.Filled.{tableEntry, EntriesReady, LowerTurns};
 ghost use Rattle.density_diagonal.specs.Corners.{cornerTurn, CornerSums};
 ghost use Rattle.density_diagonal.specs.CornerRows.{cornerFilled};
 
@@ -66,7 +66,7 @@ fn fill_corner(
     t: usize,
     out: &mut [f64],
 )
-    requires { ⌜ Ready n (now state) mask (now offsets) dim × (everyAllowed (now state) ≡ true) ⌝ }
+    requires { ⌜ EntriesReady n (now state) mask (now offsets) dim × (everyAllowed (now state) ≡ true) ⌝ }
     requires { ⌜ Square dim (now out) × (2 * t + 1 < dim) ⌝ }
     ensures { λ _. ⌜ now (out .exit) ≡ cornerFilled (tableEntry n (now (state .entry)) mask groups (now (offsets .entry))) dim t (now (out .entry)) ⌝ }
 {
@@ -92,7 +92,7 @@ fn fill_blocks(
     dim: usize,
     out: &mut [f64],
 )
-    requires { ⌜ Ready n (now state) mask (now offsets) dim × (everyAllowed (now state) ≡ true) ⌝ }
+    requires { ⌜ EntriesReady n (now state) mask (now offsets) dim × (everyAllowed (now state) ≡ true) ⌝ }
     requires { ⌜ Square dim (now out) ⌝ }
     ensures { λ _. ⌜ LowerTurns dim (tableEntry n (now (state .entry)) mask groups (now (offsets .entry))) (now (out .entry)) (now (out .exit)) (dim / 2) ⌝ }
 {
@@ -116,7 +116,7 @@ pub fn fill_lower(
     dim: usize,
     out: &mut [f64],
 )
-    requires { ⌜ Ready n (now state) mask (now offsets) dim × (everyAllowed (now state) ≡ true) ⌝ }
+    requires { ⌜ EntriesReady n (now state) mask (now offsets) dim × (everyAllowed (now state) ≡ true) ⌝ }
     requires { ⌜ Square dim (now out) × (groups * dim ≤ 4096) ⌝ }
     ensures { λ _. ⌜ LowerTurns dim (tableEntry n (now (state .entry)) mask groups (now (offsets .entry))) (now (out .entry)) (now (out .exit)) (dim / 2) ⌝ }
 {

@@ -13,10 +13,10 @@ use Rattle.density_entries.specs.Blocks.{Reach}
 use Rattle.density_entries.specs.Squares.{Square, entryAt}
 use Rattle.density_entries.specs.Pairs.{setPair, RowIs}
 use Rattle.density_entries.proofs.PairsLaws.{length-setPair, past-pair, row-more, row-kept, entry-kept}
-use Rattle.density_entries.specs.Filled.{Ready, PairTurns, LowerTurns}
+use Rattle.density_entries.specs.Filled.{EntriesReady, PairTurns, LowerTurns}
 
 -- four offsets of the table
-pub ready-reach : (n : ℕ) (s : List Float) (mask : ℕ) (offsets : List ℕ) (dim r c : ℕ) → Ready n s mask offsets dim → r + 1 < dim → c + 1 < dim
+pub ready-reach : (n : ℕ) (s : List Float) (mask : ℕ) (offsets : List ℕ) (dim r c : ℕ) → EntriesReady n s mask offsets dim → r + 1 < dim → c + 1 < dim
     → Reach n s mask (getD offsets r 0) (getD offsets (r + 1) 0) (getD offsets c 0) (getD offsets (c + 1) 0)
 ready-reach n s mask offsets dim r c p hr hc = record {
   small = p .small;

@@ -37,7 +37,7 @@ pub same-column : (dim t u r c : ℕ) → u < dim → c < dim → t * dim + u �
 same-column dim t u r c hu hc e = sym (digits-mod t hu) ∙ ap (λ (x : ℕ). x % dim) e ∙ digits-mod r hc
 
 -- left of column t the upper half is the conjugate of the lower, and every other cell is as it was
-pub record RowTurns (dim : ℕ) (s end : List Float) (t : ℕ) : Type 0 where
+pub record MirrorSteps (dim : ℕ) (s end : List Float) (t : ℕ) : Type 0 where
   pub within : t ≤ dim
   pub long : length end ≡ length s
   pub surplus : drop (2 * (dim * dim)) end ≡ drop (2 * (dim * dim)) s
@@ -73,13 +73,13 @@ column-turn dim t s now end u z p ht i hu ez ee =
 pub column-end : (dim t : ℕ) (s end : List Float) (u : ℕ) → ColumnTurns dim t s end u → t ≤ u → ColumnTurns dim t s end t
 column-end dim t s end u i h = let e : u ≡ t = omega (arith, i .within) in subst (λ (x : ℕ). ColumnTurns dim t s end x) e i
 
-pub row-end : (dim : ℕ) (s end : List Float) (t : ℕ) → RowTurns dim s end t → dim ≤ t → RowTurns dim s end dim
-row-end dim s end t i h = let e : t ≡ dim = omega (arith, i .within) in subst (λ (x : ℕ). RowTurns dim s end x) e i
+pub row-end : (dim : ℕ) (s end : List Float) (t : ℕ) → MirrorSteps dim s end t → dim ≤ t → MirrorSteps dim s end dim
+row-end dim s end t i h = let e : t ≡ dim = omega (arith, i .within) in subst (λ (x : ℕ). MirrorSteps dim s end x) e i
 
-pub row-begin : (dim : ℕ) (s : List Float) → RowTurns dim s s 0
+pub row-begin : (dim : ℕ) (s : List Float) → MirrorSteps dim s s 0
 row-begin dim s = record { within = omega arith; long = refl; surplus = refl; mirrored = λ r c g h. absurd (omega arith); kept = λ r c a b n. refl }
 
-pub row-turn : (dim : ℕ) (s now end : List Float) (t : ℕ) → RowTurns dim s now t → t < dim → ColumnTurns dim t now end t → RowTurns dim s end (t + 1)
+pub row-turn : (dim : ℕ) (s now end : List Float) (t : ℕ) → MirrorSteps dim s now t → t < dim → ColumnTurns dim t now end t → MirrorSteps dim s end (t + 1)
 row-turn dim s now end t i ht j = record {
   within = omega arith;
   long = j .long ∙ i .long;
@@ -95,7 +95,7 @@ row-turn dim s now end t i ht j = record {
 }
 
 -- when the rows are done, each entry is the mirrored one
-entry-end : (dim : ℕ) (s end : List Float) (r c : ℕ) → RowTurns dim s end dim → r < dim → c < dim → (b : Bool) → leb c r ≡ b
+entry-end : (dim : ℕ) (s end : List Float) (r c : ℕ) → MirrorSteps dim s end dim → r < dim → c < dim → (b : Bool) → leb c r ≡ b
     → entryAt end dim r c ≡ mirroredEntry (entryAt s dim) r c
 entry-end dim s end r c i hr hc true e =
     i .kept r c hr hc (λ g h. omega (arith, leb-true c r e)) ∙ sym (cond-yes (entryAt s dim r c) (conjugate (entryAt s dim c r)) e)
@@ -117,7 +117,7 @@ column-of dim k h =
     (λ (g : 0 < dim). mod-lt k g)
     (eq-zero-or-pos dim)
 
-pub mirror-cell : (dim : ℕ) (s end : List Float) → RowTurns dim s end dim → (k : ℕ) → k < dim * dim → cellAt end k ≡ mirrorCell s dim k
+pub mirror-cell : (dim : ℕ) (s end : List Float) → MirrorSteps dim s end dim → (k : ℕ) → k < dim * dim → cellAt end k ≡ mirrorCell s dim k
 mirror-cell dim s end i k h =
     ap (cellAt end) (sym (div-add-mod' k dim))
     ∙ entry-end dim s end (k / dim) (k % dim) i (row-of dim k h) (column-of dim k h) (leb (k % dim) (k / dim)) refl
@@ -128,5 +128,5 @@ pub table-end : (m : ℕ) (f : ℕ → Complex) (s end : List Float) → 2 * m �
 unfolding written
 table-end m f s end room surplus cells = whole m f end room cells ∙ ap (λ (x : List Float). cellsOf m f ++ x) surplus
 
-pub mirror-end : (dim : ℕ) (s end : List Float) → Square dim s → RowTurns dim s end dim → end ≡ written (dim * dim) (mirrorCell s dim) s
+pub mirror-end : (dim : ℕ) (s end : List Float) → Square dim s → MirrorSteps dim s end dim → end ≡ written (dim * dim) (mirrorCell s dim) s
 mirror-end dim s end p i = table-end (dim * dim) (mirrorCell s dim) s end (omega (arith, p .room, i .long)) (i .surplus) (mirror-cell dim s end i)

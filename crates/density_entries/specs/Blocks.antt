@@ -5,7 +5,7 @@ use Prim.Native.Nat.{ℕ, _*_, _≤_, _<_, _^_}
 use lib.Ieee.{Float}
 use lib.ListN.{length}
 use Rattle.complex.specs.declared.Complex.{Complex}
-use Rattle.complex.specs.Arithmetic.{sum, product, conjugate}
+use Rattle.complex.specs.Arithmetic.{sumOf, product, conjugate}
 use Rattle.density_entries.specs.declared.Block.{Block}
 use Rattle.density_entries.specs.Entries.{entrySum}
 
@@ -14,7 +14,7 @@ blockOf p q r s = record { first = p; second = q; third = r; fourth = s }
 
 -- one more term to an entry's sum
 abbrev pub added : Complex → Complex → Complex → Complex
-added s a b = sum s (product a (conjugate b))
+added s a b = sumOf s (product a (conjugate b))
 
 -- one more term to each of the four
 unfoldable pub blockTurn : Block → Complex → Complex → Complex → Complex → Block

@@ -14,7 +14,7 @@ abbrev pub tableEntry : ℕ → List Float → ℕ → ℕ → List ℕ → ℕ 
 tableEntry n s mask m offsets r c = entrySum n s mask m (getD offsets r 0) (getD offsets c 0)
 
 -- what the loops ask: the register's state and mask, and a table of offsets of the register for an even number of rows
-pub record Ready (n : ℕ) (s : List Float) (mask : ℕ) (offsets : List ℕ) (dim : ℕ) : Type 0 where
+pub record EntriesReady (n : ℕ) (s : List Float) (mask : ℕ) (offsets : List ℕ) (dim : ℕ) : Type 0 where
   pub small : n ≤ 12
   pub long : length s ≡ 2 * 2 ^ n
   pub mask-lt : mask < 2 ^ n

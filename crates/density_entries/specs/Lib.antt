@@ -5,4 +5,4 @@ pub mod Entries
 pub mod Blocks
 pub mod Pairs
 pub mod Filled
-pub mod EntryLaws
+pub mod OffsetLoop

@@ -7,8 +7,8 @@ ghost use Rattle.qubits.specs.Lists.{Listed};
 ghost use Rattle.density_entries.specs.Squares.{mirrored, Square};
 ghost use Rattle.density_entries.specs.Blocks.{blockTurn, blockSums, Reach};
 ghost use Rattle.density_entries.specs.Pairs.{setPair};
-ghost use Rattle.density_entries.specs.Filled.{tableEntry, Ready, PairTurns, LowerTurns};
-ghost use Rattle.density_entries.specs.EntryLaws.{OffsetTurns};
+ghost use Rattle.density_entries.specs.Filled.{tableEntry, EntriesReady, PairTurns, LowerTurns};
+ghost use Rattle.density_entries.specs.OffsetLoop.{OffsetSteps};
 ghost use Rattle.density_entries.specs.Mirrored.{ColumnTurns};
 
 // Four entries, two rows by two columns, row after row.
@@ -93,7 +93,7 @@ pub fn fill_row_pair(
     stop: usize,
     out: &mut [f64],
 )
-    requires { ⌜ Ready n (now state) mask (now offsets) dim ⌝ }
+    requires { ⌜ EntriesReady n (now state) mask (now offsets) dim ⌝ }
     requires { ⌜ Square dim (now out) × (2 * t + 1 < dim) × (stop ≤ t + 1) ⌝ }
     ensures { λ _. ⌜ PairTurns dim t (tableEntry n (now (state .entry)) mask groups (now (offsets .entry))) (now (out .entry)) (now (out .exit)) stop ⌝ }
 {
@@ -122,7 +122,7 @@ pub fn fill_lower(
     dim: usize,
     out: &mut [f64],
 )
-    requires { ⌜ Ready n (now state) mask (now offsets) dim ⌝ }
+    requires { ⌜ EntriesReady n (now state) mask (now offsets) dim ⌝ }
     requires { ⌜ Square dim (now out) ⌝ }
     ensures { λ _. ⌜ LowerTurns dim (tableEntry n (now (state .entry)) mask groups (now (offsets .entry))) (now (out .entry)) (now (out .exit)) (dim / 2) ⌝ }
 {
@@ -138,7 +138,7 @@ pub fn fill_lower(
 pub fn fill_offsets(list: &[usize], n: usize, dim: usize, offsets: &mut [usize])
     requires { ⌜ Listed n (now list) ⌝ }
     requires { ⌜ dim ≤ length (now offsets) ⌝ }
-    ensures { λ _. ⌜ OffsetTurns (now (list .entry)) dim (now (offsets .entry)) (now (offsets .exit)) dim ⌝ }
+    ensures { λ _. ⌜ OffsetSteps (now (list .entry)) dim (now (offsets .entry)) (now (offsets .exit)) dim ⌝ }
 {
     let mut t: usize = 0;
     while t < dim {

@@ -1,3 +1,4 @@
 -- The laws, and what the functions' proofs share.
 pub mod Pages
 pub mod RecountLaws
+pub mod Theorems

@@ -19,7 +19,7 @@ use Rattle.submasks.specs.Submasks.{submaskAt, submaskNumber}
 use Rattle.submasks.proofs.SubmaskLaws.{submaskAt-zero, submaskAt-even, submaskAt-odd, submaskAt-first, submaskNumber-even, submaskNumber-odd, submaskNumber-zero, submaskNumber-lt, submaskCount-le, digit, le-or-lt}
 use Rattle.answers.specs.declared.Answer.{Answer}
 use Rattle.answers.specs.Paper.{Reply, paper, done, refuse, andThen}
-use Rattle.answers.proofs.PaperLaws.{refuse-done, andThen-done, paper-one, done-new, done-old}
+use Rattle.answers.proofs.PaperLaws.{refuse-done, andThen-done, done-new, done-old}
 use Rattle.qubits.specs.Lists.{qubitSet, subsystem}
 use Rattle.qubits.proofs.NamedLaws.{sizes-product, is-listed, not-empty}
 use Rattle.complex.specs.declared.Complex.{Complex}
@@ -29,8 +29,8 @@ use Rattle.complex.proofs.CellLaws.{cells-same}
 use Rattle.density_entries.specs.Squares.{Square, entryAt, mirrorCell, mirrored, mirroredEntry, rowMajor}
 use Rattle.density_entries.proofs.MirroredLaws.{row-of, column-of}
 use Rattle.density_entries.specs.Entries.{entrySum}
-use Rattle.density_entries.specs.Filled.{Ready, LowerTurns, tableEntry}
-use Rattle.density_entries.proofs.EntryLawsLaws.{mirrored-same}
+use Rattle.density_entries.specs.Filled.{EntriesReady, LowerTurns, tableEntry}
+use Rattle.density_entries.proofs.EntryLaws.{mirrored-same}
 use Rattle.densities.proofs.DensityLaws.{positive, side-small, even-power}
 use Rattle.cut_sides.specs.declared.Sides.{Sides}
 use Rattle.cut_sides.specs.Sides.{side, namedRows, sidesOf, Parted}
@@ -38,7 +38,7 @@ use Rattle.cut_sides.proofs.SideLaws.{named-yes, named-no}
 use Rattle.agreement.specs.FromCut.{numberOf, pairPlace, cutEntry}
 use Rattle.agreement.proofs.SameDensity.{number-lt, total-same}
 use Rattle.density_recount.specs.declared.Layout.{Layout}
-use Rattle.density_recount.specs.Recount.{recountSizes, recountLengths, recountAnswer, recounted, DensityFromCut, layoutOf, Accepted, Numbers}
+use Rattle.density_recount.specs.Recount.{recountSizes, recountLengths, recountAnswer, recounted, DensityFromCut, layoutOf, RecountAccepted, Numbers}
 
 -- ---- the submasks of the lowest bits, and of all others
 
@@ -217,13 +217,13 @@ mirrored-whole f old out dim surplus rows =
     (λ k h. mirrored-same (entryAt out dim) f dim (k / dim) (k % dim) rows (row-of dim k h) (column-of dim k h) (leb (k % dim) (k / dim)) refl))
     surplus
 
-module _ (m : List Float) (n : ℕ) (l : List ℕ) (o : List Float) (p : Accepted m n l (length o)) (z : Layout)
+module _ (m : List Float) (n : ℕ) (l : List ℕ) (o : List Float) (p : RecountAccepted m n l (length o)) (z : Layout)
     (ez : z ≡ layoutOf (namedRows l n) (2 ^ side l n) (2 ^ n)) where
   pub recount-square : (dim : ℕ) → dim ≡ 2 ^ length l → Square dim o
   recount-square dim e = record { small = rw e (side-small (length l) (p .few)); room = rw e (p .room) }
 
   pub recount-ready : (dim : ℕ) (old table : List ℕ) → dim ≡ 2 ^ length l → Numbers l n (z .scale) dim old table dim → dim ≤ length old
-      → Ready n m (z .mask) table dim
+      → EntriesReady n m (z .mask) table dim
   recount-ready dim old table e t room = record {
     small = p .parted .listed .small;
     long = p .matrix;
@@ -293,7 +293,7 @@ parted-done n l e =
       positive (length l) (not-empty n l (q .0)),
     )
 
-pub recount-accepted : (m : List Float) (n : ℕ) (l : List ℕ) (cap o : ℕ) → recountAnswer m n l cap o .0 ≡ 0 → Accepted m n l o
+pub recount-accepted : (m : List Float) (n : ℕ) (l : List ℕ) (cap o : ℕ) → recountAnswer m n l cap o .0 ≡ 0 → RecountAccepted m n l o
 recount-accepted m n l cap o e =
     let L = recountLengths (2 ^ n) (2 ^ length l) (length m) o in
     let a = andThen-done (recountSizes n (length l) cap) (andThen (subsystem n l) (andThen L (components 0 m))) e in
@@ -318,8 +318,3 @@ module _ (m : List Float) (n : ℕ) (l : List ℕ) (cap : ℕ) (o : List Float) 
 
   pub recount-done : (end : List Float) → paper r .0 ≡ 0 → end ≡ recounted n l m o → DensityFromCut m n l cap o r end
   recount-done end h c = record { answer = e; cells = c ∙ done-new _ _ o (sym (ap (λ (y : Reply). y .0) e) ∙ h) }
-
--- ONE OUTCOME
-pub density-from-cut-one : (m : List Float) (n : ℕ) (l : List ℕ) (cap : ℕ) (o : List Float) (r r' : Answer) (end end' : List Float)
-    → DensityFromCut m n l cap o r end → DensityFromCut m n l cap o r' end' → (r ≡ r') × (end ≡ end')
-density-from-cut-one m n l cap o r r' end end' a b = (paper-one r r' (a .answer ∙ sym (b .answer)), a .cells ∙ sym (b .cells))

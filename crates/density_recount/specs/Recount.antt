@@ -45,7 +45,7 @@ abbrev pub layoutOf : Bool → ℕ → ℕ → Layout
 layoutOf true rows size = record { mask = size - rows; scale = 1 }
 layoutOf false rows size = record { mask = rows - 1; scale = rows }
 
-pub record Accepted (m : List Float) (n : ℕ) (l : List ℕ) (o : ℕ) : Type 0 where
+pub record RecountAccepted (m : List Float) (n : ℕ) (l : List ℕ) (o : ℕ) : Type 0 where
   pub parted : Parted l n
   pub some : 1 ≤ length l
   pub few : length l ≤ 6

@@ -8,7 +8,7 @@ ghost use Rattle.answers.specs.Paper.{paper};
 ghost use Rattle.submasks.specs.Submasks.{submaskNumber};
 ghost use Rattle.qubits.specs.Lists.{Listed};
 ghost use Rattle.qubits.specs.Spread.{named};
-ghost use Rattle.density_recount.specs.Recount.{recountSizes, recountLengths, recountAnswer, recounted, DensityFromCut, layoutOf, Accepted, Numbers};
+ghost use Rattle.density_recount.specs.Recount.{recountSizes, recountLengths, recountAnswer, recounted, DensityFromCut, layoutOf, RecountAccepted, Numbers};
 
 // Inner. Answer 1: the register, then a cut's n+1 and a density's 2k against the cap.
 pub fn recount_size(n: usize, k: usize, cap: usize) -> Answer
@@ -107,7 +107,7 @@ fn fill_numbers(
 
 // The density at the front of out: the cut matrix is read as a state whose bits are the matrix's rows and columns.
 fn sum_from_cut(matrix: &[f64], n: usize, list: &[usize], out: &mut [f64])
-    requires { ⌜ Accepted (now matrix) n (now list) (length (now out)) ⌝ }
+    requires { ⌜ RecountAccepted (now matrix) n (now list) (length (now out)) ⌝ }
     ensures { λ _. ⌜ now (out .exit) ≡ recounted n (now (list .entry)) (now (matrix .entry)) (now (out .entry)) ⌝ }
 {
     let k = list.len();

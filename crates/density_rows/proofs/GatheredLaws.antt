@@ -16,7 +16,7 @@ use Rattle.complex.specs.Planes.{planeAt, setPlane}
 use Rattle.complex.proofs.PlanesLaws.{length-setPlane}
 use Rattle.submasks.specs.Submasks.{submaskAt, nextSubmask}
 use Rattle.submasks.proofs.SubmaskLaws.{submaskAt-lt, submaskAt-first, next-submaskAt}
-use Rattle.density_entries.specs.Filled.{Ready}
+use Rattle.density_entries.specs.Filled.{EntriesReady}
 use Rattle.density_rows.proofs.PlaneChanges.{plane-same, plane-other}
 use Rattle.density_rows.specs.Gathered.{amplitudeOf, reach, OneTurns, Gathered}
 
@@ -53,7 +53,7 @@ pub record GatherTurns (n : ℕ) (s : List Float) (mask : ℕ) (offsets : List �
 pub gather-room : (dim m e : ℕ) → e < m → m * dim ≤ 4096 → e * dim + dim ≤ 4096
 gather-room dim m e h room = omega (arith, suc-mul e dim, mul-le-mul-right dim h)
 
-pub gather-reach : (n : ℕ) (s : List Float) (mask : ℕ) (offsets : List ℕ) (dim base e t : ℕ) → Ready n s mask offsets dim → base ≡ submaskAt n mask e → t < dim
+pub gather-reach : (n : ℕ) (s : List Float) (mask : ℕ) (offsets : List ℕ) (dim base e t : ℕ) → EntriesReady n s mask offsets dim → base ≡ submaskAt n mask e → t < dim
     → reach n s (getD offsets t 0) base
 gather-reach n s mask offsets dim base e t p eb h =
     let b : bitOr (getD offsets t 0) base < 2 ^ n = rw eb (or-lt n (getD offsets t 0) (submaskAt n mask e) (p .below t h) (submaskAt-lt n mask e)) in
@@ -67,7 +67,7 @@ module _ (n : ℕ) (s : List Float) (mask : ℕ) (offsets : List ℕ) (dim m : �
     gathered = record { long = l; are = λ e t h g. absurd (omega arith) };
   }
 
-  pub gather-turn : (now end : List Float) (base base′ e : ℕ) → Ready n s mask offsets dim → GatherTurns n s mask offsets dim m now base e → e < m
+  pub gather-turn : (now end : List Float) (base base′ e : ℕ) → EntriesReady n s mask offsets dim → GatherTurns n s mask offsets dim m now base e → e < m
       → OneTurns s offsets base (e * dim) now end dim → base′ ≡ nextSubmask base mask → GatherTurns n s mask offsets dim m end base′ (e + 1)
   gather-turn now end base base′ e p i h o eb = record {
     within = omega arith;

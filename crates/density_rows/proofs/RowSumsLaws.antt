@@ -10,7 +10,7 @@ use lib.Arith.{digits-lt}
 use lib.Ieee.{Float, nan}
 use lib.ListN.{length, getD, drop, replicate, length-replicate, getD-replicate}
 use Rattle.complex.specs.declared.Complex.{Complex}
-use Rattle.complex.specs.Arithmetic.{complexOf, sum, product, conjugate}
+use Rattle.complex.specs.Arithmetic.{complexOf, sumOf, product, conjugate}
 use Rattle.complex.specs.Cells.{setCell}
 use Rattle.complex.specs.Planes.{planeAt}
 use Rattle.complex.specs.Zeros.{zeroFloat}
@@ -22,12 +22,12 @@ use Rattle.density_entries.specs.Filled.{tableEntry, PairTurns, LowerTurns}
 use Rattle.density_rows.specs.Gathered.{amplitudeOf, Gathered}
 use Rattle.density_rows.specs.TwoRows.{TermTurns, Added}
 use Rattle.density_rows.proofs.TwoRowsLaws.{added-same}
-use Rattle.density_rows.specs.RowSums.{planeEntry, ZeroSums, SumsAre, PairSums, RowTurns}
+use Rattle.density_rows.specs.RowSums.{planeEntry, ZeroSums, SumsAre, PairSums, RowSumSteps}
 
 total-below : (m : ℕ) (f g : ℕ → Complex) → ((e : ℕ) → e < m → f e ≡ g e) → total m f ≡ total m g
 unfolding total
 total-below zero f g h = refl
-total-below (suc m) f g h = ap₂ sum (total-below m f g (λ e l. h e (omega arith))) (h m (omega arith))
+total-below (suc m) f g h = ap₂ sumOf (total-below m f g (λ e l. h e (omega arith))) (h m (omega arith))
 
 -- AN ENTRY FROM THE PLANES IS THE ENTRY FROM THE STATE
 plane-entry : (n : ℕ) (s : List Float) (mask : ℕ) (offsets : List ℕ) (dim m : ℕ) (planes : List Float) (t u : ℕ)
@@ -36,7 +36,7 @@ plane-entry n s mask offsets dim m planes t u g ht hu =
     total-below m _ _ (λ e h. ap₂ (λ (x y : Complex). product x (conjugate y)) (g .are e t h ht) (g .are e u h hu))
 
 -- one more term
-pub total-more : (m : ℕ) (f : ℕ → Complex) → sum (total m f) (f m) ≡ total (m + 1) f
+pub total-more : (m : ℕ) (f : ℕ → Complex) → sumOf (total m f) (f m) ≡ total (m + 1) f
 unfolding total
 total-more m f = ap (λ (x : ℕ). total x f) (sym (add-one m))
 
@@ -84,11 +84,11 @@ module _ (planes : List Float) (dim r m : ℕ) where
 -- ---- a row written
 
 module _ (sums : List Float) (w dim r : ℕ) (old : List Float) where
-  pub row-begin : RowTurns sums w dim r old old 0
+  pub row-begin : RowSumSteps sums w dim r old old 0
   row-begin = record { long = refl; surplus = refl; row = record { at = λ c h. absurd (omega arith) }; kept = λ r′ c h n. refl }
 
-  pub row-turn : (now end : List Float) (u m : ℕ) (z : Complex) → Square dim old → r < dim → m ≤ dim → RowTurns sums w dim r old now u → u < m
-      → z ≡ planeAt sums 128 (w + u) → end ≡ setCell now (r * dim + u) z → RowTurns sums w dim r old end (u + 1)
+  pub row-turn : (now end : List Float) (u m : ℕ) (z : Complex) → Square dim old → r < dim → m ≤ dim → RowSumSteps sums w dim r old now u → u < m
+      → z ≡ planeAt sums 128 (w + u) → end ≡ setCell now (r * dim + u) z → RowSumSteps sums w dim r old end (u + 1)
   row-turn now end u m z p hr hm i h ez ee =
       let hu : u < dim = omega arith in
       record {
@@ -109,12 +109,12 @@ module _ (sums : List Float) (w dim r : ℕ) (old : List Float) where
             ∙ cell-other now (r * dim + u) (r′ * dim + c) z (λ e. n (same-row dim r′ c r u hc hu e)) ∙ i .kept r′ c hc n;
       }
 
-  pub row-end : (end : List Float) (u m : ℕ) → RowTurns sums w dim r old end u → m ≤ u → RowTurns sums w dim r old end m
+  pub row-end : (end : List Float) (u m : ℕ) → RowSumSteps sums w dim r old end u → m ≤ u → RowSumSteps sums w dim r old end m
   row-end end u m i h = record { long = i .long; surplus = i .surplus; row = record { at = λ k g. i .row .at k (omega arith) }; kept = i .kept }
 
 -- both rows
 pub pair-written : (planes : List Float) (groups dim t : ℕ) (sums old mid end : List Float) → 2 * t + 1 < dim → PairSums planes dim (2 * t) (2 * t + 2) sums groups
-    → RowTurns sums 0 dim (2 * t) old mid (2 * t + 2) → RowTurns sums 64 dim (2 * t + 1) mid end (2 * t + 2)
+    → RowSumSteps sums 0 dim (2 * t) old mid (2 * t + 2) → RowSumSteps sums 64 dim (2 * t + 1) mid end (2 * t + 2)
     → PairTurns dim t (planeEntry planes dim groups) old end (t + 1)
 pair-written planes groups dim t sums old mid end h s a b = record {
   within = omega arith;

@@ -33,7 +33,7 @@ pub record PairSums (planes : List Float) (dim r m : ℕ) (sums : List Float) (e
 -- ---- a row written
 
 -- row r is the sums from cell w on, left of column u, and every other row is as it was
-pub record RowTurns (sums : List Float) (w dim r : ℕ) (old end : List Float) (u : ℕ) : Type 0 where
+pub record RowSumSteps (sums : List Float) (w dim r : ℕ) (old end : List Float) (u : ℕ) : Type 0 where
   pub long : length end ≡ length old
   pub surplus : drop (2 * (dim * dim)) end ≡ drop (2 * (dim * dim)) old
   pub row : RowIs end dim r u (λ k. planeAt sums 128 (w + k))

@@ -4,10 +4,10 @@ ghost use Prim.Native.Nat.{_+_, _*_, _/_, _%_, _<_, _≤_};
 ghost use lib.ListN.{length, getD};
 ghost use Rattle.complex.specs.Planes.{planeAt};
 ghost use Rattle.density_entries.specs.Squares.{Square};
-ghost use Rattle.density_entries.specs.Filled.{tableEntry, Ready, PairTurns, LowerTurns};
+ghost use Rattle.density_entries.specs.Filled.{tableEntry, EntriesReady, PairTurns, LowerTurns};
 ghost use Rattle.density_rows.specs.Gathered.{amplitudeOf, reach, OneTurns, Gathered};
 ghost use Rattle.density_rows.specs.TwoRows.{TermTurns};
-ghost use Rattle.density_rows.specs.RowSums.{planeEntry, ZeroSums, PairSums, RowTurns};
+ghost use Rattle.density_rows.specs.RowSums.{planeEntry, ZeroSums, PairSums, RowSumSteps};
 
 // The amplitudes of the traced index whose base is base: row t's becomes the cell at + t of the planes.
 fn gather_one(
@@ -42,7 +42,7 @@ fn gather(
     dim: usize,
     planes: &mut [f64],
 )
-    requires { ⌜ Ready n (now state) mask (now offsets) dim ⌝ }
+    requires { ⌜ EntriesReady n (now state) mask (now offsets) dim ⌝ }
     requires { ⌜ (groups * dim ≤ 4096) × (length (now planes) ≡ 8192) ⌝ }
     ensures { λ _. ⌜ Gathered (amplitudeOf n (now (state .entry)) mask (now (offsets .entry))) dim (now (planes .exit)) groups ⌝ }
 {
@@ -93,7 +93,7 @@ fn pair_sums(planes: &[f64], groups: usize, dim: usize, r: usize, m: usize, sums
 fn write_row(sums: &[f64], w: usize, dim: usize, r: usize, m: usize, out: &mut [f64])
     requires { ⌜ (length (now sums) ≡ 256) × (w ≤ 64) × (m ≤ dim) ⌝ }
     requires { ⌜ Square dim (now out) × (r < dim) ⌝ }
-    ensures { λ _. ⌜ RowTurns (now (sums .entry)) w dim r (now (out .entry)) (now (out .exit)) m ⌝ }
+    ensures { λ _. ⌜ RowSumSteps (now (sums .entry)) w dim r (now (out .entry)) (now (out .exit)) m ⌝ }
 {
     let mut u: usize = 0;
     while u < m {
@@ -142,7 +142,7 @@ pub fn fill_lower(
     dim: usize,
     out: &mut [f64],
 )
-    requires { ⌜ Ready n (now state) mask (now offsets) dim ⌝ }
+    requires { ⌜ EntriesReady n (now state) mask (now offsets) dim ⌝ }
     requires { ⌜ Square dim (now out) × (groups * dim ≤ 4096) ⌝ }
     ensures { λ _. ⌜ LowerTurns dim (tableEntry n (now (state .entry)) mask groups (now (offsets .entry))) (now (out .entry)) (now (out .exit)) (dim / 2) ⌝ }
 {

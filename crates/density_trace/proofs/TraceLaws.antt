@@ -11,8 +11,7 @@ use lib.Ieee as Ieee
 use lib.Ieee.{Float, binary64}
 use lib.ListN.{length, getD, drop}
 use lib.Seq.{getD-append-add, getD-drop}
-use Rattle.answers.specs.declared.Answer.{Answer}
-use Rattle.numbers.specs.Numbers.{finite}
+use Rattle.numbers.specs.Numbers.{isFinite}
 use Rattle.answers.specs.Paper.{done}
 use Rattle.complex.specs.declared.Complex.{Complex}
 use Rattle.complex.specs.Arithmetic.{complexOf, scaled}
@@ -20,9 +19,7 @@ use Rattle.complex.specs.Cells.{cellAt, setCell, cellsOf, written}
 use Rattle.complex.proofs.CellLaws.{length-cells, written-more}
 use Rattle.complex.specs.Zeros.{zeroFloat}
 use Rattle.density_entries.specs.Squares.{entryAt}
-use Rattle.densities.specs.Square.{InPlace}
-use Rattle.densities.proofs.SquareLaws.{place-one}
-use Rattle.density_trace.specs.Trace.{traceTo, traceOf, reciprocal, scaledCell, finiteCells, scalingAnswer, normalizeAnswer, normalized}
+use Rattle.density_trace.specs.Trace.{traceTo, traceOf, reciprocal, scaledCell, finiteCells, scalingAnswer}
 
 -- a turn of the trace's loop
 pub trace-more : (s : List Float) (dim t : ℕ) → Ieee.add binary64 (traceTo s dim t) (entryAt s dim t t .re) ≡ traceTo s dim (t + 1)
@@ -39,7 +36,7 @@ module _ (f : ℕ → Complex) where
   unfolding finiteCells
   finite-none = refl
 
-  pub finite-more : (k : ℕ) → finiteCells k f ≡ true → finite (f k .re) ≡ true → finite (f k .im) ≡ true → finiteCells (k + 1) f ≡ true
+  pub finite-more : (k : ℕ) → finiteCells k f ≡ true → isFinite (f k .re) ≡ true → isFinite (f k .im) ≡ true → finiteCells (k + 1) f ≡ true
   unfolding finiteCells
   finite-more k e a b = rw (add-one k, e, a, b)
 
@@ -47,7 +44,7 @@ module _ (f : ℕ → Complex) where
   and-false true = refl
   and-false false = refl
 
-  finite-here : (k : ℕ) → (finite (f k .re) && finite (f k .im)) ≡ false → finiteCells (suc k) f ≡ false
+  finite-here : (k : ℕ) → (isFinite (f k .re) && isFinite (f k .im)) ≡ false → finiteCells (suc k) f ≡ false
   unfolding finiteCells
   finite-here k e = rw (e, and-false (finiteCells k f))
 
@@ -56,11 +53,11 @@ module _ (f : ℕ → Complex) where
   more m e = rw e
 
   -- a cell that is not finite decides
-  pub finite-stop : (m k : ℕ) → k < m → (finite (f k .re) && finite (f k .im)) ≡ false → finiteCells m f ≡ false
+  pub finite-stop : (m k : ℕ) → k < m → (isFinite (f k .re) && isFinite (f k .im)) ≡ false → finiteCells m f ≡ false
   finite-stop zero k h e = absurd (omega arith)
   finite-stop (suc m) k h e =
       ⊎-elim
-      (λ (q : k ≡ m). finite-here m (ap (λ (x : ℕ). finite (f x .re) && finite (f x .im)) (sym q) ∙ e))
+      (λ (q : k ≡ m). finite-here m (ap (λ (x : ℕ). isFinite (f x .re) && isFinite (f x .im)) (sym q) ∙ e))
       (λ (g : k < m). more m (finite-stop m k g e))
       (eq-or-lt-of-le (omega arith))
 
@@ -97,7 +94,3 @@ module _ (s : List Float) (dim : ℕ) where
   pub scaling-done : Ieee.eq (traceOf s dim) zeroFloat ≡ false → finiteCells (dim * dim) (scaledCell s (reciprocal (traceOf s dim))) ≡ true
       → scalingAnswer s dim ≡ done
   scaling-done e g = rw (e, g)
-
-pub normalize-trace-one : (s : List Float) (dim : ℕ) (r r′ : Answer) (end end′ : List Float)
-    → InPlace (normalizeAnswer s dim) (normalized s dim) s r end → InPlace (normalizeAnswer s dim) (normalized s dim) s r′ end′ → (r ≡ r′) × (end ≡ end′)
-normalize-trace-one s dim r r′ end end′ p q = place-one (normalizeAnswer s dim) (normalized s dim) s r r′ end end′ p q

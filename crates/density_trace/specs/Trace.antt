@@ -5,7 +5,7 @@ use Prim.Native.Nat.{ℕ, zero, suc, _*_}
 use lib.Ieee as Ieee
 use lib.Ieee.{Float, binary64}
 use Rattle.answers.specs.Paper.{Reply, done, refuse, andThen}
-use Rattle.numbers.specs.Numbers.{finite, oneFloat}
+use Rattle.numbers.specs.Numbers.{isFinite, oneFloat}
 use Rattle.complex.specs.declared.Complex.{Complex}
 use Rattle.complex.specs.Arithmetic.{scaled}
 use Rattle.complex.specs.Cells.{cellAt, written}
@@ -32,7 +32,7 @@ scaledCell s x k = scaled (cellAt s k) x
 -- every number of the first m cells is finite
 unfoldable pub finiteCells : ℕ → (ℕ → Complex) → Bool
 finiteCells zero f = true
-finiteCells (suc m) f = finiteCells m f && (finite (f m .re) && finite (f m .im))
+finiteCells (suc m) f = finiteCells m f && (isFinite (f m .re) && isFinite (f m .im))
 
 -- 8: the trace is zero; 9: a number of the result is not finite
 abbrev pub scalingAnswer : List Float → ℕ → Reply

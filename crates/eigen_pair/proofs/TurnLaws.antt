@@ -16,13 +16,13 @@ use Rattle.svd_sweeps.proofs.SweepingLaws.{column-fits}
 use Rattle.eigen_pair.specs.declared.Angle.{Angle}
 use Rattle.eigen_pair.specs.CellPlanes.{asPlanes}
 use Rattle.eigen_pair.proofs.CellPlanesLaws.{length-setCell, plane-read, plane-set}
-use Rattle.eigen_pair.specs.Turn.{newP, newQ, turnTwo, turnLine, angle, turned, applied}
+use Rattle.eigen_pair.specs.Turn.{eigenNewP, eigenNewQ, turnTwo, turnLine, angle, turned, eigenApplied}
 
 -- ---- laws
 
 -- two cells side by side are turned as in planes
 pub two-made : (w : Angle) (c i j : ℕ) (xs : List Float) {x y a b : Complex} {ys zs : List Float} → i < c → j < c → length xs ≡ 2 * c
-    → x ≡ cellAt xs i → y ≡ cellAt xs j → a ≡ newP w x y → ys ≡ setCell xs i a → b ≡ newQ w x y → zs ≡ setCell ys j b
+    → x ≡ cellAt xs i → y ≡ cellAt xs j → a ≡ eigenNewP w x y → ys ≡ setCell xs i a → b ≡ eigenNewQ w x y → zs ≡ setCell ys j b
     → asPlanes c zs ≡ turnTwo w c i j (asPlanes c xs)
 unfolding turnTwo
 two-made w c i j xs {x} {y} {a} {b} {ys} {zs} hi hj l ex ey ea es eb et =
@@ -49,12 +49,12 @@ unfolding turned
 turned-made w n p q xs e f g = rw (← e, ← f) g
 
 pub applied-turn : {d : Decision} {cosine sine : Float} {phase : Complex} {ys : List Float} (n p q : ℕ) (xs : List Float)
-    → d ≡ Turn cosine sine phase → ys ≡ turned (angle cosine sine phase) n p q xs → ys ≡ applied d n p q xs
-unfolding applied
+    → d ≡ Turn cosine sine phase → ys ≡ turned (angle cosine sine phase) n p q xs → ys ≡ eigenApplied d n p q xs
+unfolding eigenApplied
 applied-turn n p q xs e f = rw e f
 
-pub applied-leave : {d : Decision} (n p q : ℕ) (xs : List Float) → d ≡ Leave → xs ≡ applied d n p q xs
-unfolding applied
+pub applied-leave : {d : Decision} (n p q : ℕ) (xs : List Float) → d ≡ Leave → xs ≡ eigenApplied d n p q xs
+unfolding eigenApplied
 applied-leave n p q xs e = rw e
 
 -- the cell of row k and column p stands in the matrix

@@ -4,7 +4,7 @@ use Prim.Native.Nat.{ℕ, zero, suc, _+_, _*_}
 use lib.Ieee as Ieee
 use lib.Ieee.{Float, binary64}
 use Rattle.complex.specs.declared.Complex.{Complex}
-use Rattle.complex.specs.Arithmetic.{complexOf, product, sum, difference, conjugate}
+use Rattle.complex.specs.Arithmetic.{complexOf, product, sumOf, difference, conjugate}
 use Rattle.complex.specs.Planes.{planeAt, setPlane}
 use Rattle.svd_pair.specs.declared.Decision.{Decision}
 use Rattle.svd_pair.specs.declared.Decision.the-variants.{Leave, Turn}
@@ -15,16 +15,16 @@ unfoldable pub timesReal : Float → Complex → Complex
 timesReal k z = complexOf (Ieee.mul binary64 k (z .re)) (Ieee.mul binary64 k (z .im))
 
 -- cosine x - (sine phase) y
-unfoldable pub newP : Angle → Complex → Complex → Complex
-newP w x y = difference (timesReal (w .cosine) x) (product (timesReal (w .sine) (w .phase)) y)
+unfoldable pub eigenNewP : Angle → Complex → Complex → Complex
+eigenNewP w x y = difference (timesReal (w .cosine) x) (product (timesReal (w .sine) (w .phase)) y)
 
 -- sine x + (cosine phase) y
-unfoldable pub newQ : Angle → Complex → Complex → Complex
-newQ w x y = sum (timesReal (w .sine) x) (product (timesReal (w .cosine) (w .phase)) y)
+unfoldable pub eigenNewQ : Angle → Complex → Complex → Complex
+eigenNewQ w x y = sumOf (timesReal (w .sine) x) (product (timesReal (w .cosine) (w .phase)) y)
 
 -- the cells i and j of c are turned, both from their old values
 unfoldable pub turnTwo : Angle → ℕ → ℕ → ℕ → List Float → List Float
-turnTwo w c i j xs = setPlane (setPlane xs c i (newP w (planeAt xs c i) (planeAt xs c j))) c j (newQ w (planeAt xs c i) (planeAt xs c j))
+turnTwo w c i j xs = setPlane (setPlane xs c i (eigenNewP w (planeAt xs c i) (planeAt xs c j))) c j (eigenNewQ w (planeAt xs c i) (planeAt xs c j))
 
 -- the cells i, i + d, i + 2 d, .. with j, j + d, ..: the first k of them. A column has the step d = n, and a row the step 1
 unfoldable pub turnLine : Angle → ℕ → ℕ → ℕ → ℕ → ℕ → List Float → List Float
@@ -40,6 +40,6 @@ turned w n p q xs =
     turnLine w (n * n) 1 (p * n) (q * n) n (turnLine (angle (w .cosine) (w .sine) (conjugate (w .phase))) (n * n) n p q n xs)
 
 -- what a decision does to the pair p, q
-unfoldable pub applied : Decision → ℕ → ℕ → ℕ → List Float → List Float
-applied Leave n p q xs = xs
-applied (Turn cosine sine phase) n p q xs = turned (angle cosine sine phase) n p q xs
+unfoldable pub eigenApplied : Decision → ℕ → ℕ → ℕ → List Float → List Float
+eigenApplied Leave n p q xs = xs
+eigenApplied (Turn cosine sine phase) n p q xs = turned (angle cosine sine phase) n p q xs

@@ -8,9 +8,9 @@ ghost use mathlib.Core.Path.{_≡_};
 ghost use Prim.Native.Nat.{_+_, _*_, _<_, _≤_};
 ghost use lib.ListN.{length};
 ghost use Rattle.svd_pair.specs.Decisions.{verdict};
-ghost use Rattle.eigen_pair.specs.Decide.{tangentOf, turnAt, leftAlone, decisionOf};
+ghost use Rattle.eigen_pair.specs.Decide.{eigenTangent, leftAlone, eigenDecision};
 ghost use Rattle.eigen_pair.specs.CellPlanes.{asPlanes};
-ghost use Rattle.eigen_pair.specs.Turn.{timesReal, newP, newQ, turnTwo, turnLine, turned, applied};
+ghost use Rattle.eigen_pair.specs.Turn.{timesReal, eigenNewP, eigenNewQ, turnTwo, turnLine, turned, eigenApplied};
 
 const EIGEN_PAIR_TOL: f64 = 1e-15;
 
@@ -18,25 +18,11 @@ const EIGEN_PAIR_TOL: f64 = 1e-15;
 
 // The tangent of the angle: the root of smaller magnitude. The sign of a zero theta counts.
 fn tangent(theta: f64, near: Guesses) -> f64
-    ensures { λ r. ⌜ r ≡ tangentOf theta ⌝ }
+    ensures { λ r. ⌜ r ≡ eigenTangent theta ⌝ }
 {
     let x = 1.0 + theta * theta;
     let root = root_guesses::root_near(x, root_guesses::sharpened(x, near.root, near.root_over));
     numbers::sign(theta) / (numbers::magnitude(theta) + root)
-}
-
-// The turn by the tangent t, for the entry apq of the modulus given.
-fn turn_at(apq: Complex, modulus: f64, t: f64, near: Guesses) -> Decision
-    ensures { λ r. ⌜ r ≡ turnAt apq modulus t ⌝ }
-{
-    let x = 1.0 + t * t;
-    let cosine = 1.0
-        / root_guesses::root_near(x, root_guesses::sharpened(x, near.secant, near.cosine));
-    Decision::Turn {
-        cosine,
-        sine: t * cosine,
-        phase: apq.div_real(modulus),
-    }
 }
 
 // Whether the pair's own tolerance leaves it, or that of the largest diagonal entry.
@@ -52,7 +38,7 @@ fn left_alone(modulus: f64, app: f64, aqq: f64, largest: f64) -> bool
 
 // The decision on a pair with the entry apq and the diagonal entries app and aqq.
 pub fn decide(apq: Complex, app: f64, aqq: f64, largest: f64) -> Decision
-    ensures { λ r. ⌜ verdict r ≡ verdict (decisionOf apq app aqq largest) ⌝ }
+    ensures { λ r. ⌜ verdict r ≡ verdict (eigenDecision apq app aqq largest) ⌝ }
 {
     let near = root_guesses::guess_roots(aqq - app, apq.norm_sqr());
     let modulus = modulus::modulus_near(apq, near.modulus);
@@ -60,7 +46,7 @@ pub fn decide(apq: Complex, app: f64, aqq: f64, largest: f64) -> Decision
         return Decision::Leave;
     }
     let theta = (aqq - app) / (2.0 * modulus);
-    turn_at(apq, modulus, tangent(theta, near), near)
+    svd_pair::turn_at(apq, modulus, tangent(theta, near), near)
 }
 
 // ---- the turn
@@ -84,13 +70,13 @@ pub struct Angle {
 
 impl Angle {
     pub fn new_p(self, x: Complex, y: Complex) -> Complex
-        ensures { λ r. ⌜ r ≡ newP self x y ⌝ }
+        ensures { λ r. ⌜ r ≡ eigenNewP self x y ⌝ }
     {
         real_times(self.cosine, x).sub(real_times(self.sine, self.phase).mul(y))
     }
 
     pub fn new_q(self, x: Complex, y: Complex) -> Complex
-        ensures { λ r. ⌜ r ≡ newQ self x y ⌝ }
+        ensures { λ r. ⌜ r ≡ eigenNewQ self x y ⌝ }
     {
         real_times(self.sine, x).add(real_times(self.cosine, self.phase).mul(y))
     }
@@ -152,7 +138,7 @@ fn turn_pair(xs: &mut [f64], n: usize, p: usize, q: usize, w: Angle)
 // What is decided is done to the pair p, q.
 pub fn apply(xs: &mut [f64], n: usize, p: usize, q: usize, d: Decision)
     requires { ⌜ (length (now xs) ≡ 2 * (n * n)) × (p < n) × (q < n) ⌝ }
-    ensures { λ _. ⌜ asPlanes (n * n) (now (xs .exit)) ≡ applied d n p q (asPlanes (n * n) (now (xs .entry))) ⌝ }
+    ensures { λ _. ⌜ asPlanes (n * n) (now (xs .exit)) ≡ eigenApplied d n p q (asPlanes (n * n) (now (xs .entry))) ⌝ }
 {
     match d {
         Decision::Leave => {}

@@ -7,13 +7,13 @@ ghost use Prim.Native.Nat.{_+_, _-_, _*_, _<_, _≤_};
 ghost use lib.ListN.{length};
 ghost use Rattle.svd_sweeps.specs.Sweeping.{counted};
 ghost use Rattle.eigen_pair.specs.CellPlanes.{asPlanes};
-ghost use Rattle.eigen_sweeps.specs.Sweeping.{Square, state, largestTo, pairStep, pairsTo, sweepOf, settled};
+ghost use Rattle.eigen_sweeps.specs.Sweeping.{SquareRoom, eigenState, largestTo, eigenPairStep, eigenPairsTo, eigenSweep, eigenSettled};
 
 const MAX_EIGEN_SWEEPS: usize = 60;
 
 // The largest diagonal entry, at least +0.0; a NaN is passed over.
 fn largest_diagonal(xs: &[f64], n: usize) -> f64
-    requires { ⌜ Square n (length (now xs)) ⌝ }
+    requires { ⌜ SquareRoom n (length (now xs)) ⌝ }
     ensures { λ r. ⌜ r ≡ largestTo (asPlanes (n * n) (now (xs .entry))) n n ⌝ }
 {
     let mut largest = 0.0;
@@ -48,8 +48,8 @@ fn count(d: Decision, s: Sweeps) -> Sweeps
 
 // The pair p, q, where the sweep began with this largest diagonal entry.
 fn pair(xs: &mut [f64], n: usize, largest: f64, p: usize, q: usize, s: Sweeps) -> Sweeps
-    requires { ⌜ Square n (length (now xs)) × (p < n) × (q < n) × (s .turned < 1000000) ⌝ }
-    ensures done { λ r. ⌜ state (asPlanes (n * n) (now (xs .exit))) r ≡ pairStep n largest p q (state (asPlanes (n * n) (now (xs .entry))) s) ⌝ }
+    requires { ⌜ SquareRoom n (length (now xs)) × (p < n) × (q < n) × (s .turned < 1000000) ⌝ }
+    ensures done { λ r. ⌜ eigenState (asPlanes (n * n) (now (xs .exit))) r ≡ eigenPairStep n largest p q (eigenState (asPlanes (n * n) (now (xs .entry))) s) ⌝ }
     ensures few { λ r. ⌜ (r .turned ≤ s .turned + 1) × (r .begun ≡ s .begun) ⌝ }
 {
     let at_p = 2 * (p * n + p);
@@ -62,8 +62,8 @@ fn pair(xs: &mut [f64], n: usize, largest: f64, p: usize, q: usize, s: Sweeps) -
 
 // The pairs of p with each later q.
 fn row(xs: &mut [f64], n: usize, largest: f64, p: usize, s: Sweeps) -> Sweeps
-    requires { ⌜ Square n (length (now xs)) × (p < n) × (s .turned < 900000) ⌝ }
-    ensures done { λ r. ⌜ state (asPlanes (n * n) (now (xs .exit))) r ≡ pairsTo n largest p (n - (p + 1)) (state (asPlanes (n * n) (now (xs .entry))) s) ⌝ }
+    requires { ⌜ SquareRoom n (length (now xs)) × (p < n) × (s .turned < 900000) ⌝ }
+    ensures done { λ r. ⌜ eigenState (asPlanes (n * n) (now (xs .exit))) r ≡ eigenPairsTo n largest p (n - (p + 1)) (eigenState (asPlanes (n * n) (now (xs .entry))) s) ⌝ }
     ensures few { λ r. ⌜ (r .turned ≤ s .turned + 64) × (r .begun ≡ s .begun) ⌝ }
 {
     let mut t = s;
@@ -75,8 +75,8 @@ fn row(xs: &mut [f64], n: usize, largest: f64, p: usize, s: Sweeps) -> Sweeps
 
 // One sweep: all pairs p < q, rising.
 fn sweep(xs: &mut [f64], n: usize, s: Sweeps) -> Sweeps
-    requires { ⌜ Square n (length (now xs)) × (s .begun < 1000) × (s .turned < 800000) ⌝ }
-    ensures done { λ r. ⌜ state (asPlanes (n * n) (now (xs .exit))) r ≡ sweepOf n (state (asPlanes (n * n) (now (xs .entry))) s) ⌝ }
+    requires { ⌜ SquareRoom n (length (now xs)) × (s .begun < 1000) × (s .turned < 800000) ⌝ }
+    ensures done { λ r. ⌜ eigenState (asPlanes (n * n) (now (xs .exit))) r ≡ eigenSweep n (eigenState (asPlanes (n * n) (now (xs .entry))) s) ⌝ }
     ensures few { λ r. ⌜ (r .turned ≤ s .turned + 4096) × (r .begun ≡ s .begun + 1) ⌝ }
 {
     let largest = largest_diagonal(xs, n);
@@ -93,8 +93,8 @@ fn sweep(xs: &mut [f64], n: usize, s: Sweeps) -> Sweeps
 
 // Up to 60 sweeps, and none after a quiet one.
 pub fn settle(xs: &mut [f64], n: usize) -> Sweeps
-    requires { ⌜ Square n (length (now xs)) ⌝ }
-    ensures { λ r. ⌜ state (asPlanes (n * n) (now (xs .exit))) r ≡ settled n (asPlanes (n * n) (now (xs .entry))) ⌝ }
+    requires { ⌜ SquareRoom n (length (now xs)) ⌝ }
+    ensures { λ r. ⌜ eigenState (asPlanes (n * n) (now (xs .exit))) r ≡ eigenSettled n (asPlanes (n * n) (now (xs .entry))) ⌝ }
 {
     let mut s = Sweeps {
         begun: 0,

@@ -8,12 +8,12 @@ ghost use mathlib.Core.Path.{_≡_};
 ghost use Rattle.answers.specs.Paper.{paper, andThen};
 ghost use Prim.Native.Nat.{_≤_, _*_};
 ghost use lib.ListN.{length};
-ghost use Rattle.exports.specs.Told.{Told, Exported, ExportedWith};
+ghost use Rattle.told.specs.Told.{Exported, ExportedWith};
 ghost use lib.Ieee.{binary64, toBits, ofBits};
 ghost use Rattle.numbers.specs.Root.{sqrtOf};
 ghost use Rattle.complex.specs.Arithmetic.{complexOf};
 ghost use Rattle.modulus.specs.Modulus.{modulusOf};
-ghost use Rattle.numbers.specs.Numbers.{magnitudeOf, signOf, finite, totalOrder, orderNumber, allowed, totalLess};
+ghost use Rattle.numbers.specs.Numbers.{magnitudeOf, signOf, isFinite, totalOrder, orderNumber, allowed, totalLess};
 ghost use Rattle.qubits.specs.Lists.{qubitSet, subsystem};
 ghost use Rattle.qubit_offsets.specs.Calls.{RowOffsets, TracedBase};
 ghost use Rattle.densities.specs.Square.{squareAnswer, InPlace};
@@ -28,7 +28,7 @@ ghost use Rattle.density_trace.specs.Trace.{normalizeAnswer, normalized};
 ghost use Rattle.density_block.specs.Factor.{blockAnswer, multiplied};
 ghost use Rattle.svd.specs.Svd.{Svd};
 ghost use Rattle.spectra.specs.Outcomes.{Eigenvalues};
-ghost use Rattle.site_ranks.specs.Ranks.{rankOf, discardsOf, Ranked, cutSizes, cutRankOf, widestSizes, widestOf};
+ghost use Rattle.site_ranks.specs.Ranks.{rankOf, discardsOf, Ranked, bondSizes, cutRankOf, widestSizes, widestOf};
 ghost use Rattle.site_ranks.specs.declared.CutRank.{CutRank};
 ghost use Rattle.site_lines.specs.Sources.{siteCell, isometryCell, scaledUCell, vtCell, scaledVtCell};
 ghost use Rattle.sites.specs.Calls.{columnSizes, rowSizes, plainReply, scaledUReply, scaledVtReply, Filled};
@@ -38,23 +38,6 @@ ghost use Rattle.pages.specs.Agree.{Says, pagesAnswer};
 ghost use Rattle.pages.specs.declared.Agreement.{Agreement};
 ghost use Rattle.hermitian_eigen.specs.Hermitian.{Eigen};
 ghost use Rattle.cut_values.specs.Schmidt.{Schmidt};
-
-// Inner: a number of the paper's table, as C has it.
-fn small(n: usize) -> u32
-    requires { ⌜ n ≤ 10 ⌝ }
-    ensures { λ r. ⌜ r ≡ n ⌝ }
-{
-    n as u32
-}
-
-// Inner: the number is returned and the place is stored.
-fn told(a: Answer, place: &mut usize) -> u32
-    ensures { λ r. ⌜ Told a r (now (place .exit)) ⌝ }
-{
-    let r = answers::number_of(a);
-    *place = r.place;
-    small(r.number)
-}
 
 // ---- numbers: nothing is refused
 
@@ -88,7 +71,7 @@ pub extern "C" fn zg_sign(x: f64) -> f64
 
 #[no_mangle]
 pub extern "C" fn zg_is_finite(x: f64) -> bool
-    ensures { λ r. ⌜ r ≡ finite x ⌝ }
+    ensures { λ r. ⌜ r ≡ isFinite x ⌝ }
 {
     numbers::is_finite(x)
 }
@@ -129,14 +112,14 @@ pub extern "C" fn zg_modulus(re: f64, im: f64) -> f64
 pub extern "C" fn zg_validate_qubit_set(list: &[usize], n: usize, place: &mut usize) -> u32
     ensures { λ r. ⌜ Exported (λ a. paper a ≡ qubitSet n (now (list .entry))) r (now (place .exit)) ⌝ }
 {
-    told(qubits::validate_qubit_set(list, n), place)
+    told::told(qubits::validate_qubit_set(list, n), place)
 }
 
 #[no_mangle]
 pub extern "C" fn zg_validate_subsystem(list: &[usize], n: usize, place: &mut usize) -> u32
     ensures { λ r. ⌜ Exported (λ a. paper a ≡ subsystem n (now (list .entry))) r (now (place .exit)) ⌝ }
 {
-    told(qubits::validate_subsystem(list, n), place)
+    told::told(qubits::validate_subsystem(list, n), place)
 }
 
 #[no_mangle]
@@ -149,7 +132,7 @@ pub extern "C" fn zg_row_offsets(
 ) -> u32
     ensures { λ r. ⌜ Exported (λ a. RowOffsets (now (list .entry)) n cap (now (out .entry)) a (now (out .exit))) r (now (place .exit)) ⌝ }
 {
-    told(qubit_offsets::row_offsets(list, n, cap, out), place)
+    told::told(qubit_offsets::row_offsets(list, n, cap, out), place)
 }
 
 #[no_mangle]
@@ -166,7 +149,7 @@ pub extern "C" fn zg_traced_base(
     let k = qubit_offsets::traced_base(e, list, n, cap);
     *base = k.base;
     let answer = k.answer;
-    told(answer, place)
+    told::told(answer, place)
 }
 
 #[no_mangle]
@@ -179,7 +162,7 @@ pub extern "C" fn zg_smaller_side(
 ) -> u32
     ensures { λ r. ⌜ Exported (λ a. SmallerSide (now (list .entry)) n cap (now (others .entry)) a (now (others .exit))) r (now (place .exit)) ⌝ }
 {
-    told(cut_sides::smaller_side(list, n, cap, others), place)
+    told::told(cut_sides::smaller_side(list, n, cap, others), place)
 }
 
 #[no_mangle]
@@ -193,7 +176,7 @@ pub extern "C" fn zg_cut_matrix(
 ) -> u32
     ensures { λ r. ⌜ Exported (λ a. CutMatrix (now (state .entry)) n (now (list .entry)) cap (now (out .entry)) a (now (out .exit))) r (now (place .exit)) ⌝ }
 {
-    told(cuts::cut_matrix(state, n, list, cap, out), place)
+    told::told(cuts::cut_matrix(state, n, list, cap, out), place)
 }
 
 // ---- densities
@@ -202,7 +185,7 @@ pub extern "C" fn zg_cut_matrix(
 pub extern "C" fn zg_mirror_lower_triangle(rho: &mut [f64], dim: usize, place: &mut usize) -> u32
     ensures { λ r. ⌜ Exported (λ a. InPlace (squareAnswer (now (rho .entry)) dim) (mirrored (now (rho .entry)) dim) (now (rho .entry)) a (now (rho .exit))) r (now (place .exit)) ⌝ }
 {
-    told(densities::mirror_lower_triangle(rho, dim), place)
+    told::told(densities::mirror_lower_triangle(rho, dim), place)
 }
 
 #[no_mangle]
@@ -217,7 +200,7 @@ pub extern "C" fn zg_dense_reduced_density(
 ) -> u32
     ensures { λ r. ⌜ Exported (λ a. Density (now (state .entry)) n (now (list .entry)) cap (now (out .entry)) (now (scratch .entry)) a (now (out .exit)) (now (scratch .exit))) r (now (place .exit)) ⌝ }
 {
-    told(
+    told::told(
         densities::dense_reduced_density(state, n, list, cap, out, scratch),
         place,
     )
@@ -227,7 +210,7 @@ pub extern "C" fn zg_dense_reduced_density(
 pub extern "C" fn zg_normalize_trace(rho: &mut [f64], dim: usize, place: &mut usize) -> u32
     ensures { λ r. ⌜ Exported (λ a. InPlace (normalizeAnswer (now (rho .entry)) dim) (normalized (now (rho .entry)) dim) (now (rho .entry)) a (now (rho .exit))) r (now (place .exit)) ⌝ }
 {
-    told(density_trace::normalize_trace(rho, dim), place)
+    told::told(density_trace::normalize_trace(rho, dim), place)
 }
 
 #[no_mangle]
@@ -242,7 +225,7 @@ pub extern "C" fn zg_multiply_block_factor(
     ensures { λ r. ⌜ Exported (λ a. InPlace (blockAnswer (now (rho .entry)) dim (now (positions .entry)) (now (factor .entry)) side)
         (multiplied (now (rho .entry)) dim (now (positions .entry)) (now (factor .entry)) side) (now (rho .entry)) a (now (rho .exit))) r (now (place .exit)) ⌝ }
 {
-    told(
+    told::told(
         density_block::multiply_block_factor(rho, dim, positions, factor, side),
         place,
     )
@@ -259,7 +242,7 @@ pub extern "C" fn zg_density_from_cut(
 ) -> u32
     ensures { λ r. ⌜ Exported (λ a. DensityFromCut (now (matrix .entry)) n (now (list .entry)) cap (now (out .entry)) a (now (out .exit))) r (now (place .exit)) ⌝ }
 {
-    told(
+    told::told(
         density_recount::density_from_cut(matrix, n, list, cap, out),
         place,
     )
@@ -279,7 +262,7 @@ pub extern "C" fn zg_pages_agree(
     let k = pages::pages_agree(state, n, list, cap);
     *yes = k.yes;
     let answer = k.answer;
-    told(answer, place)
+    told::told(answer, place)
 }
 
 // ---- factors
@@ -300,7 +283,7 @@ pub extern "C" fn zg_factorize_gram_schmidt(
     let k = qr::factorize_gram_schmidt(a, rows, cols, q, r, scratch);
     *rank = k.rank;
     let answer = k.answer;
-    told(answer, place)
+    told::told(answer, place)
 }
 
 #[no_mangle]
@@ -317,7 +300,7 @@ pub extern "C" fn zg_svd_jacobi(
     ensures { λ r. ⌜ Exported (λ x. Svd (now (a .entry)) m n (now (u .entry)) (now (s .entry)) (now (vt .entry)) (now (scratch .entry)) x
         (now (u .exit)) (now (s .exit)) (now (vt .exit)) (now (scratch .exit))) r (now (place .exit)) ⌝ }
 {
-    told(svd::svd_jacobi(a, m, n, u, s, vt, scratch), place)
+    told::told(svd::svd_jacobi(a, m, n, u, s, vt, scratch), place)
 }
 
 // ---- spectra
@@ -334,7 +317,7 @@ pub extern "C" fn zg_finish_schmidt_values(
     let k = finish::finish_schmidt_values(values, out);
     *count = k.count;
     let answer = k.answer;
-    told(answer, place)
+    told::told(answer, place)
 }
 
 #[no_mangle]
@@ -347,7 +330,7 @@ pub extern "C" fn zg_hermitian_eigenvalues(
 ) -> u32
     ensures { λ r. ⌜ Exported (λ x. Eigenvalues (now (a .entry)) dim (now (out .entry)) (now (scratch .entry)) x (now (out .exit)) (now (scratch .exit))) r (now (place .exit)) ⌝ }
 {
-    told(spectra::hermitian_eigenvalues(a, dim, out, scratch), place)
+    told::told(spectra::hermitian_eigenvalues(a, dim, out, scratch), place)
 }
 
 #[no_mangle]
@@ -365,7 +348,7 @@ pub extern "C" fn zg_schmidt_values_from_density(
     let k = spectra::schmidt_values_from_density(rho, dim, out, scratch);
     *count = k.count;
     let answer = k.answer;
-    told(answer, place)
+    told::told(answer, place)
 }
 
 #[no_mangle]
@@ -380,7 +363,7 @@ pub extern "C" fn zg_hermitian_eigen(
     ensures { λ r. ⌜ Exported (λ x. Eigen (now (matrix .entry)) dim (now (values .entry)) (now (vectors .entry)) (now (scratch .entry)) x
         (now (values .exit)) (now (vectors .exit)) (now (scratch .exit))) r (now (place .exit)) ⌝ }
 {
-    told(
+    told::told(
         hermitian_eigen::hermitian_eigen(matrix, dim, values, vectors, scratch),
         place,
     )
@@ -403,7 +386,7 @@ pub extern "C" fn zg_dense_schmidt_values(
     let k = cut_values::dense_schmidt_values(state, n, list, cap, out, scratch);
     *count = k.count;
     let answer = k.answer;
-    told(answer, place)
+    told::told(answer, place)
 }
 
 // ---- ranks and sites
@@ -448,12 +431,12 @@ pub extern "C" fn zg_cut_rank(
     rank: &mut u64,
 ) -> u32
     ensures { λ r. ⌜ ExportedWith {R = CutRank} (λ k. k .answer) (λ k. k .rank)
-        (λ k. Ranked (cutSizes «bond_left» «bond_mid» «bond_right») (cutRankOf «bond_left» «bond_mid» «bond_right») (k .answer) (k .rank)) r (now (place .exit)) (now (rank .exit)) ⌝ }
+        (λ k. Ranked (bondSizes «bond_left» «bond_mid» «bond_right») (cutRankOf «bond_left» «bond_mid» «bond_right») (k .answer) (k .rank)) r (now (place .exit)) (now (rank .exit)) ⌝ }
 {
     let k = site_ranks::cut_rank(bond_left, bond_mid, bond_right);
     *rank = k.rank;
     let answer = k.answer;
-    told(answer, place)
+    told::told(answer, place)
 }
 
 #[no_mangle]
@@ -470,7 +453,7 @@ pub extern "C" fn zg_widest_block_cut(
     let k = site_ranks::widest_block_cut(bond_left, bond_right, n);
     *rank = k.rank;
     let answer = k.answer;
-    told(answer, place)
+    told::told(answer, place)
 }
 
 #[no_mangle]
@@ -485,7 +468,7 @@ pub extern "C" fn zg_fill_isometry_site_data(
     ensures { λ r. ⌜ Exported (λ a. Filled (andThen (columnSizes stride «bond_left» chi) (plainReply (now (columns .entry)) stride (2 * «bond_left») chi (length (now (out .entry)))))
         (2 * «bond_left» * chi) (siteCell chi (isometryCell (now (columns .entry)) stride)) (now (out .entry)) a (now (out .exit))) r (now (place .exit)) ⌝ }
 {
-    told(
+    told::told(
         sites::fill_isometry_site_data(columns, stride, bond_left, chi, out),
         place,
     )
@@ -504,7 +487,7 @@ pub extern "C" fn zg_fill_scaled_u_site_data(
     ensures { λ r. ⌜ Exported (λ a. Filled (andThen (columnSizes stride «bond_left» chi) (scaledUReply (now (u .entry)) (now (s .entry)) stride (2 * «bond_left») chi (length (now (out .entry)))))
         (2 * «bond_left» * chi) (siteCell chi (scaledUCell (now (u .entry)) (now (s .entry)) stride)) (now (out .entry)) a (now (out .exit))) r (now (place .exit)) ⌝ }
 {
-    told(
+    told::told(
         sites::fill_scaled_u_site_data(u, s, stride, bond_left, chi, out),
         place,
     )
@@ -523,7 +506,7 @@ pub extern "C" fn zg_fill_vt_site_data(
     ensures { λ r. ⌜ Exported (λ a. Filled (andThen (rowSizes «row_len» chi «physical_dim» «bond_right») (plainReply (now (vt .entry)) «row_len» («physical_dim» * «bond_right») chi (length (now (out .entry)))))
         («physical_dim» * «bond_right» * chi) (siteCell («physical_dim» * «bond_right») (vtCell (now (vt .entry)) «row_len»)) (now (out .entry)) a (now (out .exit))) r (now (place .exit)) ⌝ }
 {
-    told(
+    told::told(
         sites::fill_vt_site_data(vt, row_len, chi, physical_dim, bond_right, out),
         place,
     )
@@ -543,7 +526,7 @@ pub extern "C" fn zg_fill_scaled_vt_data(
     ensures { λ r. ⌜ Exported (λ a. Filled (andThen (rowSizes «row_len» chi «physical_dim» «bond_right») (scaledVtReply (now (s .entry)) (now (vt .entry)) «row_len» («physical_dim» * «bond_right») chi (length (now (out .entry)))))
         («physical_dim» * «bond_right» * chi) (siteCell («physical_dim» * «bond_right») (scaledVtCell (now (s .entry)) (now (vt .entry)) «row_len»)) (now (out .entry)) a (now (out .exit))) r (now (place .exit)) ⌝ }
 {
-    told(
+    told::told(
         sites::fill_scaled_vt_data(s, vt, row_len, chi, physical_dim, bond_right, out),
         place,
     )

@@ -2,7 +2,7 @@
 use mathlib.Core.Path.{_≡_, refl, sym, ap, ap₂, _∙_}
 use mathlib.Core.Bool.{Bool, true, false, not}
 use mathlib.Core.List.{List, [], _∷_, _++_, append-assoc, append-nil}
-use mathlib.Core.Logic.{_⊎_, inl, inr}
+use mathlib.Core.Logic.{inl, inr}
 use Prim.Native.Nat.{ℕ, zero, suc, _-_, _≤_, _<_}
 use native.Mathlib.Omega.{arith}
 use borrow.Author.Tests.{eq-eqb, ne-eqb, lt-ltb, le-ltb, ltb-false}
@@ -14,7 +14,7 @@ use lib.Seq.{take-at, drop-at, drop-length}
 use Rattle.answers.specs.declared.Answer.{Answer}
 use Rattle.answers.specs.declared.Answer.the-variants.{Done, NoWeight, NotFinite}
 use Rattle.answers.specs.Paper.{Reply, paper, done, refuse, ifDone}
-use Rattle.answers.proofs.PaperLaws.{refuse-done, stays, paper-one, done-old, end-old, end-worked}
+use Rattle.answers.proofs.PaperLaws.{refuse-done, stays, done-old, end-old, end-worked, Ended, nine-ended}
 use Rattle.numbers.specs.Numbers.{oneFloat, allowed}
 use Rattle.numbers.specs.Root.{sqrtOf}
 use Rattle.complex.specs.Zeros.{zeroFloat, zeros, zeroed}
@@ -23,7 +23,7 @@ use Rattle.values.proofs.ListLaws.{kept-front, kept-le, length-scaled}
 use Rattle.values.specs.Sort.{sortedDown}
 use Rattle.values.proofs.SortLaws.{length-sort}
 use Rattle.finish.specs.declared.Kept.{Kept}
-use Rattle.finish.specs.Finish.{valueFloor, floorOf, scaled, kept, finishSorted, sortedReply, finishOf, finishReply, padded, refusal, answerOf}
+use Rattle.finish.specs.Finish.{valueFloor, floorOf, normalised, keptValues, finishSorted, sortedReply, finishOf, finishReply, padded, finishRefusal, finishAnswer}
 use Rattle.finish.specs.Outcome.{SortedOutcome, FinishedOutcome, Outcome}
 
 -- ---- the floor and the scaling
@@ -39,37 +39,36 @@ floor-some [] h = absurd (h refl)
 floor-some (x ∷ s) h = refl
 
 pub scaled-made : (l : List Float) {total root : Float} {ys : List Float} → total ≡ squaresFrom minusZero l → root ≡ sqrtOf total
-    → ys ≡ scaledBy (div binary64 oneFloat root) l → ys ≡ scaled l
-unfolding scaled
+    → ys ≡ scaledBy (div binary64 oneFloat root) l → ys ≡ normalised l
+unfolding normalised
 scaled-made l e f g = rw (← e, ← f) g
 
-length-finish : (s : List Float) → length (finishSorted s) ≡ length (kept s)
-unfolding finishSorted scaled
-length-finish s = length-scaled (div binary64 oneFloat (sqrtOf (squaresFrom minusZero (kept s)))) (kept s)
+length-finish : (s : List Float) → length (finishSorted s) ≡ length (keptValues s)
+unfolding finishSorted normalised
+length-finish s = length-scaled (div binary64 oneFloat (sqrtOf (squaresFrom minusZero (keptValues s)))) (keptValues s)
 
 -- ---- the answer
 
-reply-8 : (s : List Float) → length (kept s) ≡ 0 → sortedReply s ≡ (8, 0)
+reply-8 : (s : List Float) → length (keptValues s) ≡ 0 → sortedReply s ≡ (8, 0)
 unfolding sortedReply
 reply-8 s h = rw (eq-eqb _ _ h)
 
-reply-9 : (s : List Float) → (length (kept s) ≡ 0 → ⊥) → allFinite (finishSorted s) ≡ false → sortedReply s ≡ (9, 0)
+reply-9 : (s : List Float) → (length (keptValues s) ≡ 0 → ⊥) → allFinite (finishSorted s) ≡ false → sortedReply s ≡ (9, 0)
 unfolding sortedReply
 reply-9 s h e = rw (ne-eqb _ _ h, e)
 
-reply-0 : (s : List Float) → (length (kept s) ≡ 0 → ⊥) → allFinite (finishSorted s) ≡ true → sortedReply s ≡ done
+reply-0 : (s : List Float) → (length (keptValues s) ≡ 0 → ⊥) → allFinite (finishSorted s) ≡ true → sortedReply s ≡ done
 unfolding sortedReply
 reply-0 s h e = rw (ne-eqb _ _ h, e)
 
 -- it is 0, 8 or 9
-pub reply-worked : (s : List Float) → (sortedReply s .0 ≡ 0) ⊎ (8 ≤ sortedReply s .0)
+pub reply-worked : (s : List Float) → Ended (sortedReply s .0)
 unfolding sortedReply
-reply-worked s = pick (eqb (length (kept s)) 0) (allFinite (finishSorted s))
+reply-worked s = pick (eqb (length (keptValues s)) 0) _ (nine-ended (allFinite (finishSorted s)) done (inl refl))
   where
-    pick : (a b : Bool) → (refuse a (8, 0) (refuse (not b) (9, 0) done) .0 ≡ 0) ⊎ (8 ≤ refuse a (8, 0) (refuse (not b) (9, 0) done) .0)
-    pick true b = inr (omega arith)
-    pick false true = inl refl
-    pick false false = inr (omega arith)
+    pick : (a : Bool) (r : Reply) → Ended (r .0) → Ended (refuse a (8, 0) r .0)
+    pick true r h = inr (omega arith, omega arith)
+    pick false r h = h
 
 -- ---- values that are sorted
 
@@ -84,12 +83,12 @@ zeroed-whole m l h = rw (drop-of-length-le l h, append-nil)
 
 -- the floor that the code found, and how many it keeps
 module _ (s : List Float) (f : Float) (n : ℕ) (floor : f ≡ floorOf s) (count : n ≡ length (keptAbove f s)) where
-  count-is : n ≡ length (kept s)
-  unfolding kept
+  count-is : n ≡ length (keptValues s)
+  unfolding keptValues
   count-is = count ∙ ap (λ (g : Float). length (keptAbove g s)) floor
 
-  front-is : take n s ≡ kept s
-  unfolding kept
+  front-is : take n s ≡ keptValues s
+  unfolding keptValues
   front-is = rw (count, floor) (kept-front (floorOf s) s)
 
   pub within : n ≤ length s
@@ -101,11 +100,11 @@ module _ (s : List Float) (f : Float) (n : ℕ) (floor : f ≡ floorOf s) (count
       record { answer = sym r; count = rw r; values = rw r e }
 
   module _ (some : n ≡ 0 → ⊥) where
-    left : length (kept s) ≡ 0 → ⊥
+    left : length (keptValues s) ≡ 0 → ⊥
     left h = some (count-is ∙ h)
 
     -- the scaled values are not all finite
-    pub sorted-infinite : (b : Bool) → b ≡ allFinite (scaled (take n s)) → b ≡ false → (mid end : List Float) → length mid ≡ length s → end ≡ zeroed (length s) mid
+    pub sorted-infinite : (b : Bool) → b ≡ allFinite (normalised (take n s)) → b ≡ false → (mid end : List Float) → length mid ≡ length s → end ≡ zeroed (length s) mid
         → SortedOutcome s (record { answer = NotFinite; count = 0 }) end
     unfolding finishSorted
     sorted-infinite b e z mid end l g =
@@ -113,7 +112,7 @@ module _ (s : List Float) (f : Float) (n : ℕ) (floor : f ≡ floorOf s) (count
         let w : zeroed (length s) mid ≡ zeroed (length s) s = zeroed-whole (length s) mid (omega arith) ∙ sym (zeroed-whole (length s) s (omega arith)) in
         record { answer = sym r; count = rw r; values = rw r (g ∙ w) }
 
-    module _ (mid ys : List Float) (scales : mid ≡ scaled (take n s) ++ drop n s) where
+    module _ (mid ys : List Float) (scales : mid ≡ normalised (take n s) ++ drop n s) where
       front : mid ≡ finishSorted s ++ drop n s
       unfolding finishSorted
       front = rw front-is at scales
@@ -136,7 +135,7 @@ module _ (s : List Float) (f : Float) (n : ℕ) (floor : f ≡ floorOf s) (count
           let t : take n mid ≡ finishSorted s = rw front (take-at (finishSorted s) (drop n s) n length-front') in
           rw (d, t, g, zeroed-whole (length s - n) (take (length mid - n) (drop n mid)) part, length-front', drop-length s) (sym (append-assoc (finishSorted s) (zeros (length s - n)) []))
 
-      pub sorted-done : (b : Bool) → b ≡ allFinite (scaled (take n s)) → b ≡ true
+      pub sorted-done : (b : Bool) → b ≡ allFinite (normalised (take n s)) → b ≡ true
           → ys ≡ zeroed (length s - n) (take (length mid - n) (drop n mid))
           → SortedOutcome s (record { answer = Done; count = n }) (putMid n (length mid - n) mid ys)
       unfolding finishSorted
@@ -177,16 +176,16 @@ finished-made values old s e r i o =
 
 -- ---- the entry point
 
-pub refusal-1 : (values : List Float) (room : ℕ) → 64 < length values → (1, 0) ≡ refusal values room
-unfolding refusal
+pub refusal-1 : (values : List Float) (room : ℕ) → 64 < length values → (1, 0) ≡ finishRefusal values room
+unfolding finishRefusal
 refusal-1 values room h = rw (lt-ltb _ _ h)
 
-pub refusal-6 : (values : List Float) (room : ℕ) → length values ≤ 64 → room < length values → (6, 1) ≡ refusal values room
-unfolding refusal
+pub refusal-6 : (values : List Float) (room : ℕ) → length values ≤ 64 → room < length values → (6, 1) ≡ finishRefusal values room
+unfolding finishRefusal
 refusal-6 values room h g = rw (le-ltb _ _ h, lt-ltb _ _ g)
 
-pub refusal-7 : (values : List Float) (room : ℕ) → length values ≤ 64 → length values ≤ room → valuesAllowed 0 values ≡ refusal values room
-unfolding refusal
+pub refusal-7 : (values : List Float) (room : ℕ) → length values ≤ 64 → length values ≤ room → valuesAllowed 0 values ≡ finishRefusal values room
+unfolding finishRefusal
 refusal-7 values room h g = rw (le-ltb _ _ h, le-ltb _ _ g)
 
 allowed-small : (i : ℕ) (l : List Float) → valuesAllowed i l .0 < 8
@@ -198,8 +197,8 @@ allowed-small i (x ∷ l) = pick (allowed x) (allowed-small (suc i) l)
     pick true h = h
     pick false h = omega arith
 
-refusal-small : (values : List Float) (room : ℕ) → refusal values room .0 < 8
-unfolding refusal
+refusal-small : (values : List Float) (room : ℕ) → finishRefusal values room .0 < 8
+unfolding finishRefusal
 refusal-small values room = pick (ltb 64 (length values)) (ltb room (length values)) (allowed-small 0 values)
   where
     pick : (a b : Bool) → valuesAllowed 0 values .0 < 8 → refuse a (1, 0) (refuse b (6, 1) (valuesAllowed 0 values)) .0 < 8
@@ -208,25 +207,25 @@ refusal-small values room = pick (ltb 64 (length values)) (ltb room (length valu
     pick false false h = h
 
 -- a call that is not refused has the room
-pub refusal-room : (values : List Float) (room : ℕ) → refusal values room .0 ≡ 0 → length values ≤ room
-unfolding refusal
+pub refusal-room : (values : List Float) (room : ℕ) → finishRefusal values room .0 ≡ 0 → length values ≤ room
+unfolding finishRefusal
 refusal-room values room e =
     let a = refuse-done (ltb 64 (length values)) 0 0 (refuse (ltb room (length values)) (6, 1) (valuesAllowed 0 values)) e in
     ltb-false room (length values) (refuse-done (ltb room (length values)) 5 1 (valuesAllowed 0 values) (a .1) .0)
 
 -- refused: nothing lent changes
-pub outcome-refused : (values old : List Float) (r : Answer) → paper r ≡ refusal values (length old) → (paper r .0 ≡ 0 → ⊥)
+pub outcome-refused : (values old : List Float) (r : Answer) → paper r ≡ finishRefusal values (length old) → (paper r .0 ≡ 0 → ⊥)
     → Outcome values old (record { answer = r; count = 0 }) old
 outcome-refused values old r e h =
-    let n : refusal values (length old) .0 ≡ 0 → ⊥ = λ z. h (ap (λ (x : Reply). x .0) e ∙ z) in
-    let s = sym (stays (refusal values (length old)) (finishReply values) n) in
+    let n : finishRefusal values (length old) .0 ≡ 0 → ⊥ = λ z. h (ap (λ (x : Reply). x .0) e ∙ z) in
+    let s = sym (stays (finishRefusal values (length old)) (finishReply values) n) in
     record {
       answer = e ∙ sym s;
       count = rw s (done-old _ _ _ n);
       out = rw s (end-old _ _ _ _ n (refusal-small values (length old)));
     }
 
-pub outcome-finished : (values old : List Float) (r : Kept) (end : List Float) → answerOf values old ≡ finishReply values
+pub outcome-finished : (values old : List Float) (r : Kept) (end : List Float) → finishAnswer values old ≡ finishReply values
     → FinishedOutcome values old r end → Outcome values old r end
 outcome-finished values old r end e o =
     record {
@@ -238,8 +237,3 @@ outcome-finished values old r end e o =
 -- ONE OUTCOME: two ends of a call that both meet the contract are the same
 pub kept-same : (r r' : Kept) → r .answer ≡ r' .answer → r .count ≡ r' .count → r ≡ r'
 kept-same r r' a b = ap₂ (λ (x : Answer) (y : ℕ). record { answer = x; count = y }) a b
-
-pub finish-schmidt-values-one : (values old : List Float) (r r' : Kept) (end end' : List Float)
-    → Outcome values old r end → Outcome values old r' end' → (r ≡ r') × (end ≡ end')
-finish-schmidt-values-one values old r r' end end' a b =
-    (kept-same r r' (paper-one _ _ (a .answer ∙ sym (b .answer))) (a .count ∙ sym (b .count)), a .out ∙ sym (b .out))

@@ -23,15 +23,15 @@ floorOf [] = mul binary64 zeroFloat valueFloor
 floorOf (x ∷ l) = mul binary64 x valueFloor
 
 -- each value times 1/√(the sum of their squares)
-unfoldable pub scaled : List Float → List Float
-scaled l = scaledBy (div binary64 oneFloat (sqrtOf (squaresFrom minusZero l))) l
+unfoldable pub normalised : List Float → List Float
+normalised l = scaledBy (div binary64 oneFloat (sqrtOf (squaresFrom minusZero l))) l
 
 -- what is left of values that are sorted downward
-unfoldable pub kept : List Float → List Float
-kept s = keptAbove (floorOf s) s
+unfoldable pub keptValues : List Float → List Float
+keptValues s = keptAbove (floorOf s) s
 
 unfoldable pub finishSorted : List Float → List Float
-finishSorted s = scaled (kept s)
+finishSorted s = normalised (keptValues s)
 
 -- the Schmidt values of a list of values
 abbrev pub finishOf : List Float → List Float
@@ -39,7 +39,7 @@ finishOf values = finishSorted (sortedDown values)
 
 -- 8 where none is left, 9 where a result is not finite
 unfoldable pub sortedReply : List Float → Reply
-sortedReply s = refuse (eqb (length (kept s)) 0) (8, 0) (refuse (not (allFinite (finishSorted s))) (9, 0) done)
+sortedReply s = refuse (eqb (length (keptValues s)) 0) (8, 0) (refuse (not (allFinite (finishSorted s))) (9, 0) done)
 
 abbrev pub finishReply : List Float → Reply
 finishReply values = sortedReply (sortedDown values)
@@ -49,9 +49,9 @@ unfoldable pub padded : ℕ → List Float → List Float → List Float
 padded n l old = l ++ zeros (n - length l) ++ drop n old
 
 -- 1: more than 64 values; 6: the output is shorter than the values; 7
-unfoldable pub refusal : List Float → ℕ → Reply
-refusal values room = refuse (ltb 64 (length values)) (1, 0) (refuse (ltb room (length values)) (6, 1) (valuesAllowed 0 values))
+unfoldable pub finishRefusal : List Float → ℕ → Reply
+finishRefusal values room = refuse (ltb 64 (length values)) (1, 0) (refuse (ltb room (length values)) (6, 1) (valuesAllowed 0 values))
 
 -- the whole answer
-abbrev pub answerOf : List Float → List Float → Reply
-answerOf values old = andThen (refusal values (length old)) (finishReply values)
+abbrev pub finishAnswer : List Float → List Float → Reply
+finishAnswer values old = andThen (finishRefusal values (length old)) (finishReply values)

@@ -6,7 +6,7 @@ use lib.ListN.{length}
 use Rattle.answers.specs.Paper.{paper, ifDone, atEnd}
 use Rattle.complex.specs.Zeros.{zeroed}
 use Rattle.finish.specs.declared.Kept.{Kept}
-use Rattle.finish.specs.Finish.{finishSorted, sortedReply, finishOf, finishReply, padded, answerOf}
+use Rattle.finish.specs.Finish.{finishSorted, sortedReply, finishOf, finishReply, padded, finishAnswer}
 
 -- of values that are sorted, in place
 pub record SortedOutcome (s : List Float) (r : Kept) (end : List Float) : Type 0 where
@@ -22,6 +22,6 @@ pub record FinishedOutcome (values old : List Float) (r : Kept) (end : List Floa
 
 -- of the entry point
 pub record Outcome (values old : List Float) (r : Kept) (end : List Float) : Type 0 where
-  pub answer : paper (r .answer) ≡ answerOf values old
-  pub count : r .count ≡ ifDone (answerOf values old .0) (length (finishOf values)) 0
-  pub out : end ≡ atEnd (answerOf values old .0) (padded (length values) (finishOf values) old) (zeroed (length values) old) old
+  pub answer : paper (r .answer) ≡ finishAnswer values old
+  pub count : r .count ≡ ifDone (finishAnswer values old .0) (length (finishOf values)) 0
+  pub out : end ≡ atEnd (finishAnswer values old .0) (padded (length values) (finishOf values) old) (zeroed (length values) old) old

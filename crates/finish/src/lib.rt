@@ -6,7 +6,7 @@ ghost use Prim.Native.Nat.{_≤_};
 ghost use lib.ListN.{length, take, drop};
 ghost use Rattle.answers.specs.Paper.{paper};
 ghost use Rattle.values.specs.Lists.{allFinite};
-ghost use Rattle.finish.specs.Finish.{floorOf, scaled, refusal};
+ghost use Rattle.finish.specs.Finish.{floorOf, normalised, finishRefusal};
 ghost use Rattle.finish.specs.Outcome.{Outcome, SortedOutcome, FinishedOutcome};
 
 // A value at or below this part of the largest is noise.
@@ -31,8 +31,8 @@ fn floor_of(s: &[f64]) -> f64
 // The first count values, each times 1/√(the sum of their squares); yes where all are finite then.
 fn scale_kept(s: &mut [f64], count: usize) -> bool
     requires { ⌜ count ≤ length (now s) ⌝ }
-    ensures now { λ _. ⌜ now (s .exit) ≡ scaled (take count (now (s .entry))) ++ drop count (now (s .entry)) ⌝ }
-    ensures whether { λ r. ⌜ r ≡ allFinite (scaled (take count (now (s .entry)))) ⌝ }
+    ensures now { λ _. ⌜ now (s .exit) ≡ normalised (take count (now (s .entry))) ++ drop count (now (s .entry)) ⌝ }
+    ensures whether { λ r. ⌜ r ≡ allFinite (normalised (take count (now (s .entry)))) ⌝ }
 {
     let total = values::sum_of_squares(&s[..count]);
     let scale = 1.0 / numbers::sqrt(total);
@@ -79,7 +79,7 @@ pub fn finish_values(values: &[f64], out: &mut [f64]) -> Kept
 
 // Answers 1, 6 and 7.
 fn finish_refusal(values: &[f64], room: usize) -> Answer
-    ensures { λ r. ⌜ paper r ≡ refusal (now (values .entry)) room ⌝ }
+    ensures { λ r. ⌜ paper r ≡ finishRefusal (now (values .entry)) room ⌝ }
 {
     if values.len() > 64 {
         return Answer::Size;

@@ -1,7 +1,7 @@
 -- Laws of the statements; `hermitian-eigen-one`: only one outcome meets the contract. Assumes nothing.
 use mathlib.Core.Path.{_≡_, refl, sym, ap, ap₂, _∙_}
 use mathlib.Core.Bool.{Bool, true, false, not}
-use mathlib.Core.Logic.{_⊎_, inl, inr}
+use mathlib.Core.Logic.{inl}
 use mathlib.Core.List.{List, _++_, append-nil}
 use Prim.Native.Nat.{ℕ, _+_, _*_, _≤_, _<_}
 use native.Mathlib.Omega.{arith}
@@ -11,54 +11,54 @@ use lib.ListN.{length, drop, drop-of-length-le}
 use lib.Ieee.{Float}
 use Rattle.answers.specs.declared.Answer.{Answer}
 use Rattle.answers.specs.Paper.{Reply, paper, done, refuse, andThen, ifDone}
-use Rattle.answers.proofs.PaperLaws.{refuse-done, stays, paper-one, worked-new, worked-old, end-old}
+use Rattle.answers.proofs.PaperLaws.{Ended, refuse-done, stays, nine-ended, worked-new, worked-old, end-old}
 use Rattle.complex.specs.Cells.{components}
 use Rattle.complex.proofs.CellLaws.{components-small}
 use Rattle.complex.specs.Zeros.{zeros, zeroed}
 use Rattle.values.specs.Lists.{allFinite}
 use Rattle.svd.proofs.SvdLaws.{zeroed-all, join-end}
-use Rattle.hermitian_eigen.specs.Hermitian.{needVectors, needScratch, tests, eigenvaluesOf, eigenvectorsOf, finiteResults, endTest, answerOf, Eigen, Exact, Finished, Worked}
+use Rattle.hermitian_eigen.specs.Hermitian.{needVectors, hermitianScratch, hermitianTests, hermitianValues, hermitianVectors, finiteResults, hermitianEnd, hermitianAnswer, Eigen, HermitianExact, HermitianFinished, HermitianWorked}
 
 -- ---- the refusals
 
 module _ (a : List Float) (dim values vectors scratch : ℕ) where
-  pub tests-low : dim < 1 → (1, 0) ≡ tests a dim values vectors scratch
-  unfolding tests
+  pub tests-low : dim < 1 → (1, 0) ≡ hermitianTests a dim values vectors scratch
+  unfolding hermitianTests
   tests-low h = rw (lt-ltb _ _ h)
 
   module _ (h1 : 1 ≤ dim) where
-    pub tests-high : 64 < dim → (1, 0) ≡ tests a dim values vectors scratch
-    unfolding tests
+    pub tests-high : 64 < dim → (1, 0) ≡ hermitianTests a dim values vectors scratch
+    unfolding hermitianTests
     tests-high h = rw (le-ltb _ _ h1, lt-ltb _ _ h)
 
     module _ (h2 : dim ≤ 64) where
-      pub tests-matrix : (length a ≡ 2 * (dim * dim) → ⊥) → (6, 0) ≡ tests a dim values vectors scratch
-      unfolding tests
+      pub tests-matrix : (length a ≡ 2 * (dim * dim) → ⊥) → (6, 0) ≡ hermitianTests a dim values vectors scratch
+      unfolding hermitianTests
       tests-matrix h = rw (le-ltb _ _ h1, le-ltb _ _ h2, ne-eqb _ _ h)
 
       module _ (h3 : length a ≡ 2 * (dim * dim)) where
-        pub tests-values : values < dim → (6, 1) ≡ tests a dim values vectors scratch
-        unfolding tests
+        pub tests-values : values < dim → (6, 1) ≡ hermitianTests a dim values vectors scratch
+        unfolding hermitianTests
         tests-values h = rw (le-ltb _ _ h1, le-ltb _ _ h2, eq-eqb _ _ h3, lt-ltb _ _ h)
 
         module _ (h4 : dim ≤ values) where
-          pub tests-vectors : vectors < needVectors dim → (6, 2) ≡ tests a dim values vectors scratch
-          unfolding tests
+          pub tests-vectors : vectors < needVectors dim → (6, 2) ≡ hermitianTests a dim values vectors scratch
+          unfolding hermitianTests
           tests-vectors h = rw (le-ltb _ _ h1, le-ltb _ _ h2, eq-eqb _ _ h3, le-ltb _ _ h4, lt-ltb _ _ h)
 
           module _ (h5 : needVectors dim ≤ vectors) where
-            pub tests-scratch : scratch < needScratch dim → (6, 3) ≡ tests a dim values vectors scratch
-            unfolding tests
+            pub tests-scratch : scratch < hermitianScratch dim → (6, 3) ≡ hermitianTests a dim values vectors scratch
+            unfolding hermitianTests
             tests-scratch h = rw (le-ltb _ _ h1, le-ltb _ _ h2, eq-eqb _ _ h3, le-ltb _ _ h4, le-ltb _ _ h5, lt-ltb _ _ h)
 
-            pub tests-cells : needScratch dim ≤ scratch → components 0 a ≡ tests a dim values vectors scratch
-            unfolding tests
+            pub tests-cells : hermitianScratch dim ≤ scratch → components 0 a ≡ hermitianTests a dim values vectors scratch
+            unfolding hermitianTests
             tests-cells h = rw (le-ltb _ _ h1, le-ltb _ _ h2, eq-eqb _ _ h3, le-ltb _ _ h4, le-ltb _ _ h5, le-ltb _ _ h)
 
-tests-small : (a : List Float) (dim values vectors scratch : ℕ) → tests a dim values vectors scratch .0 < 8
-unfolding tests
+tests-small : (a : List Float) (dim values vectors scratch : ℕ) → hermitianTests a dim values vectors scratch .0 < 8
+unfolding hermitianTests
 tests-small a dim values vectors scratch =
-    pick (ltb dim 1) (ltb 64 dim) (eqb (length a) (2 * (dim * dim))) (ltb values dim) (ltb vectors (needVectors dim)) (ltb scratch (needScratch dim)) (components 0 a)
+    pick (ltb dim 1) (ltb 64 dim) (eqb (length a) (2 * (dim * dim))) (ltb values dim) (ltb vectors (needVectors dim)) (ltb scratch (hermitianScratch dim)) (components 0 a)
     (components-small 0 a)
   where
     pick : (p q r s t u : Bool) (b : Reply) → b .0 < 8
@@ -72,28 +72,28 @@ tests-small a dim values vectors scratch =
     pick false false true false false false b h = h
 
 -- the side and the lengths of a call that is not refused
-pub record Accepted (dim a values vectors scratch : ℕ) : Type 0 where
+pub record HermitianAccepted (dim a values vectors scratch : ℕ) : Type 0 where
   pub side : dim ≤ 64
   pub a-is : a ≡ 2 * (dim * dim)
   pub values-fit : dim ≤ values
   pub vectors-fit : needVectors dim ≤ vectors
-  pub scratch-fits : needScratch dim ≤ scratch
+  pub scratch-fits : hermitianScratch dim ≤ scratch
 
-pub accepted : (a : List Float) (dim values vectors scratch : ℕ) → tests a dim values vectors scratch .0 ≡ 0 → Accepted dim (length a) values vectors scratch
-unfolding tests
+pub accepted : (a : List Float) (dim values vectors scratch : ℕ) → hermitianTests a dim values vectors scratch .0 ≡ 0 → HermitianAccepted dim (length a) values vectors scratch
+unfolding hermitianTests
 accepted a dim values vectors scratch e =
     let t0 = refuse-done (ltb dim 1) 0 0 _ e in
     let t1 = refuse-done (ltb 64 dim) 0 0 _ (t0 .1) in
     let t2 = refuse-done (not (eqb (length a) (2 * (dim * dim)))) 5 0 _ (t1 .1) in
     let t3 = refuse-done (ltb values dim) 5 1 _ (t2 .1) in
     let t4 = refuse-done (ltb vectors (needVectors dim)) 5 2 _ (t3 .1) in
-    let t5 = refuse-done (ltb scratch (needScratch dim)) 5 3 (components 0 a) (t4 .1) in
+    let t5 = refuse-done (ltb scratch (hermitianScratch dim)) 5 3 (components 0 a) (t4 .1) in
     record {
       side = ltb-false 64 dim (t1 .0);
       a-is = eqb-true (length a) (2 * (dim * dim)) (not-false (eqb (length a) (2 * (dim * dim))) (t2 .0));
       values-fit = ltb-false values dim (t3 .0);
       vectors-fit = ltb-false vectors (needVectors dim) (t4 .0);
-      scratch-fits = ltb-false scratch (needScratch dim) (t5 .0);
+      scratch-fits = ltb-false scratch (hermitianScratch dim) (t5 .0);
     }
 
 -- ---- the end
@@ -107,36 +107,32 @@ unfolding finiteResults
 finite-second values vectors a b = rw a b
 
 -- all finite, or not
-pub finished-good : (values vectors : List Float) (r : Answer) → paper r ≡ done → finiteResults values vectors ≡ true → Finished values vectors r values vectors
-unfolding endTest
+pub finished-good : (values vectors : List Float) (r : Answer) → paper r ≡ done → finiteResults values vectors ≡ true → HermitianFinished values vectors r values vectors
+unfolding hermitianEnd
 finished-good values vectors r e h = record { answer = e ∙ rw h; values-are = rw e; vectors-are = rw e }
 
 pub finished-bad : (values vectors : List Float) (r : Answer) {values' vectors' : List Float} → paper r ≡ (9, 0) → finiteResults values vectors ≡ false
-    → values' ≡ zeroed (length values) values → vectors' ≡ zeroed (length vectors) vectors → Finished values vectors r values' vectors'
-unfolding endTest
+    → values' ≡ zeroed (length values) values → vectors' ≡ zeroed (length vectors) vectors → HermitianFinished values vectors r values' vectors'
+unfolding hermitianEnd
 finished-bad values vectors r e h ea ec =
     record { answer = e ∙ rw h; values-are = rw e (ea ∙ zeroed-all values); vectors-are = rw e (ec ∙ zeroed-all vectors) }
 
 -- 0 or 9
-end-number : (values vectors : List Float) → (endTest values vectors .0 ≡ 0) ⊎ (8 ≤ endTest values vectors .0)
-unfolding endTest
-end-number values vectors = pick (finiteResults values vectors)
-  where
-    pick : (b : Bool) → (refuse (not b) (9, 0) done .0 ≡ 0) ⊎ (8 ≤ refuse (not b) (9, 0) done .0)
-    pick true = inl refl
-    pick false = inr (omega arith)
+end-number : (values vectors : List Float) → Ended (hermitianEnd values vectors .0)
+unfolding hermitianEnd
+end-number values vectors = nine-ended (finiteResults values vectors) done (inl refl)
 
 pub worked : (a : List Float) (dim la : ℕ) (values₀ vectors₀ scratch₀ scratch : List Float) {values vectors values' vectors' scratch' : List Float} (r : Answer)
-    → Exact dim la (length values₀) (length vectors₀) (length scratch₀)
+    → HermitianExact dim la (length values₀) (length vectors₀) (length scratch₀)
     → length values ≡ length values₀ → length vectors ≡ length vectors₀
-    → values ≡ eigenvaluesOf a dim → vectors ≡ eigenvectorsOf a dim
-    → (k : ℕ) → k ≡ length scratch₀ → length scratch ≡ length scratch₀ → scratch' ≡ zeroed k scratch → Finished values vectors r values' vectors'
-    → Worked a dim r values' vectors' scratch'
+    → values ≡ hermitianValues a dim → vectors ≡ hermitianVectors a dim
+    → (k : ℕ) → k ≡ length scratch₀ → length scratch ≡ length scratch₀ → scratch' ≡ zeroed k scratch → HermitianFinished values vectors r values' vectors'
+    → HermitianWorked a dim r values' vectors' scratch'
 unfolding zeroed
 worked a dim la values₀ vectors₀ scratch₀ scratch r e lv lw ev ew k ek lt z g =
     let l : length scratch ≤ k = omega arith in
     record {
-      answer = g .answer ∙ ap₂ endTest ev ew;
+      answer = g .answer ∙ ap₂ hermitianEnd ev ew;
       values-are = g .values-are ∙ ap₂ (λ (x : List Float) (y : ℕ). ifDone (paper r .0) x (zeros y)) ev (lv ∙ e .values-are);
       vectors-are = g .vectors-are ∙ ap₂ (λ (x : List Float) (y : ℕ). ifDone (paper r .0) x (zeros y)) ew (lw ∙ e .vectors-are);
       scratch-is = z ∙ rw (drop-of-length-le scratch l, append-nil, ek, e .scratch-is);
@@ -144,27 +140,27 @@ worked a dim la values₀ vectors₀ scratch₀ scratch r e lv lw ev ew k ek lt 
 
 -- an accepted call, and a refused one
 pub eigen-worked : (a : List Float) (dim : ℕ) (values vectors scratch : List Float) (r : Answer) {values' vectors' scratch' : List Float}
-    → andThen (tests a dim (length values) (length vectors) (length scratch)) (endTest (eigenvaluesOf a dim) (eigenvectorsOf a dim))
-    ≡ endTest (eigenvaluesOf a dim) (eigenvectorsOf a dim)
-    → Worked a dim r values' vectors' scratch'
+    → andThen (hermitianTests a dim (length values) (length vectors) (length scratch)) (hermitianEnd (hermitianValues a dim) (hermitianVectors a dim))
+    ≡ hermitianEnd (hermitianValues a dim) (hermitianVectors a dim)
+    → HermitianWorked a dim r values' vectors' scratch'
     → Eigen a dim values vectors scratch r (values' ++ drop dim values) (vectors' ++ drop (2 * (dim * dim)) vectors) (scratch' ++ drop (6 * (dim * dim) + 2 * dim) scratch)
-unfolding answerOf zeroed
+unfolding hermitianAnswer zeroed
 eigen-worked a dim values vectors scratch r e w =
-    let p : (paper r .0 ≡ 0) ⊎ (8 ≤ paper r .0) = rw (w .answer) (end-number (eigenvaluesOf a dim) (eigenvectorsOf a dim)) in
+    let p : Ended (paper r .0) = rw (w .answer) (end-number (hermitianValues a dim) (hermitianVectors a dim)) in
     record {
       answer = w .answer ∙ sym e;
-      values-are = rw (w .values-are) (join-end (paper r .0) (eigenvaluesOf a dim) (zeros dim) (drop dim values) values p);
-      vectors-are = rw (w .vectors-are) (join-end (paper r .0) (eigenvectorsOf a dim) (zeros (needVectors dim)) (drop (needVectors dim) vectors) vectors p);
-      scratch-is = rw (w .scratch-is) (worked-new (paper r .0) (zeros (needScratch dim) ++ drop (needScratch dim) scratch) scratch p);
+      values-are = rw (w .values-are) (join-end (paper r .0) (hermitianValues a dim) (zeros dim) (drop dim values) values p);
+      vectors-are = rw (w .vectors-are) (join-end (paper r .0) (hermitianVectors a dim) (zeros (needVectors dim)) (drop (needVectors dim) vectors) vectors p);
+      scratch-is = rw (w .scratch-is) (worked-new (paper r .0) (zeros (hermitianScratch dim) ++ drop (hermitianScratch dim) scratch) scratch p);
     }
 
 pub eigen-refused : (a : List Float) (dim : ℕ) (values vectors scratch : List Float) (r : Answer)
-    → paper r ≡ tests a dim (length values) (length vectors) (length scratch) → (paper r .0 ≡ 0 → ⊥)
+    → paper r ≡ hermitianTests a dim (length values) (length vectors) (length scratch) → (paper r .0 ≡ 0 → ⊥)
     → Eigen a dim values vectors scratch r values vectors scratch
-unfolding answerOf
+unfolding hermitianAnswer
 eigen-refused a dim values vectors scratch r e h =
     let b : paper r .0 < 8 = rw e (tests-small a dim (length values) (length vectors) (length scratch)) in
-    let end = endTest (eigenvaluesOf a dim) (eigenvectorsOf a dim) in
+    let end = hermitianEnd (hermitianValues a dim) (hermitianVectors a dim) in
     record {
       answer = stays (paper r) end h ∙ ap (λ (x : Reply). andThen x end) e;
       values-are = end-old (paper r .0) _ _ values h b;
@@ -173,14 +169,3 @@ eigen-refused a dim values vectors scratch r e h =
     }
 
 -- ---- only one outcome
-
-pub hermitian-eigen-one : (a : List Float) (dim : ℕ) (values vectors scratch : List Float) (r q : Answer) (values' vectors' scratch' values″ vectors″ scratch″ : List Float)
-    → Eigen a dim values vectors scratch r values' vectors' scratch' → Eigen a dim values vectors scratch q values″ vectors″ scratch″
-    → (r ≡ q) × (values' ≡ values″) × (vectors' ≡ vectors″) × (scratch' ≡ scratch″)
-hermitian-eigen-one a dim values vectors scratch r q values' vectors' scratch' values″ vectors″ scratch″ x y =
-    let e : r ≡ q = paper-one r q (x .answer ∙ sym (y .answer)) in (
-      e,
-      x .values-are ∙ rw e (sym (y .values-are)),
-      x .vectors-are ∙ rw e (sym (y .vectors-are)),
-      x .scratch-is ∙ rw e (sym (y .scratch-is)),
-    )

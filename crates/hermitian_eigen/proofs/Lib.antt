@@ -3,3 +3,4 @@ pub mod BackwardLaws
 pub mod HermitianLaws
 pub mod ShiftedLaws
 pub mod StepsLaws
+pub mod Theorems

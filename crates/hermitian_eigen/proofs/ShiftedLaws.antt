@@ -1,27 +1,27 @@
 -- Laws of the shifted matrix. Assumes nothing.
 use mathlib.Core.Path.{_≡_, refl, sym, ap, ap₂, _∙_}
-use mathlib.Core.List.{List, [], _++_, append-nil}
+use mathlib.Core.List.{List, _++_}
 use Prim.Native.Nat.{ℕ, zero, suc, _+_, _*_, _/_, _%_, _<_}
 use native.Mathlib.Numerals.{add-one}
 use native.Mathlib.Nat.{add-zero, mul-add-div-right, mul-add-mod-self-right, div-eq-of-lt, mod-eq-of-lt}
 use native.Mathlib.Omega.{arith}
 use lib.Dec.{eqb}
 use lib.Ieee.{Float}
-use lib.Seq.{drop-nil}
+use Rattle.numbers.specs.Numbers.{largerOf}
 use Rattle.complex.specs.declared.Complex.{Complex}
 use Rattle.modulus.specs.Modulus.{modulusOf}
-use Rattle.complex.specs.Cells.{cellAt, cellsOf, written}
-use Rattle.complex.proofs.CellLaws.{cell-written}
+use Rattle.complex.specs.Cells.{cellAt, cellsOf}
+use Rattle.complex.proofs.CellLaws.{cell-of}
 use Rattle.complex.specs.Zeros.{zeroFloat}
 use Rattle.svd_load.specs.Numbers.{numbersOf}
 use Rattle.svd_load.specs.Loading.{planesOf}
-use Rattle.hermitian_eigen.specs.Shifted.{larger, peakTo, shiftOf, shiftedCell, shiftedAt, shiftedOf}
+use Rattle.hermitian_eigen.specs.Shifted.{peakTo, shiftOf, shiftedCell, shiftedAt, shiftedOf}
 
 pub peak-none : (a : List Float) → zeroFloat ≡ peakTo a 0
 unfolding peakTo
 peak-none a = refl
 
-pub peak-more : (a : List Float) (k : ℕ) {x y : Float} {z : Complex} → x ≡ peakTo a k → z ≡ cellAt a k → y ≡ modulusOf z → larger x y ≡ peakTo a (k + 1)
+pub peak-more : (a : List Float) (k : ℕ) {x y : Float} {z : Complex} → x ≡ peakTo a k → z ≡ cellAt a k → y ≡ modulusOf z → largerOf x y ≡ peakTo a (k + 1)
 unfolding peakTo
 peak-more a k e f g = rw (add-one, ← e, ← f, g)
 
@@ -39,13 +39,6 @@ unfolding shiftedAt
 shifted-at shift a dim col r h =
     let s = split dim col r h in
     rw (s .0, s .1)
-
--- a cell of a list of cells
-pub cell-of : (m k : ℕ) (f : ℕ → Complex) → k < m → cellAt (cellsOf m f) k ≡ f k
-unfolding written
-cell-of m k f h =
-    let e : written m f [] ≡ cellsOf m f = rw (drop-nil, append-nil) in
-    rw e at (cell-written m k f [] h)
 
 -- numbers and planes of two functions that give the same
 pub numbers-same : (m : ℕ) (f g : ℕ → Float) → ((k : ℕ) → k < m → f k ≡ g k) → numbersOf m f ≡ numbersOf m g

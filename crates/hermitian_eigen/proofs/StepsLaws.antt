@@ -12,7 +12,7 @@ use lib.Seq.{take-at, getD-append-add, getD-drop}
 use lib.Ieee.{Float, nan, binary64, sub}
 use Rattle.complex.specs.declared.Complex.{Complex}
 use Rattle.complex.specs.Cells.{cellAt, cellsOf}
-use Rattle.complex.proofs.CellLaws.{cells-same}
+use Rattle.complex.proofs.CellLaws.{cells-same, cell-of}
 use Rattle.complex.specs.Planes.{planeAt}
 use Rattle.svd_load.specs.Numbers.{numbersOf, filled}
 use Rattle.svd_load.proofs.NumbersLaws.{length-numbers, column-fits}
@@ -25,16 +25,16 @@ use Rattle.stable_order.proofs.PlacesLaws.{places-back}
 use Rattle.stable_order.specs.Order.{orderTo}
 use Rattle.stable_order.proofs.OrderLaws.{order-below, length-order}
 use Rattle.svd_columns.specs.Columns.{normsOf, sortedOf, inColumns, directionOf, directionsOf}
-use Rattle.svd_thin.specs.Thin.{swept, orderOf, valuesOf, orderPart, Ranked}
+use Rattle.svd_thin.specs.Thin.{swept, orderOf, valuesOf, orderPart, ThinOrdered}
 use Rattle.svd_thin.proofs.ThinLaws.{part-length, part-back}
 use Rattle.svd.specs.Svd.{uOf, sOf, workOf, directions}
 use Rattle.svd.proofs.SvdLaws.{side-tall}
 use Rattle.hermitian_eigen.specs.Shifted.{shiftOf, shiftedAt, shiftedOf}
-use Rattle.hermitian_eigen.proofs.ShiftedLaws.{split, cell-of, numbers-same, shifted-planes}
+use Rattle.hermitian_eigen.proofs.ShiftedLaws.{split, numbers-same, shifted-planes}
 use Rattle.hermitian_eigen.specs.Backward.{backward}
 use Rattle.hermitian_eigen.proofs.BackwardLaws.{length-backward, backward-at, places-backward, below-backward}
-use Rattle.hermitian_eigen.specs.Hermitian.{eigenvaluesOf, eigenvectorsOf}
-use Rattle.hermitian_eigen.specs.Steps.{Rising, sweptBy, Factored}
+use Rattle.hermitian_eigen.specs.Hermitian.{hermitianValues, hermitianVectors}
+use Rattle.hermitian_eigen.specs.Steps.{Rising, sweptBy, HermitianFactored}
 
 -- ---- laws
 
@@ -56,7 +56,7 @@ sweep-made a dim shift {work} e h =
     ∙ ap (λ (l : List Float). settled dim dim l (unitPlanes dim) .work) e
 
 pub rising-made : (dim : ℕ) (work scratch : List Float) {s values part : List Float} → 2 * (dim * dim) + dim ≤ length scratch
-    → Ranked dim dim work s scratch → values ≡ backward s → part ≡ backward (orderPart dim dim scratch)
+    → ThinOrdered dim dim work s scratch → values ≡ backward s → part ≡ backward (orderPart dim dim scratch)
     → Rising dim work values (putMid (2 * (dim * dim)) (2 * (dim * dim) + dim - 2 * (dim * dim)) scratch part)
 rising-made dim work scratch {s} {values} {part} h r e f =
     let l : length part ≡ dim = ap length f ∙ length-backward (orderPart dim dim scratch) ∙ part-length (2 * (dim * dim)) dim scratch h in
@@ -77,7 +77,7 @@ rising-places dim work values scratch r = record { places = backward (orderOf di
 pub factored-made : (a : List Float) (dim : ℕ) (shift : Float) (rest : List Float) {work values scratch vectors : List Float} → dim ≤ 64
     → length work ≡ 2 * (dim * dim) → work ≡ sweptBy a dim shift → Rising dim (take (2 * (dim * dim)) (work ++ rest)) values scratch
     → vectors ≡ directionsOf (take (2 * (dim * dim)) scratch) values (placesIn (orderPart dim dim scratch)) dim dim false
-    → Factored a dim shift values vectors
+    → HermitianFactored a dim shift values vectors
 factored-made a dim shift rest {work} {values} {scratch} {vectors} b l e r f =
     let w : take (2 * (dim * dim)) (work ++ rest) ≡ sweptBy a dim shift = take-at work rest (2 * (dim * dim)) l ∙ e in
     let t = sweptBy a dim shift in
@@ -145,9 +145,9 @@ module _ (a : List Float) (dim : ℕ) where
       let k = side-tall dim dim h in
       rw (le-ltb dim dim h, k .0, k .1, ← shifted-planes a dim)
 
-  pub values-made : {values values' : List Float} (vectors : List Float) {shift : Float} → shift ≡ shiftOf a dim → Factored a dim shift values vectors
-      → values' ≡ numbersOf (length values) (λ j. sub binary64 (getD values j nan) shift) → values' ≡ eigenvaluesOf a dim
-  unfolding eigenvaluesOf
+  pub values-made : {values values' : List Float} (vectors : List Float) {shift : Float} → shift ≡ shiftOf a dim → HermitianFactored a dim shift values vectors
+      → values' ≡ numbersOf (length values) (λ j. sub binary64 (getD values j nan) shift) → values' ≡ hermitianValues a dim
+  unfolding hermitianValues
   values-made {values} {values'} vectors {shift} e p h =
       let t = sweptBy a dim (shiftOf a dim) in
       let s = valuesOf dim dim t in
@@ -159,8 +159,8 @@ module _ (a : List Float) (dim : ℕ) where
       (numbers-same dim (λ j. sub binary64 (getD (backward s) j nan) (shiftOf a dim)) (λ j. sub binary64 (getD s (dim - 1 - j) nan) (shiftOf a dim))
       (λ j i. ap (λ (x : Float). sub binary64 x (shiftOf a dim)) (backward-at nan s j (omega arith) ∙ ap (λ (m : ℕ). getD s (m - 1 - j) nan) l)))
 
-  pub vectors-made : (values : List Float) {vectors : List Float} {shift : Float} → shift ≡ shiftOf a dim → Factored a dim shift values vectors → vectors ≡ eigenvectorsOf a dim
-  unfolding eigenvectorsOf
+  pub vectors-made : (values : List Float) {vectors : List Float} {shift : Float} → shift ≡ shiftOf a dim → HermitianFactored a dim shift values vectors → vectors ≡ hermitianVectors a dim
+  unfolding hermitianVectors
   vectors-made values {vectors} {shift} e p =
       let t = sweptBy a dim (shiftOf a dim) in
       let s = valuesOf dim dim t in

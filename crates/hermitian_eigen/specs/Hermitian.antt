@@ -23,27 +23,27 @@ use Rattle.hermitian_eigen.specs.Shifted.{shiftOf, shiftedOf}
 abbrev pub needVectors : ℕ → ℕ
 needVectors dim = 2 * (dim * dim)
 
-abbrev pub needScratch : ℕ → ℕ
-needScratch dim = 6 * (dim * dim) + 2 * dim
+abbrev pub hermitianScratch : ℕ → ℕ
+hermitianScratch dim = 6 * (dim * dim) + 2 * dim
 
 -- 1: the side; 6: the matrix is slice 0, the values 1, the vectors 2, scratch 3; 7
-unfoldable pub tests : List Float → ℕ → ℕ → ℕ → ℕ → Reply
-tests a dim values vectors scratch =
+unfoldable pub hermitianTests : List Float → ℕ → ℕ → ℕ → ℕ → Reply
+hermitianTests a dim values vectors scratch =
     refuse (ltb dim 1) (1, 0)
     (refuse (ltb 64 dim) (1, 0)
     (refuse (not (eqb (length a) (2 * (dim * dim)))) (6, 0)
     (refuse (ltb values dim) (6, 1)
-    (refuse (ltb vectors (needVectors dim)) (6, 2) (refuse (ltb scratch (needScratch dim)) (6, 3) (components 0 a))))))
+    (refuse (ltb vectors (needVectors dim)) (6, 2) (refuse (ltb scratch (hermitianScratch dim)) (6, 3) (components 0 a))))))
 
 -- ---- the results: the singular values fall, so both are taken from the last to the first
 
 -- value j: the singular value dim - 1 - j of the shifted matrix, less the shift
-unfoldable pub eigenvaluesOf : List Float → ℕ → List Float
-eigenvaluesOf a dim = numbersOf dim (λ j. sub binary64 (getD (sOf (shiftedOf a dim) dim dim) (dim - 1 - j) nan) (shiftOf a dim))
+unfoldable pub hermitianValues : List Float → ℕ → List Float
+hermitianValues a dim = numbersOf dim (λ j. sub binary64 (getD (sOf (shiftedOf a dim) dim dim) (dim - 1 - j) nan) (shiftOf a dim))
 
 -- column j: the column dim - 1 - j of U of the shifted matrix
-unfoldable pub eigenvectorsOf : List Float → ℕ → List Float
-eigenvectorsOf a dim = cellsOf (dim * dim) (inColumns dim (λ j r. cellAt (uOf (shiftedOf a dim) dim dim) ((dim - 1 - j) * dim + r)))
+unfoldable pub hermitianVectors : List Float → ℕ → List Float
+hermitianVectors a dim = cellsOf (dim * dim) (inColumns dim (λ j r. cellAt (uOf (shiftedOf a dim) dim dim) ((dim - 1 - j) * dim + r)))
 
 -- ---- the answer
 
@@ -51,36 +51,36 @@ unfoldable pub finiteResults : List Float → List Float → Bool
 finiteResults values vectors = allFinite values && allFinite vectors
 
 -- 9 where a number of a result is not finite
-unfoldable pub endTest : List Float → List Float → Reply
-endTest values vectors = refuse (not (finiteResults values vectors)) (9, 0) done
+unfoldable pub hermitianEnd : List Float → List Float → Reply
+hermitianEnd values vectors = refuse (not (finiteResults values vectors)) (9, 0) done
 
-unfoldable pub answerOf : List Float → ℕ → ℕ → ℕ → ℕ → Reply
-answerOf a dim values vectors scratch = andThen (tests a dim values vectors scratch) (endTest (eigenvaluesOf a dim) (eigenvectorsOf a dim))
+unfoldable pub hermitianAnswer : List Float → ℕ → ℕ → ℕ → ℕ → Reply
+hermitianAnswer a dim values vectors scratch = andThen (hermitianTests a dim values vectors scratch) (hermitianEnd (hermitianValues a dim) (hermitianVectors a dim))
 
 -- the answer, and what values, vectors and scratch hold at the end
 pub record Eigen (a : List Float) (dim : ℕ) (values vectors scratch : List Float) (r : Answer) (values' vectors' scratch' : List Float) : Type 0 where
-  pub answer : paper r ≡ answerOf a dim (length values) (length vectors) (length scratch)
-  pub values-are : values' ≡ atEnd (paper r .0) (eigenvaluesOf a dim ++ drop dim values) (zeroed dim values) values
-  pub vectors-are : vectors' ≡ atEnd (paper r .0) (eigenvectorsOf a dim ++ drop (needVectors dim) vectors) (zeroed (needVectors dim) vectors) vectors
-  pub scratch-is : scratch' ≡ ifWorked (paper r .0) (zeroed (needScratch dim) scratch) scratch
+  pub answer : paper r ≡ hermitianAnswer a dim (length values) (length vectors) (length scratch)
+  pub values-are : values' ≡ atEnd (paper r .0) (hermitianValues a dim ++ drop dim values) (zeroed dim values) values
+  pub vectors-are : vectors' ≡ atEnd (paper r .0) (hermitianVectors a dim ++ drop (needVectors dim) vectors) (zeroed (needVectors dim) vectors) vectors
+  pub scratch-is : scratch' ≡ ifWorked (paper r .0) (zeroed (hermitianScratch dim) scratch) scratch
 
 -- ---- the steps
 
 -- the side and the lengths of an accepted call, over slices of exactly the needed lengths
-pub record Exact (dim a values vectors scratch : ℕ) : Type 0 where
+pub record HermitianExact (dim a values vectors scratch : ℕ) : Type 0 where
   pub side : dim ≤ 64
   pub a-is : a ≡ 2 * (dim * dim)
   pub values-are : values ≡ dim
   pub vectors-are : vectors ≡ needVectors dim
-  pub scratch-is : scratch ≡ needScratch dim
+  pub scratch-is : scratch ≡ hermitianScratch dim
 
-pub record Finished (values vectors : List Float) (r : Answer) (values' vectors' : List Float) : Type 0 where
-  pub answer : paper r ≡ endTest values vectors
+pub record HermitianFinished (values vectors : List Float) (r : Answer) (values' vectors' : List Float) : Type 0 where
+  pub answer : paper r ≡ hermitianEnd values vectors
   pub values-are : values' ≡ ifDone (paper r .0) values (zeros (length values))
   pub vectors-are : vectors' ≡ ifDone (paper r .0) vectors (zeros (length vectors))
 
-pub record Worked (a : List Float) (dim : ℕ) (r : Answer) (values vectors scratch : List Float) : Type 0 where
-  pub answer : paper r ≡ endTest (eigenvaluesOf a dim) (eigenvectorsOf a dim)
-  pub values-are : values ≡ ifDone (paper r .0) (eigenvaluesOf a dim) (zeros dim)
-  pub vectors-are : vectors ≡ ifDone (paper r .0) (eigenvectorsOf a dim) (zeros (needVectors dim))
-  pub scratch-is : scratch ≡ zeros (needScratch dim)
+pub record HermitianWorked (a : List Float) (dim : ℕ) (r : Answer) (values vectors scratch : List Float) : Type 0 where
+  pub answer : paper r ≡ hermitianEnd (hermitianValues a dim) (hermitianVectors a dim)
+  pub values-are : values ≡ ifDone (paper r .0) (hermitianValues a dim) (zeros dim)
+  pub vectors-are : vectors ≡ ifDone (paper r .0) (hermitianVectors a dim) (zeros (needVectors dim))
+  pub scratch-is : scratch ≡ zeros (hermitianScratch dim)

@@ -4,22 +4,18 @@ use mathlib.Core.List.{List}
 use Prim.Native.Nat.{ℕ, zero, suc, _*_, _/_, _%_}
 use lib.Dec.{eqb}
 use lib.IntN.{pos}
-use lib.Ieee.{Float, binary64, add, mul, lt, ofInt}
+use lib.Ieee.{Float, binary64, add, mul, ofInt}
 use Rattle.complex.specs.declared.Complex.{Complex}
 use Rattle.complex.specs.Arithmetic.{complexOf}
 use Rattle.modulus.specs.Modulus.{modulusOf}
 use Rattle.complex.specs.Cells.{cellAt, cellsOf}
 use Rattle.complex.specs.Zeros.{zeroFloat}
-use Rattle.numbers.specs.Numbers.{oneFloat}
-
--- the larger of two, the first where they do not compare
-abbrev pub larger : Float → Float → Float
-larger a b = cond (lt a b) b a
+use Rattle.numbers.specs.Numbers.{oneFloat, largerOf}
 
 -- the largest modulus of the first k cells, and at least +0.0
 unfoldable pub peakTo : List Float → ℕ → Float
 peakTo a zero = zeroFloat
-peakTo a (suc k) = larger (peakTo a k) (modulusOf (cellAt a k))
+peakTo a (suc k) = largerOf (peakTo a k) (modulusOf (cellAt a k))
 
 -- peak * dim + 1
 unfoldable pub shiftOf : List Float → ℕ → Float

@@ -23,7 +23,7 @@ abbrev pub sweptBy : List Float → ℕ → Float → List Float
 sweptBy a dim shift = swept dim dim (planesOf (dim * dim) (shiftedAt shift a dim)) .work
 
 -- its values and directions, rising
-pub record Factored (a : List Float) (dim : ℕ) (shift : Float) (values vectors : List Float) : Type 0 where
+pub record HermitianFactored (a : List Float) (dim : ℕ) (shift : Float) (values vectors : List Float) : Type 0 where
   pub values-are : values ≡ backward (valuesOf dim dim (sweptBy a dim shift))
   pub vectors-are : vectors
       ≡ directionsOf (sweptBy a dim shift) (backward (valuesOf dim dim (sweptBy a dim shift))) (backward (orderOf dim dim (sweptBy a dim shift))) dim dim false

@@ -14,20 +14,10 @@ ghost use Rattle.svd_load.specs.Loading.{planesOf, planesTo};
 ghost use Rattle.stable_order.specs.Places.{Places, placesIn};
 ghost use Rattle.svd_columns.specs.Columns.{directionsOf};
 ghost use Rattle.svd_thin.specs.Thin.{swept, orderPart, Lent};
-ghost use Rattle.hermitian_eigen.specs.Shifted.{larger, peakTo, shiftOf, shiftedCell, shiftedAt};
+ghost use Rattle.hermitian_eigen.specs.Shifted.{peakTo, shiftOf, shiftedCell, shiftedAt};
 ghost use Rattle.hermitian_eigen.specs.Backward.{backward};
-ghost use Rattle.hermitian_eigen.specs.Steps.{Rising, Factored};
-ghost use Rattle.hermitian_eigen.specs.Hermitian.{tests, finiteResults, Exact, Finished, Worked, Eigen};
-
-// The larger of two numbers, the first where they do not compare.
-fn larger_of(a: f64, b: f64) -> f64
-    ensures { λ r. ⌜ r ≡ larger a b ⌝ }
-{
-    if a < b {
-        return b;
-    }
-    a
-}
+ghost use Rattle.hermitian_eigen.specs.Steps.{Rising, HermitianFactored};
+ghost use Rattle.hermitian_eigen.specs.Hermitian.{hermitianTests, finiteResults, HermitianExact, HermitianFinished, HermitianWorked, Eigen};
 
 // The largest modulus of c cells, at least +0.0.
 fn peak(matrix: &[f64], c: usize) -> f64
@@ -37,7 +27,7 @@ fn peak(matrix: &[f64], c: usize) -> f64
     let mut most = 0.0;
     for i in 0..c {
         let z = complex::read_cell(matrix, i);
-        most = larger_of(most, modulus::modulus(z));
+        most = numbers::larger_of(most, modulus::modulus(z));
     }
     most
 }
@@ -145,8 +135,8 @@ fn factor(
     vectors: &mut [f64],
     scratch: &mut [f64],
 )
-    requires { ⌜ Exact dim (length (now matrix)) (length (now values)) (length (now vectors)) (length (now scratch)) ⌝ }
-    ensures { λ _. ⌜ Factored (now (matrix .entry)) dim shift (now (values .exit)) (now (vectors .exit)) ⌝ }
+    requires { ⌜ HermitianExact dim (length (now matrix)) (length (now values)) (length (now vectors)) (length (now scratch)) ⌝ }
+    ensures { λ _. ⌜ HermitianFactored (now (matrix .entry)) dim shift (now (values .exit)) (now (vectors .exit)) ⌝ }
 {
     let w = 2 * (dim * dim);
     sweep(matrix, dim, shift, &mut scratch[..w]);
@@ -175,7 +165,7 @@ fn finite_results(values: &[f64], vectors: &[f64]) -> bool
 
 // 9 where a number of a result is not finite, and then both are +0.0.
 fn finish(values: &mut [f64], vectors: &mut [f64]) -> Answer
-    ensures { λ r. ⌜ Finished (now (values .entry)) (now (vectors .entry)) r (now (values .exit)) (now (vectors .exit)) ⌝ }
+    ensures { λ r. ⌜ HermitianFinished (now (values .entry)) (now (vectors .entry)) r (now (values .exit)) (now (vectors .exit)) ⌝ }
 {
     if finite_results(values, vectors) {
         return Answer::Done;
@@ -193,8 +183,8 @@ fn work(
     vectors: &mut [f64],
     scratch: &mut [f64],
 ) -> Answer
-    requires { ⌜ Exact dim (length (now matrix)) (length (now values)) (length (now vectors)) (length (now scratch)) ⌝ }
-    ensures { λ r. ⌜ Worked (now (matrix .entry)) dim r (now (values .exit)) (now (vectors .exit)) (now (scratch .exit)) ⌝ }
+    requires { ⌜ HermitianExact dim (length (now matrix)) (length (now values)) (length (now vectors)) (length (now scratch)) ⌝ }
+    ensures { λ r. ⌜ HermitianWorked (now (matrix .entry)) dim r (now (values .exit)) (now (vectors .exit)) (now (scratch .exit)) ⌝ }
 {
     let shift = shift_of(matrix, dim);
     factor(matrix, dim, shift, values, vectors, scratch);
@@ -205,7 +195,7 @@ fn work(
 
 // Every refusal that comes before the work.
 fn check(matrix: &[f64], dim: usize, values: usize, vectors: usize, scratch: usize) -> Answer
-    ensures { λ r. ⌜ paper r ≡ tests (now (matrix .entry)) dim values vectors scratch ⌝ }
+    ensures { λ r. ⌜ paper r ≡ hermitianTests (now (matrix .entry)) dim values vectors scratch ⌝ }
 {
     if dim < 1 {
         return Answer::Size;

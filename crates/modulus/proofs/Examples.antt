@@ -5,8 +5,8 @@ use Prim.Native.Nat.{ℕ}
 use lib.Ieee as Ieee
 use lib.Ieee.{binary64, ofBits, toBits, ofFields, odd, round, units, span, climb}
 use lib.Count.{trailingZeros}
-use Rattle.numbers.specs.Root.{sqrtOf, rootOf, squared, size, floorRoot, nextRoot}
-use Rattle.numbers.specs.Numbers.{finite}
+use Rattle.numbers.specs.Root.{sqrtOf, rootOf, squared, unitsOf, floorRoot, nextRoot}
+use Rattle.numbers.specs.Numbers.{isFinite}
 use Rattle.complex.specs.Arithmetic.{normSqr}
 use Rattle.modulus.specs.Modulus.{leading, over, back, rootOfSquares, scaledBy, scaledModulus, modulusOf}
 
@@ -48,5 +48,5 @@ table =
     ∷ []
 
 as-stored : computed table ≡ stored table
-unfolding computed stored Ieee.size span climb toBits ofBits ofFields odd round units trailingZeros Ieee.add Ieee.sum Ieee.mul sqrtOf rootOf squared size floorRoot nextRoot finite normSqr leading over back rootOfSquares scaledBy scaledModulus modulusOf
+unfolding computed stored Ieee.size span climb toBits ofBits ofFields odd round units trailingZeros Ieee.add Ieee.sum Ieee.mul sqrtOf rootOf squared unitsOf floorRoot nextRoot isFinite normSqr leading over back rootOfSquares scaledBy scaledModulus modulusOf
 as-stored = refl

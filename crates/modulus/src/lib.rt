@@ -5,14 +5,14 @@ ghost use mathlib.Core.Path.{_≡_};
 ghost use mathlib.Core.Bool.{true, false};
 ghost use Prim.Native.Nat.{_+_, _-_, _^_, _≤_, _<_, max};
 ghost use lib.Ieee.Exact.{HasValue};
-ghost use Rattle.numbers.specs.Root.{size};
-ghost use Rattle.numbers.specs.Numbers.{finite};
+ghost use Rattle.numbers.specs.Root.{unitsOf};
+ghost use Rattle.numbers.specs.Numbers.{isFinite};
 ghost use Rattle.modulus.specs.Modulus.{leading, over, rootOfSquares, scaledBy, scaledModulus, modulusOf};
 ghost use Rattle.modulus.specs.Steps.{SizeBits};
 
 // The bits of a finite number without its sign.
 fn size_bits(x: f64) -> u64
-    requires { ⌜ finite x ≡ true ⌝ }
+    requires { ⌜ isFinite x ≡ true ⌝ }
     ensures { λ r. ⌜ SizeBits x r ⌝ }
 {
     f64::to_bits(x) % 0x8000_0000_0000_0000
@@ -52,7 +52,7 @@ fn root_of_squares(a: f64, b: f64, t: f64) -> f64
 
 // The larger part has an exponent whose field is f. The guess t at the root of the unscaled squares is scaled as they are.
 fn normal(re: f64, im: f64, f: u64, t: f64) -> f64
-    requires { ⌜ (1 ≤ f) × (f ≤ 2046) × (finite re ≡ true) × (finite im ≡ true) ⌝ }
+    requires { ⌜ (1 ≤ f) × (f ≤ 2046) × (isFinite re ≡ true) × (isFinite im ≡ true) ⌝ }
     ensures { λ r. ⌜ r ≡ scaledBy (2 ^ (f + 51)) re im ⌝ }
 {
     let under = power_under(f);
@@ -61,7 +61,7 @@ fn normal(re: f64, im: f64, f: u64, t: f64) -> f64
 
 // A part below the normal range, over 2^(63 - z) times 2^-1074. Times 2^54 it is exact, and has a full exponent.
 fn faint_part(x: f64, z: u64) -> f64
-    requires { ⌜ (12 ≤ z) × (z ≤ 63) × (finite x ≡ true) × (size x < 2 ^ 52) ⌝ }
+    requires { ⌜ (12 ≤ z) × (z ≤ 63) × (isFinite x ≡ true) × (unitsOf x < 2 ^ 52) ⌝ }
     ensures { λ r. ⌜ r ≡ over (2 ^ (63 - z)) x ⌝ }
 {
     (x * 18014398509481984.0) * f64::from_bits((1980 + z) * 0x10_0000_0000_0000)
@@ -69,7 +69,7 @@ fn faint_part(x: f64, z: u64) -> f64
 
 // Both parts are below the normal range, the larger m times 2^-1074.
 fn faint(re: f64, im: f64, m: u64) -> f64
-    requires { ⌜ (0 < m) × (m < 2 ^ 52) × (finite re ≡ true) × (finite im ≡ true) × (size re < 2 ^ 52) × (size im < 2 ^ 52) ⌝ }
+    requires { ⌜ (0 < m) × (m < 2 ^ 52) × (isFinite re ≡ true) × (isFinite im ≡ true) × (unitsOf re < 2 ^ 52) × (unitsOf im < 2 ^ 52) ⌝ }
     ensures { λ r. ⌜ r ≡ scaledBy (leading m) re im ⌝ }
 {
     let z = u64::leading_zeros(m) as u64;
@@ -78,8 +78,8 @@ fn faint(re: f64, im: f64, m: u64) -> f64
 
 // The modulus of finite parts.
 fn scaled(re: f64, im: f64, t: f64) -> f64
-    requires { ⌜ (finite re ≡ true) × (finite im ≡ true) ⌝ }
-    ensures { λ r. ⌜ r ≡ scaledModulus (max (size re) (size im)) re im ⌝ }
+    requires { ⌜ (isFinite re ≡ true) × (isFinite im ≡ true) ⌝ }
+    ensures { λ r. ⌜ r ≡ scaledModulus (max (unitsOf re) (unitsOf im)) re im ⌝ }
 {
     let m = larger(size_bits(re), size_bits(im));
     if m < 0x10_0000_0000_0000 {

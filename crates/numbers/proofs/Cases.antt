@@ -14,7 +14,7 @@ use lib.Ieee.{Float, nan, inf, fin, binary64, up, down, ofBits, toBits, ofFields
 use lib.Ieee.Bits.{ofBits-toBits, ofBits-fits, toBits-lt, nanBits-is, nanBits-above, is-true}
 use lib.Ieee.Compare.{differs-from-itself}
 use lib.Ieee.Fits.{down-pos}
-use Rattle.numbers.specs.Root.{size, number, squared, Nearest, Sqrt}
+use Rattle.numbers.specs.Root.{unitsOf, number, squared, Nearest, Sqrt}
 use Rattle.numbers.specs.Steps.{RootOf, RootBits, digits, shift, normalSize}
 use Rattle.numbers.proofs.Halfway.{Between, nearer-above, nearer-below, whole-between, whole-edge}
 use Rattle.numbers.proofs.Mending.{bits-no-nan}
@@ -118,7 +118,7 @@ of-positive (fin false zero x) r f lo hi n = absurd (omega (arith, zero-bits fal
 of-positive (fin false (suc m) x) r f lo hi n = n
 
 -- a float of q * 2 ^ k units is the nearest to the root of x, if the root lies between the halfway points about it
-pub nearest : (x r : Float) (q k : ℕ) → T (number r) → size r ≡ q * 2 ^ k → 2 ^ 52 ≤ q → Between (squared x) q (2 ^ k) → 2 ^ 52 * 2 ^ k * (2 ^ 52 * 2 ^ k) ≤ squared x → Nearest x r
+pub nearest : (x r : Float) (q k : ℕ) → T (number r) → unitsOf r ≡ q * 2 ^ k → 2 ^ 52 ≤ q → Between (squared x) q (2 ^ k) → 2 ^ 52 * 2 ^ k * (2 ^ 52 * 2 ^ k) ≤ squared x → Nearest x r
 nearest x r q k float is least half edge = record {
   float = float;
   above = λ y t h.
@@ -146,11 +146,11 @@ from-bits x r root =
 -- the square of the root by the bits of x
 pub squared-small : (x : Float) → T (fits binary64 x) → toBits binary64 x < 2 ^ 52 → squared x ≡ toBits binary64 x * 2 ^ 1074
 unfolding squared
-squared-small x f h = ap (λ (z : ℕ). z * 2 ^ 1074) (ap size (back x (toBits binary64 x) f refl) ∙ small-size (toBits binary64 x) h)
+squared-small x f h = ap (λ (z : ℕ). z * 2 ^ 1074) (ap unitsOf (back x (toBits binary64 x) f refl) ∙ small-size (toBits binary64 x) h)
 
 pub squared-normal : (x : Float) → T (fits binary64 x) → 2 ^ 52 ≤ toBits binary64 x → toBits binary64 x < 2047 * 2 ^ 52 → squared x ≡ normalSize (toBits binary64 x) * 2 ^ 1074
 unfolding squared
-squared-normal x f h k = ap (λ (z : ℕ). z * 2 ^ 1074) (ap size (back x (toBits binary64 x) f refl) ∙ normal-size (toBits binary64 x) h k)
+squared-normal x f h k = ap (λ (z : ℕ). z * 2 ^ 1074) (ap unitsOf (back x (toBits binary64 x) f refl) ∙ normal-size (toBits binary64 x) h k)
 
 pub of-root : (x : Float) (r : ℕ) → T (fits binary64 x) → 0 < toBits binary64 x → toBits binary64 x < 2047 * 2 ^ 52
     → (toBits binary64 x < 2 ^ 52 → RootBits (toBits binary64 x) r) → (2 ^ 52 ≤ toBits binary64 x → RootBits (normalSize (toBits binary64 x)) r) → Sqrt x (ofBits binary64 r)

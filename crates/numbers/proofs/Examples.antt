@@ -4,10 +4,10 @@ use Prim.Native.Nat.{ℕ}
 use lib.Ieee as Ieee
 use lib.Ieee.{binary64, ofBits, toBits, ofFields, odd, round, units}
 use lib.Count.{trailingZeros}
-use Rattle.numbers.specs.Root.{sqrtOf, rootOf, squared, size, floorRoot, nextRoot}
+use Rattle.numbers.specs.Root.{sqrtOf, rootOf, squared, unitsOf, floorRoot, nextRoot}
 
 unfoldable root : ℕ → ℕ
-unfolding sqrtOf rootOf squared size floorRoot nextRoot ofBits toBits ofFields odd round units trailingZeros Ieee.size Ieee.span Ieee.climb
+unfolding sqrtOf rootOf squared unitsOf floorRoot nextRoot ofBits toBits ofFields odd round units trailingZeros Ieee.size Ieee.span Ieee.climb
 root b = toBits binary64 (sqrtOf (ofBits binary64 b))
 
 two : root 0x4000_0000_0000_0000 ≡ 0x3ff6_a09e_667f_3bcd

@@ -7,7 +7,7 @@ use borrow.Author.Tests.{le-leb, lt-leb, eq-eqb}
 use lib.Dec.{T, leb}
 use lib.Ieee.{Float, nan, inf, fin, binary64, up, down, fits, isNan, ne, eq, lt, neg, toBits}
 use lib.Ieee.Compare.{differs-from-itself}
-use Rattle.numbers.specs.Numbers.{minusSign, magnitudeOf, signOf, finite, totalLess, totalOrder, oneFloat}
+use Rattle.numbers.specs.Numbers.{minusSign, magnitudeOf, signOf, isFinite, totalLess, totalOrder, oneFloat}
 use Rattle.numbers.specs.declared.Order.the-variants.{Less, Equal, Greater}
 use Rattle.numbers.proofs.Cases.{minus-bits, plus-bits}
 
@@ -55,15 +55,15 @@ sign-plus nan g h = cc
 sign-plus (inf s) g h = rw h
 sign-plus (fin s m e) g h = rw h
 
-pub below-infinity : (x : Float) → lt x (inf false) ≡ true → lt (inf true) x ≡ finite x
-unfolding lt finite
+pub below-infinity : (x : Float) → lt x (inf false) ≡ true → lt (inf true) x ≡ isFinite x
+unfolding lt isFinite
 below-infinity nan h = refl
 below-infinity (inf true) h = refl
 below-infinity (inf false) h = sym h
 below-infinity (fin s m e) h = refl
 
-pub not-below-infinity : (x : Float) → lt x (inf false) ≡ false → false ≡ finite x
-unfolding lt finite
+pub not-below-infinity : (x : Float) → lt x (inf false) ≡ false → false ≡ isFinite x
+unfolding lt isFinite
 not-below-infinity nan h = refl
 not-below-infinity (inf s) h = refl
 not-below-infinity (fin s m e) h = sym h

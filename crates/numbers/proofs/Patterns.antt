@@ -13,7 +13,7 @@ use lib.Ieee.Bits.{is-false, cond-no}
 use lib.Ieee.Digits.{back}
 use lib.Ieee.Fits.{down-pos, and-l, and-r}
 use lib.Ieee.Exact.{HasValue, odd-sign}
-use Rattle.numbers.specs.Root.{size, number}
+use Rattle.numbers.specs.Root.{unitsOf, number}
 use Rattle.numbers.specs.Steps.{digits, shift, normalSize}
 
 -- ---- the float that a pattern stands for
@@ -55,8 +55,8 @@ small-is b h =
     ∙ at-zero b
 
 -- ---- sizes
-pub size-is : (x : Float) (s : Bool) (a : ℕ) → HasValue x s a (2 ^ 1074) → size x ≡ a
-unfolding size
+pub size-is : (x : Float) (s : Bool) (a : ℕ) → HasValue x s a (2 ^ 1074) → unitsOf x ≡ a
+unfolding unitsOf
 size-is (fin t m e) s a v = ap (λ (z : ℕ). z / down e) (v .1) ∙ mul-div-cancel a (down-pos e)
 
 pub number-is : (x : Float) (a : ℕ) → HasValue x false a (2 ^ 1074) → T (fits binary64 x) → T (number x)
@@ -64,14 +64,14 @@ unfolding number
 number-is (fin true m e) a v f = absurd (true≢false (v .0))
 number-is (fin false m e) a v f = f
 
-odd-size : (q k : ℕ) → size (odd 53 false q k 1074) ≡ q * 2 ^ k
+odd-size : (q k : ℕ) → unitsOf (odd 53 false q k 1074) ≡ q * 2 ^ k
 odd-size q k = size-is (odd 53 false q k 1074) false (q * 2 ^ k) (odd-sign 53 false q k 1074)
 
-pub normal-size : (b : ℕ) → 2 ^ 52 ≤ b → b < 2047 * 2 ^ 52 → size (ofBits binary64 b) ≡ normalSize b
-normal-size b h k = ap size (normal-is b h k) ∙ odd-size (digits b) (shift b)
+pub normal-size : (b : ℕ) → 2 ^ 52 ≤ b → b < 2047 * 2 ^ 52 → unitsOf (ofBits binary64 b) ≡ normalSize b
+normal-size b h k = ap unitsOf (normal-is b h k) ∙ odd-size (digits b) (shift b)
 
-pub small-size : (b : ℕ) → b < 2 ^ 52 → size (ofBits binary64 b) ≡ b
-small-size b h = ap size (small-is b h) ∙ odd-size b 0 ∙ mul-one b
+pub small-size : (b : ℕ) → b < 2 ^ 52 → unitsOf (ofBits binary64 b) ≡ b
+small-size b h = ap unitsOf (small-is b h) ∙ odd-size b 0 ∙ mul-one b
 
 pub normal-number : (b : ℕ) → 2 ^ 52 ≤ b → b < 2047 * 2 ^ 52 → T (fits binary64 (ofBits binary64 b)) → T (number (ofBits binary64 b))
 normal-number b h k f =
@@ -129,18 +129,18 @@ module _ (m : ℕ) (e : ℤ) (f : T (fits binary64 (fin false (suc m) e))) where
   unfolding fits
   not-high = ltb→lt (suc m * up e) (2 ^ 1024 * down e) (and-r (A && B && C) D f)
 
-  pub moved-suc : (j : ℕ) × (suc m < 2 ^ 53) × (size (fin false (suc m) e) ≡ suc m * 2 ^ j)
-  unfolding size
+  pub moved-suc : (j : ℕ) × (suc m < 2 ^ 53) × (unitsOf (fin false (suc m) e) ≡ suc m * 2 ^ j)
+  unfolding unitsOf
   moved-suc = let v = moved-at (suc m) e not-deep in (v .0, few-digits, v .1)
 
-  pub size-lt : size (fin false (suc m) e) < 2 ^ 2098
-  unfolding size
+  pub size-lt : unitsOf (fin false (suc m) e) < 2 ^ 2098
+  unfolding unitsOf
   size-lt =
       div-lt-iff-lt-mul (down-pos e) .1
       (subst (λ (z : ℕ). suc m * up e * 2 ^ 1074 < z) (mul-right-comm (2 ^ 1024) (down e) (2 ^ 1074)) (mul-lt-mul-of-pos-right not-high (pow-pos 1074)))
 
-pub moved : (y : Float) → T (number y) → Moved (size y)
-unfolding size number
+pub moved : (y : Float) → T (number y) → Moved (unitsOf y)
+unfolding unitsOf number
 moved (fin false zero e) t = (0, 0, omega arith, ap (λ (z : ℕ). z * 2 ^ 1074 / down e) (zero-mul (up e)) ∙ ap (λ (z : ℕ). z / down e) (sym (zero-mul (down e))) ∙ mul-div-cancel 0 (down-pos e))
 moved (fin false (suc m) e) t = let v = moved-suc m e t in (suc m, v .0, v .1, v .2)
 moved (fin true m e) t = absurd t

@@ -17,13 +17,13 @@ use lib.Ieee.Fits.{nearest-le, round-fits}
 use lib.Ieee.Nearest.{closest, closest-same, div-same, nearest-ge}
 use lib.Ieee.Exact.{HasValue}
 use lib.Ieee.Scale.{grid, round-val}
-use Rattle.numbers.specs.Root.{size, number, squared, Nearest, Sqrt, sqrtOf, rootOf, floorRoot}
+use Rattle.numbers.specs.Root.{unitsOf, number, squared, Nearest, Sqrt, sqrtOf, rootOf, floorRoot}
 use Rattle.numbers.proofs.Halfway.{Between, square-le}
 use Rattle.numbers.proofs.Patterns.{size-is, number-is, moved-suc}
 use Rattle.numbers.proofs.Patterns as Patterns
 use Rattle.numbers.proofs.Rounded.{Floor, floor-right, near, rounded}
 use Rattle.numbers.proofs.Cases as Cases
-use Rattle.numbers.proofs.Unique.{unique}
+use Rattle.numbers.proofs.Theorems.{unique}
 
 module _ (n m j : ℕ) (lo : 2 ^ 1074 ≤ n) (hi : n < 4 ^ 1586) (is : n ≡ m * 2 ^ j) (small : m < 2 ^ 53) where
   s : ℕ
@@ -258,7 +258,7 @@ module _ (m : ℕ) (e : ℤ) (f : T (fits binary64 (fin false (suc m) e))) where
   unfolding squared
   positive =
       let v = moved-suc m e f in
-      let p : 1 ≤ size x = le-trans (mul-pos (zero-lt-suc m) (pow-pos (v .0))) (le-of-eq (sym (v .2))) in
+      let p : 1 ≤ unitsOf x = le-trans (mul-pos (zero-lt-suc m) (pow-pos (v .0))) (le-of-eq (sym (v .2))) in
       nearest-root (squared x) (suc m) (v .0 + 1074)
       (le-trans (le-of-eq (sym (one-mul (2 ^ 1074)))) (mul-le-mul-right (2 ^ 1074) p))
       (mul-lt-mul-of-pos-right (Patterns.size-lt m e f) (pow-pos 1074))

@@ -28,11 +28,15 @@ signOf nan = nan
 signOf (inf s) = cond s (neg oneFloat) oneFloat
 signOf (fin s m e) = cond s (neg oneFloat) oneFloat
 
+-- the larger of two, the first where they do not compare
+abbrev pub largerOf : Float → Float → Float
+largerOf a b = cond (lt a b) b a
+
 -- neither a NaN nor an infinity
-unfoldable pub finite : Float → Bool
-finite nan = false
-finite (inf s) = false
-finite (fin s m e) = true
+unfoldable pub isFinite : Float → Bool
+isFinite nan = false
+isFinite (inf s) = false
+isFinite (fin s m e) = true
 
 -- The total order, downward: NaN, +infinity, .., +0, -0, .., -infinity. The logic's one NaN stands where Rust's positive NaN does.
 unfoldable pub totalLess : Float → Float → Bool

@@ -4,7 +4,7 @@ ghost use mathlib.Core.Path.{_≡_};
 ghost use Prim.Native.Nat.{_+_, _-_, _*_, _^_, _≤_, _<_};
 ghost use lib.Ieee.{nan, binary64, toBits, ofBits};
 ghost use Rattle.numbers.specs.Root.{Sqrt, sqrtOf};
-ghost use Rattle.numbers.specs.Numbers.{minusSign, magnitudeOf, signOf, finite, totalLess, totalOrder, orderNumber, allowed};
+ghost use Rattle.numbers.specs.Numbers.{largerOf, minusSign, magnitudeOf, signOf, isFinite, totalLess, totalOrder, orderNumber, allowed};
 ghost use Rattle.numbers.specs.Steps.{NearestWhole, Scaled, RootBits, normalSize};
 
 // The square root of x: ±0 and +inf give themselves, a negative x and a NaN give the NaN, and any
@@ -222,9 +222,19 @@ pub fn sign(x: f64) -> f64
     if minus_sign(x) { -1.0 } else { 1.0 }
 }
 
+// The larger of two numbers, the first where they do not compare.
+pub fn larger_of(a: f64, b: f64) -> f64
+    ensures { λ r. ⌜ r ≡ largerOf a b ⌝ }
+{
+    if a < b {
+        return b;
+    }
+    a
+}
+
 // Neither a NaN nor an infinity.
 pub fn is_finite(x: f64) -> bool
-    ensures { λ r. ⌜ r ≡ finite x ⌝ }
+    ensures { λ r. ⌜ r ≡ isFinite x ⌝ }
 {
     let infinity = f64::from_bits(0x7ff0_0000_0000_0000);
     if x < infinity { -infinity < x } else { false }

@@ -15,7 +15,7 @@ use lib.Seq.{drop-cons}
 use Rattle.answers.specs.declared.Answer.{Answer}
 use Rattle.answers.specs.declared.Answer.the-variants.{Done}
 use Rattle.answers.specs.Paper.{Reply, paper, andThen, ifDone}
-use Rattle.answers.proofs.PaperLaws.{andThen-done, stays, paper-one, done-new, done-old}
+use Rattle.answers.proofs.PaperLaws.{andThen-done, stays, done-new, done-old}
 use Rattle.complex.specs.Cells.{written, components}
 use Rattle.cut_sides.specs.Sides.{cutRefusal}
 use Rattle.cuts.specs.Cut.{cutCell, cutLengths, cutAnswer, CutMatrix}
@@ -24,11 +24,12 @@ use Rattle.densities.specs.Density.{densityAnswer, densityList, Density}
 use Rattle.density_entries.specs.Entries.{densityCell}
 use Rattle.agreement.specs.FromCut.{cutDensityCell}
 use Rattle.agreement.proofs.SameDensity.{same-density}
-use Rattle.agreement.proofs.AgreementLaws.{cut-parted, cut-left, density-left, written-same}
+use Rattle.agreement.proofs.AgreementLaws.{density-left, written-same}
+use Rattle.agreement.proofs.Theorems.{cut-parted, cut-left}
 use Rattle.density_recount.specs.Recount.{recountSizes, recountAnswer, recounted, DensityFromCut}
 use Rattle.density_recount.proofs.Pages.{front}
 use Rattle.pages.specs.declared.Agreement.{Agreement}
-use Rattle.pages.proofs.Both.{goes, adds-nothing, density-done, recount-done, sizes-done}
+use Rattle.pages.proofs.Both.{goes, adds-nothing, density-done, recount-done}
 use Rattle.pages.specs.Agree.{sameFloats, Again, comparedAnswer, Compared, bothAnswer, pagesAnswer, Says}
 
 -- ---- two lists
@@ -203,19 +204,3 @@ module _ (s : List Float) (n : ℕ) (l : List ℕ) (cap : ℕ) (a : Answer) (e :
   pages-done r d g =
       let q = goes (recountSizes n (length l) cap) (bothAnswer s n l cap) (number a _ e d) in
       record { answer = g .answer ∙ q; agree = g .agree ∙ ap (λ (x : Reply). ifDone (x .0) true false) q }
-
--- ALWAYS YES where the cut and the density are both accepted
-pub always-yes : (s : List Float) (n : ℕ) (l : List ℕ) (cap : ℕ) (r : Agreement) → Says (pagesAnswer s n l cap) r
-    → cutAnswer s n l cap 8192 .0 ≡ 0 → densityAnswer s n l cap 8192 128 .0 ≡ 0 → (r .answer ≡ Done) × (r .yes ≡ true)
-always-yes s n l cap r f e h =
-    let q : pagesAnswer s n l cap ≡ (0, 0) =
-    sym (goes (recountSizes n (length l) cap) (bothAnswer s n l cap) (sizes-done s n l cap e h))
-    ∙ sym (goes (cutAnswer s n l cap 8192) (densityAnswer s n l cap 8192 128) e) ∙ density-done s n l cap e h in
-    (paper-one (r .answer) Done (f .answer ∙ q), f .agree ∙ ap (λ (x : Reply). ifDone (x .0) true false) q)
-
--- ONE OUTCOME
-pub pages-agree-one : (s : List Float) (n : ℕ) (l : List ℕ) (cap : ℕ) (r r' : Agreement) → Says (pagesAnswer s n l cap) r
-    → Says (pagesAnswer s n l cap) r' → r ≡ r'
-pages-agree-one s n l cap r r' f g =
-    let made : Answer → Bool → Agreement = λ a y. record { answer = a; yes = y } in
-    ap₂ made (paper-one (r .answer) (r' .answer) (f .answer ∙ sym (g .answer))) (f .agree ∙ sym (g .agree))

@@ -1,3 +1,4 @@
 -- The laws, and what the functions' proofs share.
 pub mod AgreeLaws
 pub mod Both
+pub mod Theorems

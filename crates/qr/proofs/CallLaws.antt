@@ -2,7 +2,7 @@
 use mathlib.Core.Path.{_≡_, refl, sym, ap, subst, _∙_}
 use mathlib.Core.Bool.{Bool, true, false, not, _&&_}
 use mathlib.Core.List.{List, _++_}
-use mathlib.Core.Logic.{_⊎_, inl, inr, ⊎-elim}
+use mathlib.Core.Logic.{inl}
 use Prim.Native.Nat.{ℕ, zero, suc, _+_, _*_, _≤_, _<_, min}
 use native.Mathlib.Nat.{mul-comm, mul-le-mul-right, le-mul-of-pos-right, mul-pos, le-min, min-le-left, min-le-right}
 use native.Mathlib.Omega.{arith}
@@ -14,34 +14,34 @@ use lib.Seq.{length-take-le}
 use Rattle.answers.specs.declared.Answer.{Answer}
 use Rattle.answers.specs.declared.Answer.the-variants.{Done, NotFinite}
 use Rattle.answers.specs.Paper.{Reply, paper, done, refuse, after, andThen, ifDone, ifWorked, atEnd}
-use Rattle.answers.proofs.PaperLaws.{refuse-done, andThen-done, stays, refuse-small, after-small, paper-one, worked-new, worked-old, done-new, done-old, end-old}
+use Rattle.answers.proofs.PaperLaws.{refuse-done, andThen-done, stays, refuse-small, after-small, Ended, nine-ended, worked-new, worked-old, done-new, done-old, end-old}
 use Rattle.values.specs.Lists.{allFinite}
 use Rattle.complex.specs.Cells.{components}
 use Rattle.complex.proofs.CellLaws.{components-small}
 use Rattle.complex.specs.Zeros.{zeros, zeroed}
 use Rattle.complex.proofs.ZerosLaws.{length-zeros}
-use Rattle.qr_passes.specs.Room.{Room}
+use Rattle.qr_passes.specs.Room.{QrRoom}
 use Rattle.qr_passes.proofs.GramSchmidtLaws.{zeroed-all}
-use Rattle.qr_passes.specs.GramSchmidt.{Factors, factors, factorsOf}
-use Rattle.qr.specs.Call.{qNeed, rNeed, scratchNeed, Sized, sizes, lengths, refusal, finiteness, replyOf, Finished, Factorized}
+use Rattle.qr_passes.specs.GramSchmidt.{Factors, factors, qrFactors}
+use Rattle.qr.specs.Call.{qNeed, rNeed, scratchNeed, QrSized, qrSizes, qrLengths, qrRefusal, qrEnd, qrAnswer, QrFinished, Factorized}
 
 -- ---- 1
 
 module _ (rows cols : ℕ) where
-  pub no-rows : rows < 1 → (1, 0) ≡ sizes rows cols
-  unfolding sizes
+  pub no-rows : rows < 1 → (1, 0) ≡ qrSizes rows cols
+  unfolding qrSizes
   no-rows h = rw (lt-ltb _ _ h)
 
-  pub no-cols : 1 ≤ rows → cols < 1 → (1, 0) ≡ sizes rows cols
-  unfolding sizes
+  pub no-cols : 1 ≤ rows → cols < 1 → (1, 0) ≡ qrSizes rows cols
+  unfolding qrSizes
   no-cols h g = rw (le-ltb rows 1 h, lt-ltb cols 1 g)
 
-  pub too-many : 1 ≤ rows → 1 ≤ cols → 4096 < rows * cols → (1, 0) ≡ sizes rows cols
-  unfolding sizes
+  pub too-many : 1 ≤ rows → 1 ≤ cols → 4096 < rows * cols → (1, 0) ≡ qrSizes rows cols
+  unfolding qrSizes
   too-many h g l = rw (le-ltb rows 1 h, le-ltb cols 1 g, lt-ltb 4096 (rows * cols) l)
 
-  pub sized : 1 ≤ rows → 1 ≤ cols → rows * cols ≤ 4096 → done ≡ sizes rows cols
-  unfolding sizes
+  pub sized : 1 ≤ rows → 1 ≤ cols → rows * cols ≤ 4096 → done ≡ qrSizes rows cols
+  unfolding qrSizes
   sized h g l = rw (le-ltb rows 1 h, le-ltb cols 1 g, le-ltb 4096 (rows * cols) l)
 
   pub rows-within : 1 ≤ cols → rows ≤ rows * cols
@@ -50,8 +50,8 @@ module _ (rows cols : ℕ) where
   pub cols-within : 1 ≤ rows → cols ≤ rows * cols
   cols-within h = omega (arith, le-mul-of-pos-right cols h, mul-comm rows cols)
 
-  pub sizes-done : sizes rows cols .0 ≡ 0 → Sized rows cols
-  unfolding sizes
+  pub sizes-done : qrSizes rows cols .0 ≡ 0 → QrSized rows cols
+  unfolding qrSizes
   sizes-done e =
       let a = refuse-done (ltb rows 1) 0 0 (refuse (ltb cols 1) (1, 0) (refuse (ltb 4096 (rows * cols)) (1, 0) done)) e in
       let b = refuse-done (ltb cols 1) 0 0 (refuse (ltb 4096 (rows * cols)) (1, 0) done) (a .1) in
@@ -82,27 +82,27 @@ module _ (rows cols : ℕ) {cap : ℕ} (e : cap ≡ min rows cols) where
 -- ---- 6
 
 module _ (rows cols a q r s : ℕ) where
-  pub length-0 : (a ≡ 2 * (rows * cols) → ⊥) → (6, 0) ≡ lengths rows cols a q r s
-  unfolding lengths
+  pub length-0 : (a ≡ 2 * (rows * cols) → ⊥) → (6, 0) ≡ qrLengths rows cols a q r s
+  unfolding qrLengths
   length-0 h = rw (ne-eqb a (2 * (rows * cols)) h)
 
   module _ (e : a ≡ 2 * (rows * cols)) where
-    pub length-1 : q < qNeed rows cols → (6, 1) ≡ lengths rows cols a q r s
-    unfolding lengths
+    pub length-1 : q < qNeed rows cols → (6, 1) ≡ qrLengths rows cols a q r s
+    unfolding qrLengths
     length-1 h = rw (eq-eqb a (2 * (rows * cols)) e, lt-ltb q (qNeed rows cols) h)
 
     module _ (f : qNeed rows cols ≤ q) where
-      pub length-2 : r < rNeed rows cols → (6, 2) ≡ lengths rows cols a q r s
-      unfolding lengths
+      pub length-2 : r < rNeed rows cols → (6, 2) ≡ qrLengths rows cols a q r s
+      unfolding qrLengths
       length-2 h = rw (eq-eqb a (2 * (rows * cols)) e, le-ltb q (qNeed rows cols) f, lt-ltb r (rNeed rows cols) h)
 
       module _ (g : rNeed rows cols ≤ r) where
-        pub length-3 : s < scratchNeed rows → (6, 3) ≡ lengths rows cols a q r s
-        unfolding lengths
+        pub length-3 : s < scratchNeed rows → (6, 3) ≡ qrLengths rows cols a q r s
+        unfolding qrLengths
         length-3 h = rw (eq-eqb a (2 * (rows * cols)) e, le-ltb q (qNeed rows cols) f, le-ltb r (rNeed rows cols) g, lt-ltb s (scratchNeed rows) h)
 
-        pub length-ok : scratchNeed rows ≤ s → done ≡ lengths rows cols a q r s
-        unfolding lengths
+        pub length-ok : scratchNeed rows ≤ s → done ≡ qrLengths rows cols a q r s
+        unfolding qrLengths
         length-ok h = rw (eq-eqb a (2 * (rows * cols)) e, le-ltb q (qNeed rows cols) f, le-ltb r (rNeed rows cols) g, le-ltb s (scratchNeed rows) h)
 
 -- what the slices have where no length is refused
@@ -112,8 +112,8 @@ pub record Long (rows cols a q r s : ℕ) : Type 0 where
   pub r-has : rNeed rows cols ≤ r
   pub s-has : scratchNeed rows ≤ s
 
-lengths-done : (rows cols a q r s : ℕ) → lengths rows cols a q r s .0 ≡ 0 → Long rows cols a q r s
-unfolding lengths
+lengths-done : (rows cols a q r s : ℕ) → qrLengths rows cols a q r s .0 ≡ 0 → Long rows cols a q r s
+unfolding qrLengths
 lengths-done rows cols a q r s e =
     let d₃ = refuse (ltb s (scratchNeed rows)) (6, 3) done in
     let d₂ = refuse (ltb r (rNeed rows cols)) (6, 2) d₃ in
@@ -132,22 +132,22 @@ lengths-done rows cols a q r s e =
 -- ---- 1, 6 and 7
 
 module _ (a : List Float) (rows cols q r s : ℕ) where
-  refusal-parts : refusal a rows cols q r s .0 ≡ 0 → (sizes rows cols .0 ≡ 0) × (lengths rows cols (length a) q r s .0 ≡ 0)
-  unfolding refusal
+  refusal-parts : qrRefusal a rows cols q r s .0 ≡ 0 → (qrSizes rows cols .0 ≡ 0) × (qrLengths rows cols (length a) q r s .0 ≡ 0)
+  unfolding qrRefusal
   refusal-parts e =
-      let x = andThen-done (sizes rows cols) (andThen (lengths rows cols (length a) q r s) (components 0 a)) e in
-      (x .0, andThen-done (lengths rows cols (length a) q r s) (components 0 a) (x .1) .0)
+      let x = andThen-done (qrSizes rows cols) (andThen (qrLengths rows cols (length a) q r s) (components 0 a)) e in
+      (x .0, andThen-done (qrLengths rows cols (length a) q r s) (components 0 a) (x .1) .0)
 
-  pub refusal-sized : refusal a rows cols q r s .0 ≡ 0 → Sized rows cols
+  pub refusal-sized : qrRefusal a rows cols q r s .0 ≡ 0 → QrSized rows cols
   refusal-sized e = sizes-done rows cols (refusal-parts e .0)
 
-  pub refusal-long : refusal a rows cols q r s .0 ≡ 0 → Long rows cols (length a) q r s
+  pub refusal-long : qrRefusal a rows cols q r s .0 ≡ 0 → Long rows cols (length a) q r s
   refusal-long e = lengths-done rows cols (length a) q r s (refusal-parts e .1)
 
 -- ---- the parts that are lent to the work
 
 pub parts-room : (rows cols : ℕ) (a q r s : List Float) {nq nr ns : ℕ} → Long rows cols (length a) (length q) (length r) (length s) → nq ≡ qNeed rows cols
-    → nr ≡ rNeed rows cols → ns ≡ scratchNeed rows → Room rows cols (min rows cols) (length a) (length (take nq q)) (length (take nr r)) (length (take ns s))
+    → nr ≡ rNeed rows cols → ns ≡ scratchNeed rows → QrRoom rows cols (min rows cols) (length a) (length (take nq q)) (length (take nr r)) (length (take ns s))
 parts-room rows cols a q r s {nq} {nr} {ns} l e f g =
     record {
       a-is = omega (arith, l .a-is, mul-comm rows cols);
@@ -156,7 +156,7 @@ parts-room rows cols a q r s {nq} {nr} {ns} l e f g =
       v-is = length-take-le ns s (omega (arith, l .s-has)) ∙ g;
     }
 
-pub room-some : {rows cols la lq lr lv : ℕ} → Sized rows cols → Room rows cols (min rows cols) la lq lr lv → 1 < lq
+pub room-some : {rows cols la lq lr lv : ℕ} → QrSized rows cols → QrRoom rows cols (min rows cols) la lq lr lv → 1 < lq
 room-some {rows} {cols} s o =
     let h : 0 < min rows cols * rows = mul-pos (le-min (s .some-rows) (s .some-cols)) (s .some-rows) in
     omega (arith, o .q-is)
@@ -169,25 +169,25 @@ both-yes e f g = rw (← e, f) g
 pub both-no : {a x : Bool} (y : Bool) → a ≡ x → a ≡ false → false ≡ x && y
 both-no y e f = rw (← e, f)
 
-pub all-finite : (q r : List Float) (rank : ℕ) → allFinite q && allFinite r ≡ true → done ≡ finiteness (factors q r rank)
-unfolding finiteness
+pub all-finite : (q r : List Float) (rank : ℕ) → allFinite q && allFinite r ≡ true → done ≡ qrEnd (factors q r rank)
+unfolding qrEnd
 all-finite q r rank h = rw h
 
-pub not-finite : (q r : List Float) (rank : ℕ) → allFinite q && allFinite r ≡ false → (9, 0) ≡ finiteness (factors q r rank)
-unfolding finiteness
+pub not-finite : (q r : List Float) (rank : ℕ) → allFinite q && allFinite r ≡ false → (9, 0) ≡ qrEnd (factors q r rank)
+unfolding qrEnd
 not-finite q r rank h = rw h
 
-pub settled : (q r : List Float) (rank : ℕ) → allFinite q && allFinite r ≡ true → Finished (factors q r rank) Done rank q r
+pub settled : (q r : List Float) (rank : ℕ) → allFinite q && allFinite r ≡ true → QrFinished (factors q r rank) Done rank q r
 settled q r rank h =
     let e = all-finite q r rank h in
-    let z : finiteness (factors q r rank) .0 ≡ 0 = ap (λ (x : Reply). x .0) (sym e) in
+    let z : qrEnd (factors q r rank) .0 ≡ 0 = ap (λ (x : Reply). x .0) (sym e) in
     record { answer-is = e; rank-is = done-new _ rank 0 z; q-is = done-new _ q (zeros (length q)) z; r-is = done-new _ r (zeros (length r)) z }
 
 pub cleared : (q r : List Float) (rank : ℕ) {q' r' : List Float} → allFinite q && allFinite r ≡ false → q' ≡ zeroed (length q) q → r' ≡ zeroed (length r) r
-    → Finished (factors q r rank) NotFinite 0 q' r'
+    → QrFinished (factors q r rank) NotFinite 0 q' r'
 cleared q r rank h f g =
     let e = not-finite q r rank h in
-    let z : finiteness (factors q r rank) .0 ≡ 0 → ⊥ = λ x. omega (arith, ap (λ (y : Reply). y .0) (sym e)) in
+    let z : qrEnd (factors q r rank) .0 ≡ 0 → ⊥ = λ x. omega (arith, ap (λ (y : Reply). y .0) (sym e)) in
     record {
       answer-is = e;
       rank-is = done-old _ rank 0 z;
@@ -195,37 +195,33 @@ cleared q r rank h f g =
       r-is = g ∙ zeroed-all r refl ∙ done-old _ r (zeros (length r)) z;
     }
 
-pub finished-as : {f g : Factors} {answer : Answer} {rank : ℕ} {q r : List Float} → f ≡ g → Finished f answer rank q r → Finished g answer rank q r
-finished-as {f} {g} {answer} {rank} {q} {r} e h = subst (λ (x : Factors). Finished x answer rank q r) e h
+pub finished-as : {f g : Factors} {answer : Answer} {rank : ℕ} {q r : List Float} → f ≡ g → QrFinished f answer rank q r → QrFinished g answer rank q r
+finished-as {f} {g} {answer} {rank} {q} {r} e h = subst (λ (x : Factors). QrFinished x answer rank q r) e h
 
 -- ---- the call
 
 -- 0 or 9
-finite-number : (f : Factors) → (finiteness f .0 ≡ 0) ⊎ (finiteness f .0 ≡ 9)
-unfolding finiteness
-finite-number f = pick (allFinite (f .q) && allFinite (f .r))
-  where
-    pick : (b : Bool) → (refuse (not b) (9, 0) done .0 ≡ 0) ⊎ (refuse (not b) (9, 0) done .0 ≡ 9)
-    pick true = inl refl
-    pick false = inr refl
+finite-number : (f : Factors) → Ended (qrEnd f .0)
+unfolding qrEnd
+finite-number f = nine-ended (allFinite (f .q) && allFinite (f .r)) done (inl refl)
 
 -- the needed part of a slice and the rest of it
-part-end : (n m : ℕ) (new old part : List Float) → (n ≡ 0) ⊎ (n ≡ 9) → part ≡ ifDone n new (zeros (length new)) → length part ≡ m
+part-end : (n m : ℕ) (new old part : List Float) → Ended n → part ≡ ifDone n new (zeros (length new)) → length part ≡ m
     → part ++ drop m old ≡ atEnd n (new ++ drop m old) (zeroed m old) old
 unfolding zeroed
 part-end zero m new old part h e l = ap (λ (x : List Float). x ++ drop m old) e
 part-end (suc n) m new old part h e l =
     let k : zeros m ≡ zeros (length new) = ap zeros (sym l ∙ ap length e ∙ length-zeros (length new)) in
-    ap (λ (x : List Float). x ++ drop m old) (e ∙ sym k) ∙ worked-new (suc n) (zeros m ++ drop m old) old (inr (⊎-elim (λ x. omega arith) (λ x. omega arith) h))
+    ap (λ (x : List Float). x ++ drop m old) (e ∙ sym k) ∙ worked-new (suc n) (zeros m ++ drop m old) old h
 
-scratch-end : (n m : ℕ) (old part : List Float) → (n ≡ 0) ⊎ (n ≡ 9) → part ≡ zeros m → part ++ drop m old ≡ ifWorked n (zeroed m old) old
+scratch-end : (n m : ℕ) (old part : List Float) → Ended n → part ≡ zeros m → part ++ drop m old ≡ ifWorked n (zeroed m old) old
 unfolding zeroed
 scratch-end n m old part h e =
-    ap (λ (x : List Float). x ++ drop m old) e ∙ worked-new n (zeros m ++ drop m old) old (⊎-elim (λ (x : n ≡ 0). inl x) (λ (x : n ≡ 9). inr (omega arith)) h)
+    ap (λ (x : List Float). x ++ drop m old) e ∙ worked-new n (zeros m ++ drop m old) old h
 
 -- a refusal's number is at most 7
-refusal-small : (a : List Float) (rows cols q r s : ℕ) → refusal a rows cols q r s .0 < 8
-unfolding refusal sizes lengths
+refusal-small : (a : List Float) (rows cols q r s : ℕ) → qrRefusal a rows cols q r s .0 < 8
+unfolding qrRefusal qrSizes qrLengths
 refusal-small a rows cols q r s =
     let a₂ = refuse (ltb 4096 (rows * cols)) (1, 0) done in
     let a₁ = refuse (ltb cols 1) (1, 0) a₂ in
@@ -239,53 +235,44 @@ refusal-small a rows cols q r s =
     let e₂ = refuse-small (ltb 4096 (rows * cols)) 1 0 done (omega arith) (omega arith) in
     let e₁ = refuse-small (ltb cols 1) 1 0 a₂ (omega arith) e₂ in
     let e₀ = refuse-small (ltb rows 1) 1 0 a₁ (omega arith) e₁ in
-    let x = lengths rows cols (length a) q r s in
-    let y = sizes rows cols in
+    let x = qrLengths rows cols (length a) q r s in
+    let y = qrSizes rows cols in
     after-small (y .0) y (andThen x (components 0 a)) e₀ (after-small (x .0) x (components 0 a) d₀ (components-small 0 a))
 
 module _ (a : List Float) (rows cols : ℕ) (q r s : List Float) where
-  pub call-refused : (x : Answer) → paper x ≡ refusal a rows cols (length q) (length r) (length s) → (paper x .0 ≡ 0 → ⊥)
+  pub call-refused : (x : Answer) → paper x ≡ qrRefusal a rows cols (length q) (length r) (length s) → (paper x .0 ≡ 0 → ⊥)
       → Factorized a rows cols q r s x 0 q r s
-  unfolding replyOf
+  unfolding qrAnswer
   call-refused x e n =
-      let y = refusal a rows cols (length q) (length r) (length s) in
+      let y = qrRefusal a rows cols (length q) (length r) (length s) in
       let m : y .0 ≡ 0 → ⊥ = λ z. n (ap (λ (u : Reply). u .0) e ∙ z) in
       let l : paper x .0 < 8 = rw e (refusal-small a rows cols (length q) (length r) (length s)) in
       record {
-        answer-is = e ∙ stays y (finiteness (factorsOf a rows cols)) m;
-        rank-is = done-old _ (factorsOf a rows cols .rank) 0 n;
-        q-is = end-old _ (factorsOf a rows cols .q ++ drop (qNeed rows cols) q) (zeroed (qNeed rows cols) q) q n l;
-        r-is = end-old _ (factorsOf a rows cols .r ++ drop (rNeed rows cols) r) (zeroed (rNeed rows cols) r) r n l;
+        answer-is = e ∙ stays y (qrEnd (qrFactors a rows cols)) m;
+        rank-is = done-old _ (qrFactors a rows cols .rank) 0 n;
+        q-is = end-old _ (qrFactors a rows cols .q ++ drop (qNeed rows cols) q) (zeroed (qNeed rows cols) q) q n l;
+        r-is = end-old _ (qrFactors a rows cols .r ++ drop (rNeed rows cols) r) (zeroed (rNeed rows cols) r) r n l;
         scratch-is = worked-old _ (zeroed (scratchNeed rows) s) s n l;
       }
 
-  pub call-worked : (x : Answer) (rank : ℕ) {q₁ r₁ s₁ : List Float} {nq nr ns : ℕ} → replyOf a rows cols (length q) (length r) (length s) ≡ finiteness (factorsOf a rows cols)
-      → nq ≡ qNeed rows cols → nr ≡ rNeed rows cols → ns ≡ scratchNeed rows → Finished (factorsOf a rows cols) x rank q₁ r₁
+  pub call-worked : (x : Answer) (rank : ℕ) {q₁ r₁ s₁ : List Float} {nq nr ns : ℕ} → qrAnswer a rows cols (length q) (length r) (length s) ≡ qrEnd (qrFactors a rows cols)
+      → nq ≡ qNeed rows cols → nr ≡ rNeed rows cols → ns ≡ scratchNeed rows → QrFinished (qrFactors a rows cols) x rank q₁ r₁
       → length q₁ ≡ nq → length r₁ ≡ nr → s₁ ≡ zeros ns
       → Factorized a rows cols q r s x rank (q₁ ++ drop nq q) (r₁ ++ drop nr r) (s₁ ++ drop ns s)
   call-worked x rank {q₁} {r₁} {s₁} p e f g w lq lr z =
-      let n = finite-number (factorsOf a rows cols) in
-      let u : finiteness (factorsOf a rows cols) .0 ≡ paper x .0 = ap (λ (y : Reply). y .0) (sym (w .answer-is)) in
-      let m : (paper x .0 ≡ 0) ⊎ (paper x .0 ≡ 9) = rw u at n in
+      let n = finite-number (qrFactors a rows cols) in
+      let u : qrEnd (qrFactors a rows cols) .0 ≡ paper x .0 = ap (λ (y : Reply). y .0) (sym (w .answer-is)) in
+      let m : Ended (paper x .0) = rw u at n in
       record {
         answer-is = w .answer-is ∙ sym p;
         rank-is = rw u at (w .rank-is);
-        q-is = rw e (part-end (paper x .0) (qNeed rows cols) (factorsOf a rows cols .q) q q₁ m (rw u at (w .q-is)) (lq ∙ e));
-        r-is = rw f (part-end (paper x .0) (rNeed rows cols) (factorsOf a rows cols .r) r r₁ m (rw u at (w .r-is)) (lr ∙ f));
+        q-is = rw e (part-end (paper x .0) (qNeed rows cols) (qrFactors a rows cols .q) q q₁ m (rw u at (w .q-is)) (lq ∙ e));
+        r-is = rw f (part-end (paper x .0) (rNeed rows cols) (qrFactors a rows cols .r) r r₁ m (rw u at (w .r-is)) (lr ∙ f));
         scratch-is = rw g (scratch-end (paper x .0) (scratchNeed rows) s s₁ m (z ∙ ap zeros g));
       }
 
   -- after a check that passed
-  pub call-passed : refusal a rows cols (length q) (length r) (length s) .0 ≡ 0
-      → replyOf a rows cols (length q) (length r) (length s) ≡ finiteness (factorsOf a rows cols)
-  unfolding replyOf
-  call-passed e = ap (λ (n : ℕ). after n (refusal a rows cols (length q) (length r) (length s)) (finiteness (factorsOf a rows cols))) e
-
--- ONE OUTCOME: two ends of a call that both meet the contract are the same
-pub factorize-gram-schmidt-one : (a : List Float) (rows cols : ℕ) (q r s : List Float) (x y : Answer) (k l : ℕ) (q₁ r₁ s₁ q₂ r₂ s₂ : List Float)
-    → Factorized a rows cols q r s x k q₁ r₁ s₁ → Factorized a rows cols q r s y l q₂ r₂ s₂
-    → (x ≡ y) × (k ≡ l) × (q₁ ≡ q₂) × (r₁ ≡ r₂) × (s₁ ≡ s₂)
-factorize-gram-schmidt-one a rows cols q r s x y k l q₁ r₁ s₁ q₂ r₂ s₂ f g =
-    let e : x ≡ y = paper-one x y (f .answer-is ∙ sym (g .answer-is)) in
-    let n : paper x .0 ≡ paper y .0 = ap (λ (z : Answer). paper z .0) e in
-    (e, rw n at (f .rank-is) ∙ sym (g .rank-is), rw n at (f .q-is) ∙ sym (g .q-is), rw n at (f .r-is) ∙ sym (g .r-is), rw n at (f .scratch-is) ∙ sym (g .scratch-is))
+  pub call-passed : qrRefusal a rows cols (length q) (length r) (length s) .0 ≡ 0
+      → qrAnswer a rows cols (length q) (length r) (length s) ≡ qrEnd (qrFactors a rows cols)
+  unfolding qrAnswer
+  call-passed e = ap (λ (n : ℕ). after n (qrRefusal a rows cols (length q) (length r) (length s)) (qrEnd (qrFactors a rows cols))) e

@@ -6,10 +6,10 @@ ghost use Prim.Native.Nat.{_*_, _<_, _≤_, min};
 ghost use lib.ListN.{length};
 ghost use Rattle.answers.specs.Paper.{paper};
 ghost use Rattle.complex.specs.Zeros.{zeros};
-ghost use Rattle.qr_passes.specs.Room.{Room};
-ghost use Rattle.qr_passes.specs.GramSchmidt.{factors, factorsOf};
+ghost use Rattle.qr_passes.specs.Room.{QrRoom};
+ghost use Rattle.qr_passes.specs.GramSchmidt.{factors, qrFactors};
 ghost use Rattle.values.specs.Lists.{allFinite};
-ghost use Rattle.qr.specs.Call.{Sized, sizes, lengths, refusal, Finished, Factorized};
+ghost use Rattle.qr.specs.Call.{QrSized, qrSizes, qrLengths, qrRefusal, QrFinished, Factorized};
 
 // What a call hands back: the answer, and on Done the rank.
 pub struct Factored {
@@ -28,7 +28,7 @@ fn both_finite(q: &[f64], r: &[f64]) -> bool
 
 // Answer 9: q and r become +0.0, and the rank 0.
 fn settle(q: &mut [f64], r: &mut [f64], rank: usize) -> Factored
-    ensures { λ x. ⌜ Finished (factors (now (q .entry)) (now (r .entry)) rank) (x .answer) (x .rank) (now (q .exit)) (now (r .exit)) ⌝ }
+    ensures { λ x. ⌜ QrFinished (factors (now (q .entry)) (now (r .entry)) rank) (x .answer) (x .rank) (now (q .exit)) (now (r .exit)) ⌝ }
 {
     if both_finite(q, r) {
         return Factored {
@@ -55,9 +55,9 @@ fn factor_parts(
     r: &mut [f64],
     scratch: &mut [f64],
 ) -> Factored
-    requires { ⌜ Room rows cols (min rows cols) (length (now a)) (length (now q)) (length (now r)) (length (now scratch)) ⌝ }
+    requires { ⌜ QrRoom rows cols (min rows cols) (length (now a)) (length (now q)) (length (now r)) (length (now scratch)) ⌝ }
     requires { ⌜ 1 < length (now q) ⌝ }
-    ensures is { λ x. ⌜ Finished (factorsOf (now (a .entry)) rows cols) (x .answer) (x .rank) (now (q .exit)) (now (r .exit)) ⌝ }
+    ensures is { λ x. ⌜ QrFinished (qrFactors (now (a .entry)) rows cols) (x .answer) (x .rank) (now (q .exit)) (now (r .exit)) ⌝ }
     ensures cleared { λ x. ⌜ now (scratch .exit) ≡ zeros (length (now (scratch .entry))) ⌝ }
 {
     let rank = qr_factor::factor(a, rows, cols, q, r, scratch);
@@ -68,7 +68,7 @@ fn factor_parts(
 
 // Answer 1.
 fn check_sizes(rows: usize, cols: usize) -> Answer
-    ensures { λ x. ⌜ paper x ≡ sizes rows cols ⌝ }
+    ensures { λ x. ⌜ paper x ≡ qrSizes rows cols ⌝ }
 {
     if rows < 1 {
         return Answer::Size;
@@ -90,8 +90,8 @@ fn check_sizes(rows: usize, cols: usize) -> Answer
 
 // Answer 6.
 fn check_lengths(rows: usize, cols: usize, a: usize, q: usize, r: usize, scratch: usize) -> Answer
-    requires { ⌜ Sized rows cols ⌝ }
-    ensures { λ x. ⌜ paper x ≡ lengths rows cols a q r scratch ⌝ }
+    requires { ⌜ QrSized rows cols ⌝ }
+    ensures { λ x. ⌜ paper x ≡ qrLengths rows cols a q r scratch ⌝ }
 {
     let cap = qr_passes::smaller(rows, cols);
     if a != 2 * (rows * cols) {
@@ -111,7 +111,7 @@ fn check_lengths(rows: usize, cols: usize, a: usize, q: usize, r: usize, scratch
 
 // Answers 1, 6 and 7.
 fn check(a: &[f64], rows: usize, cols: usize, q: usize, r: usize, scratch: usize) -> Answer
-    ensures { λ x. ⌜ paper x ≡ refusal (now (a .entry)) rows cols q r scratch ⌝ }
+    ensures { λ x. ⌜ paper x ≡ qrRefusal (now (a .entry)) rows cols q r scratch ⌝ }
 {
     let first = check_sizes(rows, cols);
     let Answer::Done = first else {

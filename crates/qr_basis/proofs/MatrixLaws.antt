@@ -11,7 +11,7 @@ use lib.Seq.{drop-nil, set-at, set-append-left, append-snoc, getD-set-same, getD
 use Rattle.complex.specs.declared.Complex.{Complex}
 use Rattle.complex.specs.Arithmetic.{complexOf}
 use Rattle.complex.specs.Cells.{cellAt, setCell, cellsOf, written}
-use Rattle.complex.proofs.CellLaws.{length-cells, cells-same, cell-written}
+use Rattle.complex.proofs.CellLaws.{length-cells, cells-same, cell-of}
 use Rattle.complex.specs.Planes.{planeAt}
 use Rattle.complex.specs.Zeros.{zeroFloat, zeros, zeroed}
 use Rattle.complex.proofs.ZerosLaws.{zeroed-at, length-zeros}
@@ -25,10 +25,6 @@ before c i rows h = omega (arith, suc-mul c rows, mul-le-mul-right rows h)
 pub written-all : (m : ℕ) (f : ℕ → Complex) (old : List Float) → length old ≡ 2 * m → written m f old ≡ cellsOf m f
 unfolding written
 written-all m f old h = rw (drop-of-length-le old {i = 2 * m} (omega arith)) (append-nil (cellsOf m f))
-
-pub cell-of : (m k : ℕ) (f : ℕ → Complex) → k < m → cellAt (cellsOf m f) k ≡ f k
-cell-of m k f h =
-    ap (λ (l : List Float). cellAt l k) (sym (written-all m f (cellsOf m f) (length-cells m f))) ∙ cell-written m k f (cellsOf m f) h
 
 pub column-at : (rows : ℕ) (q : List Float) (i t : ℕ) → t < rows → columnCell rows q (i * rows + t) ≡ planeAt q rows (2 * (i * rows) + t)
 unfolding columnCell

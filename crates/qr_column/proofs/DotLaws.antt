@@ -6,7 +6,7 @@ use native.Mathlib.Numerals.{add-one}
 use lib.Ieee.{Float}
 use Rattle.complex.specs.declared.Complex.{Complex}
 use Rattle.qr_column.specs.declared.Sums.{Sums}
-use Rattle.qr_column.specs.Dot.{noSums, addQuad, addFirst, joined, term, quadsTo, tailTo, dotOf}
+use Rattle.qr_column.specs.Dot.{noSums, addQuad, addFirst, joined, dotTerm, quadsTo, tailTo, dotOf}
 
 -- ---- laws
 
@@ -15,7 +15,7 @@ unfolding quadsTo
 quadsTo-none q o v = refl
 
 pub quadsTo-more : (q : List Float) (o : ℕ) (v : List Float) (k : ℕ) {a b : Sums} {x y z w : Complex} → a ≡ quadsTo q o v k
-    → x ≡ term q o v (4 * k) → y ≡ term q o v (4 * k + 1) → z ≡ term q o v (4 * k + 2) → w ≡ term q o v (4 * k + 3)
+    → x ≡ dotTerm q o v (4 * k) → y ≡ dotTerm q o v (4 * k + 1) → z ≡ dotTerm q o v (4 * k + 2) → w ≡ dotTerm q o v (4 * k + 3)
     → b ≡ addQuad a x y z w → b ≡ quadsTo q o v (k + 1)
 unfolding quadsTo
 quadsTo-more q o v k e f g h i j = rw (add-one, ← e, ← f, ← g, ← h, ← i) j
@@ -25,7 +25,7 @@ unfolding tailTo
 tailTo-none q o v s a = refl
 
 pub tailTo-more : (q : List Float) (o : ℕ) (v : List Float) (s : ℕ) (a : Sums) (k : ℕ) {b d : Sums} {x : Complex} → b ≡ tailTo q o v s a k
-    → x ≡ term q o v (s + k) → d ≡ addFirst b x → d ≡ tailTo q o v s a (k + 1)
+    → x ≡ dotTerm q o v (s + k) → d ≡ addFirst b x → d ≡ tailTo q o v s a (k + 1)
 unfolding tailTo
 tailTo-more q o v s a k e f g = rw (add-one, ← e, ← f) g
 

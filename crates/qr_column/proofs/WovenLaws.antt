@@ -12,13 +12,12 @@ use lib.Seq.{getD-set-same, getD-set-other}
 use Rattle.complex.specs.declared.Complex.{Complex}
 use Rattle.complex.specs.Arithmetic.{complexOf, conjugate, product, difference, normSqr, scaled}
 use Rattle.complex.specs.Cells.{cellAt, setCell, cellsOf}
-use Rattle.complex.proofs.CellLaws.{cells-same}
+use Rattle.complex.proofs.CellLaws.{cells-same, cell-of}
 use Rattle.complex.specs.Planes.{planeAt, setPlane}
 use Rattle.complex.proofs.PlanesLaws.{length-setPlane}
-use Rattle.qr_column.specs.Dot.{term}
+use Rattle.qr_column.specs.Dot.{dotTerm}
 use Rattle.qr_column.specs.Columns.{cellFrom, columnOf, squaresTo, lessCell, lessened, scaledInto}
 use Rattle.qr_column.proofs.ColumnLaws.{squares-more, scaled-more}
-use Rattle.qr_basis.proofs.MatrixLaws.{cell-of}
 use Rattle.qr_column.specs.Woven.{woven}
 
 pub cell-woven : (rows : ℕ) (v : List Float) (t : ℕ) → t < rows → cellAt (woven rows v) t ≡ planeAt v rows t
@@ -99,8 +98,8 @@ less-end old q o rows d t s h = fill-end (lessCell (woven rows old) q o d) rows 
 -- ---- what the loops that read the column make of a row
 
 pub term-woven : (q : List Float) (o : ℕ) (v : List Float) (rows t : ℕ) {x y z w : Complex} → t < rows → x ≡ cellAt q (o + t) → y ≡ conjugate x
-    → z ≡ planeAt v rows t → w ≡ product y z → w ≡ term q o (woven rows v) t
-unfolding term
+    → z ≡ planeAt v rows t → w ≡ product y z → w ≡ dotTerm q o (woven rows v) t
+unfolding dotTerm
 term-woven q o v rows t h e f g i = i ∙ ap₂ product (f ∙ ap conjugate e) (g ∙ sym (cell-woven rows v t h))
 
 pub squares-woven : (v : List Float) (rows t : ℕ) {x n : Float} {z : Complex} → t < rows → x ≡ squaresTo (woven rows v) t → z ≡ planeAt v rows t

@@ -5,7 +5,7 @@ use complex::Complex;
 ghost use mathlib.Core.Path.{_≡_};
 ghost use Prim.Native.Nat.{_+_, _*_, _<_, _≤_};
 ghost use lib.ListN.{length};
-ghost use Rattle.qr_column.specs.Dot.{addFirst, joined, term, quadsTo, tailTo, dotOf};
+ghost use Rattle.qr_column.specs.Dot.{addFirst, joined, dotTerm, quadsTo, tailTo, dotOf};
 ghost use Rattle.qr_column.specs.DotParts.{realParts, imaginaryParts, sumsOf};
 ghost use Rattle.qr_column.specs.Woven.{woven};
 ghost use Rattle.qr_basis.specs.Matrix.{matrixOf};
@@ -80,7 +80,7 @@ impl Sums {
 // Row t of the basis column i, conjugated, times row t of v.
 pub fn dot_term(q: &[f64], i: usize, v: &[f64], rows: usize, t: usize) -> Complex
     requires { ⌜ (2 * (i * rows + rows) ≤ length (now q)) × (t < rows) × (length (now v) ≡ 2 * rows) ⌝ }
-    ensures { λ x. ⌜ x ≡ term (matrixOf rows (now (q .entry))) (i * rows) (woven rows (now (v .entry))) t ⌝ }
+    ensures { λ x. ⌜ x ≡ dotTerm (matrixOf rows (now (q .entry))) (i * rows) (woven rows (now (v .entry))) t ⌝ }
 {
     qr_basis::read_cell(q, i, rows, t)
         .conj()

@@ -6,8 +6,8 @@ ghost use Prim.Native.Nat.{_*_, _<_, _≤_, min, max};
 ghost use lib.ListN.{length};
 ghost use Rattle.complex.specs.Zeros.{zeros};
 ghost use Rattle.qr_basis.specs.Matrix.{matrixOf};
-ghost use Rattle.qr_passes.specs.Room.{Room};
-ghost use Rattle.qr_passes.specs.GramSchmidt.{factors, addColumn, columnsTo, basisFor, factorsOf};
+ghost use Rattle.qr_passes.specs.Room.{QrRoom};
+ghost use Rattle.qr_passes.specs.GramSchmidt.{factors, addColumn, qrColumnsTo, basisFor, qrFactors};
 
 // Column j of a, and the rank after it. q has room for cap columns and r for cap rows.
 fn add_column(
@@ -21,7 +21,7 @@ fn add_column(
     r: &mut [f64],
     v: &mut [f64],
 ) -> usize
-    requires { ⌜ Room rows cols cap (length (now a)) (length (now q)) (length (now r)) (length (now v)) ⌝ }
+    requires { ⌜ QrRoom rows cols cap (length (now a)) (length (now q)) (length (now r)) (length (now v)) ⌝ }
     requires { ⌜ (j < cols) × (rank ≤ cap) ⌝ }
     ensures is { λ k. ⌜ factors (matrixOf rows (now (q .exit))) (now (r .exit)) k
         ≡ addColumn (now (a .entry)) rows cols cap j (factors (matrixOf rows (now (q .entry))) (now (r .entry)) rank) ⌝ }
@@ -41,9 +41,9 @@ fn add_columns(
     r: &mut [f64],
     v: &mut [f64],
 ) -> usize
-    requires { ⌜ Room rows cols cap (length (now a)) (length (now q)) (length (now r)) (length (now v)) ⌝ }
+    requires { ⌜ QrRoom rows cols cap (length (now a)) (length (now q)) (length (now r)) (length (now v)) ⌝ }
     ensures { λ k. ⌜ factors (matrixOf rows (now (q .exit))) (now (r .exit)) k
-        ≡ columnsTo (now (a .entry)) rows cols cap (factors (matrixOf rows (now (q .entry))) (now (r .entry)) 0) cols ⌝ }
+        ≡ qrColumnsTo (now (a .entry)) rows cols cap (factors (matrixOf rows (now (q .entry))) (now (r .entry)) 0) cols ⌝ }
 {
     let mut rank = 0;
     for j in 0..cols {
@@ -74,9 +74,9 @@ fn build(
     r: &mut [f64],
     v: &mut [f64],
 ) -> usize
-    requires { ⌜ Room rows cols cap (length (now a)) (length (now q)) (length (now r)) (length (now v)) ⌝ }
+    requires { ⌜ QrRoom rows cols cap (length (now a)) (length (now q)) (length (now r)) (length (now v)) ⌝ }
     ensures { λ k. ⌜ factors (matrixOf rows (now (q .exit))) (now (r .exit)) k
-        ≡ columnsTo (now (a .entry)) rows cols cap (factors (zeros (2 * (cap * rows))) (zeros (2 * (cap * cols))) 0) cols ⌝ }
+        ≡ qrColumnsTo (now (a .entry)) rows cols cap (factors (zeros (2 * (cap * rows))) (zeros (2 * (cap * cols))) 0) cols ⌝ }
 {
     let in_q = q.len();
     complex::zero_first(q, in_q);
@@ -94,9 +94,9 @@ pub fn factor(
     r: &mut [f64],
     v: &mut [f64],
 ) -> usize
-    requires { ⌜ Room rows cols (min rows cols) (length (now a)) (length (now q)) (length (now r)) (length (now v)) ⌝ }
+    requires { ⌜ QrRoom rows cols (min rows cols) (length (now a)) (length (now q)) (length (now r)) (length (now v)) ⌝ }
     requires { ⌜ 1 < length (now q) ⌝ }
-    ensures { λ k. ⌜ factors (now (q .exit)) (now (r .exit)) k ≡ factorsOf (now (a .entry)) rows cols ⌝ }
+    ensures { λ k. ⌜ factors (now (q .exit)) (now (r .exit)) k ≡ qrFactors (now (a .entry)) rows cols ⌝ }
 {
     let cap = qr_passes::smaller(rows, cols);
     let rank = build(a, rows, cols, cap, q, r, v);

@@ -10,10 +10,10 @@ use lib.ListN.{length, getD}
 use Rattle.complex.specs.declared.Complex.{Complex}
 use Rattle.complex.specs.Arithmetic.{complexOf}
 use Rattle.complex.specs.Cells.{cellAt, setCell, cellsOf, written}
-use Rattle.complex.proofs.CellLaws.{written-more}
+use Rattle.complex.proofs.CellLaws.{written-more, cell-of}
 use Rattle.complex.specs.Planes.{planeAt}
 use Rattle.qr_basis.specs.Matrix.{columnCell, matrixOf}
-use Rattle.qr_basis.proofs.MatrixLaws.{written-all, cell-of, column-at, cell-matrix}
+use Rattle.qr_basis.proofs.MatrixLaws.{written-all, column-at, cell-matrix}
 use Rattle.qr_column.specs.Columns.{cellFrom, columnOf}
 use Rattle.qr_column.proofs.ColumnLaws.{number-kept}
 use Rattle.qr_column.specs.Woven.{woven}

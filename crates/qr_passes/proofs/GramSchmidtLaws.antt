@@ -11,21 +11,21 @@ use lib.Ieee as Ieee
 use lib.Ieee.{Float, binary64}
 use borrow.Author.Tests.{lt-ltb, le-ltb}
 use Rattle.complex.specs.declared.Complex.{Complex}
-use Rattle.complex.specs.Arithmetic.{complexOf, sum}
+use Rattle.complex.specs.Arithmetic.{complexOf, sumOf}
 use Rattle.complex.specs.Cells.{cellAt, setCell}
 use Rattle.complex.proofs.Loops.{cond-yes, cond-no}
 use Rattle.complex.specs.Zeros.{zeroFloat, zeros, zeroed}
 use Rattle.qr_column.specs.Dot.{dotOf}
 use Rattle.qr_column.specs.Columns.{columnOf, normOf, lessened}
-use Rattle.qr_passes.specs.GramSchmidt.{oneFloat, retain, rankFloor, Held, held, projectedBy, projected, passTo, Passed, passed, passes, newBasis, kept, judged, Factors, factors, Worked, addColumn, columnsTo, basisFor}
+use Rattle.qr_passes.specs.GramSchmidt.{oneFloat, retain, rankFloor, Held, held, projectedBy, projected, passTo, Passed, passed, passes, newBasis, keptColumn, judged, Factors, factors, PassesWorked, addColumn, qrColumnsTo, basisFor}
 
 -- ---- one column against the basis
 
 pub project-made : (q : List Float) (o rows at : ℕ) (v r : List Float) {d x t : Complex} {v' r' : List Float} → d ≡ dotOf q o v rows
-    → v' ≡ lessened v q o rows d → x ≡ cellAt r at → t ≡ sum x d → r' ≡ setCell r at t → held v' r' ≡ projected q o rows at (held v r)
+    → v' ≡ lessened v q o rows d → x ≡ cellAt r at → t ≡ sumOf x d → r' ≡ setCell r at t → held v' r' ≡ projected q o rows at (held v r)
 unfolding projected projectedBy
 project-made q o rows at v r {d} e f g h i =
-    ap₂ held (f ∙ ap (λ (z : Complex). lessened v q o rows z) e) (i ∙ ap (setCell r at) (h ∙ ap₂ sum g e))
+    ap₂ held (f ∙ ap (λ (z : Complex). lessened v q o rows z) e) (i ∙ ap (setCell r at) (h ∙ ap₂ sumOf g e))
 
 pub pass-none : (q : List Float) (rows cols j : ℕ) (s : Held) → s ≡ passTo q rows cols j s 0
 unfolding passTo
@@ -109,7 +109,7 @@ module _ (rows cols cap j : ℕ) (norm : Float) (q : List Float) (rank : ℕ) (v
 
   dropped : test ≡ false → factors q r rank ≡ judged rows cols cap j norm q rank (passed (held v r) residual)
   unfolding judged test
-  dropped h = sym (cond-no (kept rows cols j q rank (passed (held v r) residual)) (factors q r rank) h)
+  dropped h = sym (cond-no (keptColumn rows cols j q rank (passed (held v r) residual)) (factors q r rank) h)
 
   pub judge-full : cap ≤ rank → factors q r rank ≡ judged rows cols cap j norm q rank (passed (held v r) residual)
   unfolding test
@@ -123,19 +123,19 @@ module _ (rows cols cap j : ℕ) (norm : Float) (q : List Float) (rank : ℕ) (v
   pub judge-kept : {q' r' : List Float} → rank < cap → Ieee.lt (Ieee.mul binary64 rankFloor norm) residual ≡ true
       → q' ≡ newBasis v residual rows (rank * rows) q → r' ≡ setCell r (rank * cols + j) (complexOf residual zeroFloat)
       → factors q' r' (rank + 1) ≡ judged rows cols cap j norm q rank (passed (held v r) residual)
-  unfolding judged kept
+  unfolding judged keptColumn
   judge-kept h l e f =
       ap₂ (λ (x y : List Float). factors x y (rank + 1)) e f
-      ∙ sym (cond-yes (kept rows cols j q rank (passed (held v r) residual)) (factors q r rank)
+      ∙ sym (cond-yes (keptColumn rows cols j q rank (passed (held v r) residual)) (factors q r rank)
       (and-yes (ltb rank cap) (Ieee.lt (Ieee.mul binary64 rankFloor norm) residual) (lt-ltb rank cap h) l))
 
 pub column-worked : (a : List Float) (rows cols j : ℕ) (q r : List Float) (rank : ℕ) {u v' r' : List Float} {norm residual : Float} → u ≡ columnOf a (j * rows) rows
     → norm ≡ normOf u rows → passed (held v' r') residual ≡ passes q rank rows cols j 3 norm (held u r)
-    → Worked a rows cols j q r rank norm residual v' r'
+    → PassesWorked a rows cols j q r rank norm residual v' r'
 column-worked a rows cols j q r rank e f g = record { norm-is = rw e at f; passes-are = rw e at g }
 
 pub column-added : (a : List Float) (rows cols cap j : ℕ) (q r : List Float) (rank : ℕ) {norm residual : Float} {v' r' : List Float} {f : Factors}
-    → Worked a rows cols j q r rank norm residual v' r' → f ≡ judged rows cols cap j norm q rank (passed (held v' r') residual)
+    → PassesWorked a rows cols j q r rank norm residual v' r' → f ≡ judged rows cols cap j norm q rank (passed (held v' r') residual)
     → f ≡ addColumn a rows cols cap j (factors q r rank)
 unfolding addColumn
 column-added a rows cols cap j q r rank {norm} w e =
@@ -147,13 +147,13 @@ column-added a rows cols cap j q r rank {norm} w e =
 
 -- ---- the columns in order
 
-pub columns-none : (a : List Float) (rows cols cap : ℕ) (f : Factors) → f ≡ columnsTo a rows cols cap f 0
-unfolding columnsTo
+pub columns-none : (a : List Float) (rows cols cap : ℕ) (f : Factors) → f ≡ qrColumnsTo a rows cols cap f 0
+unfolding qrColumnsTo
 columns-none a rows cols cap f = refl
 
-pub columns-more : (a : List Float) (rows cols cap : ℕ) (f : Factors) (j : ℕ) {g h : Factors} → g ≡ columnsTo a rows cols cap f j
-    → h ≡ addColumn a rows cols cap j g → h ≡ columnsTo a rows cols cap f (j + 1)
-unfolding columnsTo
+pub columns-more : (a : List Float) (rows cols cap : ℕ) (f : Factors) (j : ℕ) {g h : Factors} → g ≡ qrColumnsTo a rows cols cap f j
+    → h ≡ addColumn a rows cols cap j g → h ≡ qrColumnsTo a rows cols cap f (j + 1)
+unfolding qrColumnsTo
 columns-more a rows cols cap f j e g = rw (add-one, ← e) g
 
 -- ---- the matrix with no direction

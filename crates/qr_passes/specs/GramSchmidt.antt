@@ -9,7 +9,7 @@ use lib.Dec.{ltb}
 use lib.Ieee as Ieee
 use lib.Ieee.{Float, binary64, ofBits}
 use Rattle.complex.specs.declared.Complex.{Complex}
-use Rattle.complex.specs.Arithmetic.{complexOf, sum}
+use Rattle.complex.specs.Arithmetic.{complexOf, sumOf}
 use Rattle.complex.specs.Cells.{cellAt, setCell}
 use Rattle.complex.specs.Zeros.{zeroFloat, zeros}
 use Rattle.qr_column.specs.Dot.{dotOf}
@@ -38,7 +38,7 @@ held v r = record { v = v; r = r }
 
 -- v loses d times the basis column that starts at the cell o, and the cell `at` of r gains d
 unfoldable pub projectedBy : List Float → ℕ → ℕ → ℕ → Held → Complex → Held
-projectedBy q o rows at s d = held (lessened (s .v) q o rows d) (setCell (s .r) at (sum (cellAt (s .r) at) d))
+projectedBy q o rows at s d = held (lessened (s .v) q o rows d) (setCell (s .r) at (sumOf (cellAt (s .r) at) d))
 
 -- where d is the dot product of that basis column with v
 unfoldable pub projected : List Float → ℕ → ℕ → ℕ → Held → Held
@@ -84,9 +84,9 @@ unfoldable pub newBasis : List Float → Float → ℕ → ℕ → List Float �
 newBasis v residual rows o q = scaledInto v (Ieee.div binary64 oneFloat residual) q o rows
 
 -- the column becomes the next basis column, and what was left of its norm stands in r
-unfoldable pub kept : ℕ → ℕ → ℕ → List Float → ℕ → Passed → Factors
+unfoldable pub keptColumn : ℕ → ℕ → ℕ → List Float → ℕ → Passed → Factors
 unfolding newBasis
-kept rows cols j q rank p =
+keptColumn rows cols j q rank p =
     factors
     (newBasis (p .end .v) (p .residual) rows (rank * rows) q)
     (setCell (p .end .r) (rank * cols + j) (complexOf (p .residual) zeroFloat))
@@ -94,9 +94,9 @@ kept rows cols j q rank p =
 
 -- where the rank is below the cap and more than the floor's part of its norm was left; else only r has changed
 unfoldable pub judged : ℕ → ℕ → ℕ → ℕ → Float → List Float → ℕ → Passed → Factors
-unfolding kept
+unfolding keptColumn
 judged rows cols cap j norm q rank p =
-    cond (ltb rank cap && Ieee.lt (Ieee.mul binary64 rankFloor norm) (p .residual)) (kept rows cols j q rank p) (factors q (p .end .r) rank)
+    cond (ltb rank cap && Ieee.lt (Ieee.mul binary64 rankFloor norm) (p .residual)) (keptColumn rows cols j q rank p) (factors q (p .end .r) rank)
 
 -- the column j of a
 unfoldable pub addColumn : List Float → ℕ → ℕ → ℕ → ℕ → Factors → Factors
@@ -106,15 +106,15 @@ addColumn a rows cols cap j f =
     (passes (f .q) (f .rank) rows cols j 3 (normOf (columnOf a (j * rows) rows) rows) (held (columnOf a (j * rows) rows) (f .r)))
 
 -- the column j as the code has it between its passes and its judgement: its norm, and what the passes left
-pub record Worked (a : List Float) (rows cols j : ℕ) (q r : List Float) (rank : ℕ) (norm residual : Float) (v' r' : List Float) : Type 0 where
+pub record PassesWorked (a : List Float) (rows cols j : ℕ) (q r : List Float) (rank : ℕ) (norm residual : Float) (v' r' : List Float) : Type 0 where
   pub norm-is : norm ≡ normOf (columnOf a (j * rows) rows) rows
   pub passes-are : passed (held v' r') residual ≡ passes q rank rows cols j 3 norm (held (columnOf a (j * rows) rows) r)
 
 -- the first j columns
-unfoldable pub columnsTo : List Float → ℕ → ℕ → ℕ → Factors → ℕ → Factors
+unfoldable pub qrColumnsTo : List Float → ℕ → ℕ → ℕ → Factors → ℕ → Factors
 unfolding addColumn
-columnsTo a rows cols cap f zero = f
-columnsTo a rows cols cap f (suc j) = addColumn a rows cols cap j (columnsTo a rows cols cap f j)
+qrColumnsTo a rows cols cap f zero = f
+qrColumnsTo a rows cols cap f (suc j) = addColumn a rows cols cap j (qrColumnsTo a rows cols cap f j)
 
 -- a matrix with no direction to keep: q's first column is the first basis vector and the rank is 1
 unfoldable pub basisFor : ℕ → List Float → List Float
@@ -130,8 +130,8 @@ abbrev pub capOf : ℕ → ℕ → ℕ
 capOf rows cols = min rows cols
 
 -- the factors of a; what the rank leaves of q and r is +0.0
-unfoldable pub factorsOf : List Float → ℕ → ℕ → Factors
-unfolding columnsTo withBasis
-factorsOf a rows cols =
+unfoldable pub qrFactors : List Float → ℕ → ℕ → Factors
+unfolding qrColumnsTo withBasis
+qrFactors a rows cols =
     withBasis
-    (columnsTo a rows cols (capOf rows cols) (factors (zeros (2 * (capOf rows cols * rows))) (zeros (2 * (capOf rows cols * cols))) 0) cols)
+    (qrColumnsTo a rows cols (capOf rows cols) (factors (zeros (2 * (capOf rows cols * rows))) (zeros (2 * (capOf rows cols * cols))) 0) cols)

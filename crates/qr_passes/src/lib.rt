@@ -10,7 +10,7 @@ ghost use Rattle.complex.specs.Zeros.{zeroFloat};
 ghost use Rattle.qr_basis.specs.Matrix.{matrixOf};
 ghost use Rattle.qr_column.specs.Columns.{normOf};
 ghost use Rattle.qr_column.specs.Woven.{woven};
-ghost use Rattle.qr_passes.specs.GramSchmidt.{held, projected, passTo, passed, passes, newBasis, factors, Worked, judged};
+ghost use Rattle.qr_passes.specs.GramSchmidt.{held, projected, passTo, passed, passes, newBasis, factors, PassesWorked, judged};
 
 // Passes that a column gets before it is kept or dropped.
 const MAX_PASSES: usize = 3;
@@ -139,7 +139,7 @@ pub fn work_column(
 ) -> Norms
     requires { ⌜ (2 * (j * rows + rows) ≤ length (now a)) × (2 * (rank * rows) ≤ length (now q)) × (2 * (rank * cols) ≤ length (now r))
         × (length (now v) ≡ 2 * rows) × (j < cols) ⌝ }
-    ensures { λ n. ⌜ Worked (now (a .entry)) rows cols j (matrixOf rows (now (q .entry))) (now (r .entry)) rank (n .whole) (n .residual) (woven rows (now (v .exit))) (now (r .exit)) ⌝ }
+    ensures { λ n. ⌜ PassesWorked (now (a .entry)) rows cols j (matrixOf rows (now (q .entry))) (now (r .entry)) rank (n .whole) (n .residual) (woven rows (now (v .exit))) (now (r .exit)) ⌝ }
 {
     qr_column::load(a, j * rows, rows, v);
     let whole = qr_column::norm(v, rows);

@@ -12,7 +12,7 @@ use lib.ListN.{length, set, drop, length-append, length-drop}
 use lib.Seq.{set-at, drop-cons}
 use Rattle.answers.specs.declared.Answer.{Answer}
 use Rattle.answers.specs.Paper.{Reply, paper, done, refuse}
-use Rattle.answers.proofs.PaperLaws.{refuse-done, andThen-done, paper-one, done-new, done-old}
+use Rattle.answers.proofs.PaperLaws.{refuse-done, andThen-done, done-new, done-old}
 use Rattle.qubit_offsets.specs.declared.Traced.{Traced}
 use Rattle.qubits.specs.Lists.{densitySizes, qubitSet, Listed}
 use Rattle.qubits.proofs.NamedLaws.{is-listed}
@@ -68,11 +68,6 @@ module _ (l : List ℕ) (n cap : ℕ) (o : List ℕ) (r : Answer) (e : paper r �
   pub offsets-done : (end : List ℕ) → paper r .0 ≡ 0 → end ≡ fronted (rowOffsets l) o → RowOffsets l n cap o r end
   offsets-done end h c = record { answer = e; numbers = c ∙ done-new _ _ o (sym (ap (λ (x : Reply). x .0) e) ∙ h) }
 
--- ONE OUTCOME
-pub row-offsets-one : (l : List ℕ) (n cap : ℕ) (o : List ℕ) (r r' : Answer) (end end' : List ℕ)
-    → RowOffsets l n cap o r end → RowOffsets l n cap o r' end' → (r ≡ r') × (end ≡ end')
-row-offsets-one l n cap o r r' end end' a b = (paper-one r r' (a .answer ∙ sym (b .answer)), a .numbers ∙ sym (b .numbers))
-
 -- ---- a traced base
 
 pub traced-listed : (e : ℕ) (l : List ℕ) (n cap : ℕ) → tracedAnswer e l n cap .0 ≡ 0 → Listed n l × (e < 2 ^ (n - length l))
@@ -87,8 +82,3 @@ module _ (e : ℕ) (l : List ℕ) (n cap : ℕ) (r : Traced) (a : paper (r .answ
 
   pub traced-done : paper (r .answer) .0 ≡ 0 → r .base ≡ tracedBase n l e → TracedBase e l n cap r
   traced-done h b = record { answer = a; base = b ∙ done-new _ _ 0 (sym (ap (λ (x : Reply). x .0) a) ∙ h) }
-
--- ONE OUTCOME
-pub traced-base-one : (e : ℕ) (l : List ℕ) (n cap : ℕ) (r r' : Traced) → TracedBase e l n cap r → TracedBase e l n cap r'
-    → (r .answer ≡ r' .answer) × (r .base ≡ r' .base)
-traced-base-one e l n cap r r' a b = (paper-one (r .answer) (r' .answer) (a .answer ∙ sym (b .answer)), a .base ∙ sym (b .base))

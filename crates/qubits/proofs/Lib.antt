@@ -3,3 +3,4 @@ pub mod ListLaws
 pub mod NamedLaws
 pub mod OtherLaws
 pub mod SpreadLaws
+pub mod Theorems

@@ -1,5 +1,5 @@
 -- One turn of a loop over a list, at the position i. Assumes nothing.
-use mathlib.Core.Path.{_≡_, sym, _∙_}
+use mathlib.Core.Path.{_≡_}
 use mathlib.Core.Bool.{true, false}
 use mathlib.Core.List.{List, [], _∷_}
 use Prim.Native.Nat.{ℕ, zero, suc, _+_, _≤_, _<_}
@@ -10,10 +10,9 @@ use borrow.Author.Tests.{eq-eqb, ne-eqb, le-leb, lt-leb, leb-false}
 use lib.Dec.{leb}
 use lib.ListN.{length, take, drop, getD, drop-of-length-le}
 use lib.Seq.{drop-cons}
-use Rattle.answers.specs.declared.Answer.{Answer}
-use Rattle.answers.specs.Paper.{paper, done, refuse}
-use Rattle.answers.proofs.PaperLaws.{refuse-done, paper-one}
-use Rattle.qubits.specs.Lists.{stands, placesFrom, qubitSet, subsystem}
+use Rattle.answers.specs.Paper.{done, refuse}
+use Rattle.answers.proofs.PaperLaws.{refuse-done}
+use Rattle.qubits.specs.Lists.{stands, placesFrom}
 
 module _ (l : List ℕ) (i q : ℕ) where
   pub stands-here : i < length l → getD l i 0 ≡ q → stands q (drop i l) ≡ true
@@ -59,10 +58,3 @@ places-done n l i (q ∷ rest) e (suc k) h =
     let b = refuse-done (stands q (take i l)) 2 i (placesFrom n l (suc i) rest) (a .1) in
     let s : i + suc k ≡ suc i + k = omega arith in
     rw s (places-done n l (suc i) rest (b .1) k (omega arith))
-
--- ONE OUTCOME of each of the two tests
-pub validate-qubit-set-one : (l : List ℕ) (n : ℕ) (r r' : Answer) → paper r ≡ qubitSet n l → paper r' ≡ qubitSet n l → r ≡ r'
-validate-qubit-set-one l n r r' a b = paper-one r r' (a ∙ sym b)
-
-pub validate-subsystem-one : (l : List ℕ) (n : ℕ) (r r' : Answer) → paper r ≡ subsystem n l → paper r' ≡ subsystem n l → r ≡ r'
-validate-subsystem-one l n r r' a b = paper-one r r' (a ∙ sym b)

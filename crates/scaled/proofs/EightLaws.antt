@@ -9,7 +9,7 @@ use borrow.Author.Tests.{ltb-true, ltb-false}
 use lib.Dec.{ltb}
 use lib.Ieee.{Float, nan, binary64, add, mul}
 use lib.ListN.{length, getD}
-use Rattle.numbers.specs.Numbers.{finite, allowed}
+use Rattle.numbers.specs.Numbers.{isFinite, allowed}
 use Rattle.scaled.specs.Each.{EachAllowed}
 use Rattle.scaled.specs.declared.Sums.{Sums}
 use Rattle.scaled.specs.Eight.{withScaled, withEight, joinedFour, joined}
@@ -21,7 +21,7 @@ listOf q = q .sum0 ∷ q .sum1 ∷ q .sum2 ∷ q .sum3 ∷ q .sum4 ∷ q .sum5 �
 
 abbrev Finite : List Float → Type 0
 Finite [] = Unit
-Finite (q ∷ qs) = (finite q ≡ true) × Finite qs
+Finite (q ∷ qs) = (isFinite q ≡ true) × Finite qs
 
 abbrev Allowed : List Float → Type 0
 Allowed [] = Unit
@@ -89,21 +89,21 @@ holds-more s last i q h e =
 
 -- ---- the eight sums joined
 
-four-finite : (a b c d : Float) → finite (joinedFour a b c d) ≡ true → Finite (a ∷ b ∷ c ∷ d ∷ [])
+four-finite : (a b c d : Float) → isFinite (joinedFour a b c d) ≡ true → Finite (a ∷ b ∷ c ∷ d ∷ [])
 four-finite a b c d h =
     let t = sum-finite (add binary64 a b) (add binary64 c d) h in
     let u = sum-finite a b (t .0) in
     let v = sum-finite c d (t .1) in
     (u .0, (u .1, (v .0, (v .1, tt))))
 
-joined-finite : (q : Sums) → finite (joined q) ≡ true → Finite (listOf q)
+joined-finite : (q : Sums) → isFinite (joined q) ≡ true → Finite (listOf q)
 joined-finite q h =
     let t = sum-finite (joinedFour (q .sum0) (q .sum4) (q .sum2) (q .sum6)) (joinedFour (q .sum1) (q .sum5) (q .sum3) (q .sum7)) h in
     let u = four-finite (q .sum0) (q .sum4) (q .sum2) (q .sum6) (t .0) in
     let v = four-finite (q .sum1) (q .sum5) (q .sum3) (q .sum7) (t .1) in
     (u .0, (v .0, (u .1 .1 .0, (v .1 .1 .0, (u .1 .0, (v .1 .0, (u .1 .1 .1 .0, (v .1 .1 .1 .0, tt))))))))
 
-pub holds-all : (s : List Float) (last i : ℕ) (q : Sums) → length s ≡ last + 8 → last ≤ i → Holds s last i q → finite (joined q) ≡ true → EachAllowed s
+pub holds-all : (s : List Float) (last i : ℕ) (q : Sums) → length s ≡ last + 8 → last ≤ i → Holds s last i q → isFinite (joined q) ≡ true → EachAllowed s
 holds-all s last i q e l h b j g =
     let d = joined-finite q b in
     elim (before-or-from j i) [ inl p ↦ h .front d j p | inr p ↦ eight-at s last j (h .back d) (omega arith) (omega arith) ]

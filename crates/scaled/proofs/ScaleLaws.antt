@@ -10,7 +10,7 @@ use lib.IntN.{pos}
 use lib.Ieee.{Float, nan, inf, fin, binary64, ofBits, up, down, odd, units, round, add, mul, lt, eq, le}
 use lib.Ieee.Fits.{round-is, down-pos}
 use lib.Ieee.Order.{round-mono}
-use Rattle.numbers.specs.Numbers.{finite, allowed}
+use Rattle.numbers.specs.Numbers.{isFinite, allowed}
 use Rattle.scaled.specs.Scale.{scale}
 
 abbrev power : Float
@@ -22,8 +22,8 @@ scale-is = refl
 
 -- ---- a sum
 
-pub sum-finite : (x y : Float) → finite (add binary64 x y) ≡ true → (finite x ≡ true) × (finite y ≡ true)
-unfolding add finite
+pub sum-finite : (x y : Float) → isFinite (add binary64 x y) ≡ true → (isFinite x ≡ true) × (isFinite y ≡ true)
+unfolding add isFinite
 sum-finite nan y h = absurd (true≢false (sym h))
 sum-finite (inf s) nan h = absurd (true≢false (sym h))
 sum-finite (inf true) (inf true) h = absurd (true≢false (sym h))
@@ -37,21 +37,21 @@ sum-finite (fin s m e) (fin t n d) h = (refl, refl)
 
 -- ---- whether a rounded fraction is finite does not turn on its sign
 
-odd-finite : (d : ℕ) (s : Bool) (q k l : ℕ) → finite (odd d s q k l) ≡ true
-unfolding odd finite
+odd-finite : (d : ℕ) (s : Bool) (q k l : ℕ) → isFinite (odd d s q k l) ≡ true
+unfolding odd isFinite
 odd-finite d s zero k l = refl
 odd-finite d s (suc q) k l = refl
 
-units-finite : (s : Bool) (q k : ℕ) → finite (units binary64 s q k) ≡ finite (units binary64 false q k)
-unfolding units finite
+units-finite : (s : Bool) (q k : ℕ) → isFinite (units binary64 s q k) ≡ isFinite (units binary64 false q k)
+unfolding units isFinite
 units-finite s q k = pick (ltb (q * 2 ^ k) (2 ^ 2098))
   where
-    pick : (b : Bool) → finite (cond b (odd 54 s q k 1074) (inf s)) ≡ finite (cond b (odd 54 false q k 1074) (inf false))
+    pick : (b : Bool) → isFinite (cond b (odd 54 s q k 1074) (inf s)) ≡ isFinite (cond b (odd 54 false q k 1074) (inf false))
     pick true = odd-finite 54 s q k 1074 ∙ sym (odd-finite 54 false q k 1074)
     pick false = refl
 
-round-finite : (s : Bool) (a c : ℕ) → finite (round binary64 s a c) ≡ finite (round binary64 false a c)
-round-finite s a c = ap finite (round-is binary64 s a c) ∙ units-finite s _ _ ∙ sym (ap finite (round-is binary64 false a c))
+round-finite : (s : Bool) (a c : ℕ) → isFinite (round binary64 s a c) ≡ isFinite (round binary64 false a c)
+round-finite s a c = ap isFinite (round-is binary64 s a c) ∙ units-finite s _ _ ∙ sym (ap isFinite (round-is binary64 false a c))
 
 -- ---- a fraction that rounds to a finite float is below 2 ^ 1024
 
@@ -59,13 +59,13 @@ overflows : round binary64 false (2 ^ 1024) 1 ≡ inf false
 unfolding round
 overflows = refl
 
-above-infinity : (r : Float) → T (le (inf false) r) → finite r ≡ true → ⊥
-unfolding le lt eq finite
+above-infinity : (r : Float) → T (le (inf false) r) → isFinite r ≡ true → ⊥
+unfolding le lt eq isFinite
 above-infinity nan t h = absurd t
 above-infinity (inf s) t h = true≢false (sym h)
 above-infinity (fin s m e) t h = absurd t
 
-round-below : (a c : ℕ) → 0 < c → finite (round binary64 false a c) ≡ true → a < 2 ^ 1024 * c
+round-below : (a c : ℕ) → 0 < c → isFinite (round binary64 false a c) ≡ true → a < 2 ^ 1024 * c
 round-below a c C h =
     lt-of-not-le (λ (g : 2 ^ 1024 * c ≤ a).
     above-infinity (round binary64 false a c)
@@ -80,8 +80,8 @@ small v w h =
     le-of-lt (lt-of-mul-lt-mul-right (2 ^ 824)
     (lt-of-lt-of-le h (le-of-eq (ap (λ (x : ℕ). 2 ^ 1024 * x) (mul-one w) ∙ sym (mul-right-comm (2 ^ 200) w (2 ^ 824))))))
 
-times-power : (x : Float) → finite (mul binary64 x power) ≡ true → allowed x ≡ true
-unfolding mul finite allowed
+times-power : (x : Float) → isFinite (mul binary64 x power) ≡ true → allowed x ≡ true
+unfolding mul isFinite allowed
 times-power nan h = h
 times-power (inf true) h = h
 times-power (inf false) h = h
@@ -89,5 +89,5 @@ times-power (fin s m e) h =
     le-leb _ _
     (small (m * up e) (down e) (round-below (m * up e * 2 ^ 824) (down e * 1) (mul-pos (down-pos e) (pow-pos 0)) (sym (round-finite _ (m * up e * 2 ^ 824) (down e * 1)) ∙ h)))
 
-pub scaled-finite : (x : Float) → finite (mul binary64 x scale) ≡ true → allowed x ≡ true
-scaled-finite x h = times-power x (ap (λ (c : Float). finite (mul binary64 x c)) (sym scale-is) ∙ h)
+pub scaled-finite : (x : Float) → isFinite (mul binary64 x scale) ≡ true → allowed x ≡ true
+scaled-finite x h = times-power x (ap (λ (c : Float). isFinite (mul binary64 x c)) (sym scale-is) ∙ h)

@@ -1,11 +1,11 @@
 // A product with a conjugate, without the conjugate. Inner: entries stands on it.
 use complex::Complex;
 ghost use mathlib.Core.Path.{_≡_};
-ghost use Rattle.complex.specs.Arithmetic.{sum, product, conjugate};
+ghost use Rattle.complex.specs.Arithmetic.{sumOf, product, conjugate};
 
 // s + a * conj(b). Both parts are the same sum of two products, so that the back end takes them at once.
 pub fn add_term(s: Complex, a: Complex, b: Complex) -> Complex
-    ensures { λ r. ⌜ r ≡ sum s (product a (conjugate b)) ⌝ }
+    ensures { λ r. ⌜ r ≡ sumOf s (product a (conjugate b)) ⌝ }
 {
     let back = -a.re;
     Complex {

@@ -76,7 +76,7 @@ unfolding lineCell
 scaledVtCell s vt rowLength gamma c = product (complexOf (getD s gamma nan) zeroFloat) (lineCell vt rowLength gamma c)
 
 -- what the inner loops ask: chi lines of stride cells in `source` numbers, a site of width·chi cells in `room` numbers
-pub record Ready (stride width chi source room : ℕ) : Type 0 where
+pub record LineReady (stride width chi source room : ℕ) : Type 0 where
   pub stride-small : stride ≤ 4096
   pub chi-small : chi ≤ 4096
   pub inside : width ≤ stride

@@ -7,7 +7,7 @@ ghost use Prim.Native.Nat.{ℕ, _+_, _*_, _<_, _≤_};
 ghost use lib.ListN.{length};
 ghost use Rattle.answers.specs.Paper.{paper};
 ghost use Rattle.complex.specs.Cells.{written};
-ghost use Rattle.site_lines.specs.Sources.{cellAllowed, cellsFrom, linesFrom, strided, stridedScaled, stridedProduct, putLine, siteCell, isometryCell, scaledUCell, vtCell, scaledVtCell, Ready};
+ghost use Rattle.site_lines.specs.Sources.{cellAllowed, cellsFrom, linesFrom, strided, stridedScaled, stridedProduct, putLine, siteCell, isometryCell, scaledUCell, vtCell, scaledVtCell, LineReady};
 
 fn cell_allowed(z: Complex) -> bool
     ensures { λ r. ⌜ r ≡ cellAllowed z ⌝ }
@@ -90,7 +90,7 @@ fn product_line(x: f64, src: &[f64], from: usize, n: usize, out: &mut [f64], bas
 
 // Row after row of the site: row r takes cell r of each of the chi columns.
 pub fn fill_isometry(columns: &[f64], stride: usize, width: usize, chi: usize, out: &mut [f64])
-    requires { ⌜ Ready stride width chi (length (now columns)) (length (now out)) ⌝ }
+    requires { ⌜ LineReady stride width chi (length (now columns)) (length (now out)) ⌝ }
     ensures { λ _. ⌜ now (out .exit) ≡ written (width * chi) (siteCell chi (isometryCell (now (columns .entry)) stride)) (now (out .entry)) ⌝ }
 {
     for row in 0..width {
@@ -99,7 +99,7 @@ pub fn fill_isometry(columns: &[f64], stride: usize, width: usize, chi: usize, o
 }
 
 pub fn fill_scaled_u(u: &[f64], s: &[f64], stride: usize, width: usize, chi: usize, out: &mut [f64])
-    requires { ⌜ Ready stride width chi (length (now u)) (length (now out)) ⌝ }
+    requires { ⌜ LineReady stride width chi (length (now u)) (length (now out)) ⌝ }
     requires { ⌜ chi ≤ length (now s) ⌝ }
     ensures { λ _. ⌜ now (out .exit) ≡ written (width * chi) (siteCell chi (scaledUCell (now (u .entry)) (now (s .entry)) stride)) (now (out .entry)) ⌝ }
 {
@@ -110,7 +110,7 @@ pub fn fill_scaled_u(u: &[f64], s: &[f64], stride: usize, width: usize, chi: usi
 
 // Row after row of the site: row gamma is the front of row gamma of the source.
 pub fn fill_vt(vt: &[f64], stride: usize, width: usize, chi: usize, out: &mut [f64])
-    requires { ⌜ Ready stride width chi (length (now vt)) (length (now out)) ⌝ }
+    requires { ⌜ LineReady stride width chi (length (now vt)) (length (now out)) ⌝ }
     ensures { λ _. ⌜ now (out .exit) ≡ written (width * chi) (siteCell width (vtCell (now (vt .entry)) stride)) (now (out .entry)) ⌝ }
 {
     for gamma in 0..chi {
@@ -126,7 +126,7 @@ pub fn fill_scaled_vt(
     chi: usize,
     out: &mut [f64],
 )
-    requires { ⌜ Ready stride width chi (length (now vt)) (length (now out)) ⌝ }
+    requires { ⌜ LineReady stride width chi (length (now vt)) (length (now out)) ⌝ }
     requires { ⌜ chi ≤ length (now s) ⌝ }
     ensures { λ _. ⌜ now (out .exit) ≡ written (width * chi) (siteCell width (scaledVtCell (now (s .entry)) (now (vt .entry)) stride)) (now (out .entry)) ⌝ }
 {

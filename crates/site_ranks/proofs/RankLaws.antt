@@ -16,9 +16,9 @@ use lib.Pow.{pow-mono}
 use lib.Seq.{drop-cons}
 use Rattle.answers.specs.declared.Answer.{Answer}
 use Rattle.answers.specs.declared.Answer.the-variants.{Done}
-use Rattle.answers.specs.Paper.{Reply, paper, done, refuse, ifDone}
-use Rattle.answers.proofs.PaperLaws.{refuse-done, paper-one, done-old}
-use Rattle.site_ranks.specs.Ranks.{firstOrZero, aboveCount, rankOf, resolution, discardsOf, Ranked, cutSizes, cutRankOf, widestSizes, cutAfter, widestTo, widestOf}
+use Rattle.answers.specs.Paper.{Reply, paper, done, refuse}
+use Rattle.answers.proofs.PaperLaws.{refuse-done, done-old}
+use Rattle.site_ranks.specs.Ranks.{firstOrZero, aboveCount, rankOf, resolution, discardsOf, Ranked, bondSizes, cutRankOf, widestSizes, cutAfter, widestTo, widestOf}
 
 -- ---- what a threshold keeps
 
@@ -60,8 +60,8 @@ discards-next l chi h = rw (lt-ltb chi (length l) h)
 
 -- ---- what the bonds allow
 
-pub cut-done : (left mid right : ℕ) → cutSizes left mid right .0 ≡ 0 → (left ≤ 4096) × (mid ≤ 4096) × (right ≤ 4096)
-unfolding cutSizes
+pub cut-done : (left mid right : ℕ) → bondSizes left mid right .0 ≡ 0 → (left ≤ 4096) × (mid ≤ 4096) × (right ≤ 4096)
+unfolding bondSizes
 cut-done left mid right e =
     let b = refuse (ltb 4096 right) (1, 0) done in
     let x = refuse-done (ltb 4096 left) 0 0 (refuse (ltb 4096 mid) (1, 0) b) e in
@@ -131,9 +131,3 @@ ranked-refused reply value x e n = record { answer-is = e; rank-is = done-old (p
 
 pub ranked-done : (reply : Reply) {value rank : ℕ} → reply ≡ done → rank ≡ value → Ranked reply value Done rank
 ranked-done reply e f = record { answer-is = sym e; rank-is = f }
-
--- ONE OUTCOME: two ends of a call that both meet the contract are the same
-pub ranked-one : (reply : Reply) (value : ℕ) (x y : Answer) (k l : ℕ) → Ranked reply value x k → Ranked reply value y l → (x ≡ y) × (k ≡ l)
-ranked-one reply value x y k l a b =
-    let e : x ≡ y = paper-one x y (a .answer-is ∙ sym (b .answer-is)) in
-    (e, a .rank-is ∙ ap (λ (z : Answer). ifDone (paper z .0) value 0) e ∙ sym (b .rank-is))

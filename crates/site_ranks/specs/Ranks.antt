@@ -43,8 +43,8 @@ pub record Ranked (reply : Reply) (value : ℕ) (answer : Answer) (rank : ℕ) :
   pub rank-is : rank ≡ ifDone (paper answer .0) value 0
 
 -- 1
-unfoldable pub cutSizes : ℕ → ℕ → ℕ → Reply
-cutSizes left mid right = refuse (ltb 4096 left) (1, 0) (refuse (ltb 4096 mid) (1, 0) (refuse (ltb 4096 right) (1, 0) done))
+unfoldable pub bondSizes : ℕ → ℕ → ℕ → Reply
+bondSizes left mid right = refuse (ltb 4096 left) (1, 0) (refuse (ltb 4096 mid) (1, 0) (refuse (ltb 4096 right) (1, 0) done))
 
 -- the pair bonds give twice the smaller, the middle bond four times itself
 unfoldable pub cutRankOf : ℕ → ℕ → ℕ → ℕ

@@ -5,7 +5,7 @@ ghost use mathlib.Core.Bool.{Bool};
 ghost use Prim.Native.Nat.{_+_, _-_, _*_, _<_, _≤_, _^_, min, max};
 ghost use lib.ListN.{length};
 ghost use Rattle.answers.specs.Paper.{paper};
-ghost use Rattle.site_ranks.specs.Ranks.{firstOrZero, aboveCount, rankOf, discardsOf, Ranked, cutSizes, cutRankOf, widestSizes, cutAfter, widestTo, widestOf};
+ghost use Rattle.site_ranks.specs.Ranks.{firstOrZero, aboveCount, rankOf, discardsOf, Ranked, bondSizes, cutRankOf, widestSizes, cutAfter, widestTo, widestOf};
 
 // A value at or below this part of the largest is the factorization's own rounding.
 const SVD_RESOLUTION: f64 = 8.881784197001252e-16;
@@ -95,7 +95,7 @@ pub fn discards_resolvable_weight(values: &[f64], chi: usize) -> bool
 
 // Answer 1 of a cut between two sites.
 fn check_cut(bond_left: usize, bond_mid: usize, bond_right: usize) -> Answer
-    ensures { λ r. ⌜ paper r ≡ cutSizes «bond_left» «bond_mid» «bond_right» ⌝ }
+    ensures { λ r. ⌜ paper r ≡ bondSizes «bond_left» «bond_mid» «bond_right» ⌝ }
 {
     if 4096 < bond_left {
         return Answer::Size;
@@ -111,7 +111,7 @@ fn check_cut(bond_left: usize, bond_mid: usize, bond_right: usize) -> Answer
 
 // The most singular values that a cut between two sites carries.
 pub fn cut_rank(bond_left: usize, bond_mid: usize, bond_right: usize) -> CutRank
-    ensures { λ r. ⌜ Ranked (cutSizes «bond_left» «bond_mid» «bond_right») (cutRankOf «bond_left» «bond_mid» «bond_right») (r .answer) (r .rank) ⌝ }
+    ensures { λ r. ⌜ Ranked (bondSizes «bond_left» «bond_mid» «bond_right») (cutRankOf «bond_left» «bond_mid» «bond_right») (r .answer) (r .rank) ⌝ }
 {
     let answer = check_cut(bond_left, bond_mid, bond_right);
     let Answer::Done = answer else {

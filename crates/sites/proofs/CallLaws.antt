@@ -9,17 +9,17 @@ use lib.Ieee.{Float}
 use lib.ListN.{length, take}
 use Rattle.answers.specs.declared.Answer.{Answer}
 use Rattle.answers.specs.declared.Answer.the-variants.{Done}
-use Rattle.answers.specs.Paper.{Reply, paper, done, refuse, andThen, ifDone}
-use Rattle.answers.proofs.PaperLaws.{refuse-done, stays, paper-one, done-old}
+use Rattle.answers.specs.Paper.{Reply, paper, done, refuse, andThen}
+use Rattle.answers.proofs.PaperLaws.{refuse-done, stays, done-old}
 use Rattle.values.specs.Lists.{valuesAllowed}
 use Rattle.complex.specs.declared.Complex.{Complex}
 use Rattle.complex.specs.Cells.{written}
-use Rattle.site_lines.specs.Sources.{linesFrom, Ready}
-use Rattle.sites.specs.Calls.{lineSizes, columnSizes, rowSizes, plainReply, scaledUReply, scaledVtReply, Filled, Sized}
+use Rattle.site_lines.specs.Sources.{linesFrom, LineReady}
+use Rattle.sites.specs.Calls.{lineSizes, columnSizes, rowSizes, plainReply, scaledUReply, scaledVtReply, Filled, SiteSized}
 
 -- ---- 1
 
-line-done : (stride width chi : ℕ) → lineSizes stride width chi .0 ≡ 0 → Sized stride width chi
+line-done : (stride width chi : ℕ) → lineSizes stride width chi .0 ≡ 0 → SiteSized stride width chi
 unfolding lineSizes
 line-done stride width chi e =
     let b₃ = refuse (ltb 4096 (width * chi)) (1, 0) done in
@@ -35,14 +35,14 @@ line-done stride width chi e =
       few = ltb-false 4096 (width * chi) (w .0);
     }
 
-pub columns-done : (stride left chi : ℕ) → columnSizes stride left chi .0 ≡ 0 → (left ≤ 4096) × Sized stride (2 * left) chi
+pub columns-done : (stride left chi : ℕ) → columnSizes stride left chi .0 ≡ 0 → (left ≤ 4096) × SiteSized stride (2 * left) chi
 unfolding columnSizes
 columns-done stride left chi e =
     let x = refuse-done (ltb 4096 left) 0 0 (lineSizes stride (2 * left) chi) e in
     (ltb-false 4096 left (x .0), line-done stride (2 * left) chi (x .1))
 
 pub rows-done : (rowLength chi physical right : ℕ) → rowSizes rowLength chi physical right .0 ≡ 0
-    → (physical * right ≤ 4096 * 4096) × Sized rowLength (physical * right) chi
+    → (physical * right ≤ 4096 * 4096) × SiteSized rowLength (physical * right) chi
 unfolding rowSizes
 rows-done rowLength chi physical right e =
     let b = refuse (ltb 4096 right) (1, 0) (lineSizes rowLength (physical * right) chi) in
@@ -51,13 +51,13 @@ rows-done rowLength chi physical right e =
     (mul-le-mul (ltb-false 4096 physical (x .0)) (ltb-false 4096 right (y .0)), line-done rowLength (physical * right) chi (y .1))
 
 -- chi lines of stride cells
-pub source-small : {stride width chi : ℕ} → Sized stride width chi → chi * stride ≤ 4096 * 4096
+pub source-small : {stride width chi : ℕ} → SiteSized stride width chi → chi * stride ≤ 4096 * 4096
 source-small s = mul-le-mul (s .chi-small) (s .stride-small)
 
 -- ---- 6 and 7
 
-pub plain-ready : (source : List Float) (stride width chi room : ℕ) → Sized stride width chi → plainReply source stride width chi room .0 ≡ 0
-    → Ready stride width chi (length source) room
+pub plain-ready : (source : List Float) (stride width chi room : ℕ) → SiteSized stride width chi → plainReply source stride width chi room .0 ≡ 0
+    → LineReady stride width chi (length source) room
 unfolding plainReply
 plain-ready source stride width chi room s e =
     let b = refuse (ltb room (2 * (width * chi))) (6, 1) (linesFrom source stride width 0 chi) in
@@ -72,8 +72,8 @@ plain-ready source stride width chi room s e =
       site = ltb-false room (2 * (width * chi)) (y .0);
     }
 
-pub scaled-u-ready : (source values : List Float) (stride width chi room : ℕ) → Sized stride width chi → scaledUReply source values stride width chi room .0 ≡ 0
-    → Ready stride width chi (length source) room × (chi ≤ length values)
+pub scaled-u-ready : (source values : List Float) (stride width chi room : ℕ) → SiteSized stride width chi → scaledUReply source values stride width chi room .0 ≡ 0
+    → LineReady stride width chi (length source) room × (chi ≤ length values)
 unfolding scaledUReply
 scaled-u-ready source values stride width chi room s e =
     let a = andThen (linesFrom source stride width 0 chi) (valuesAllowed 0 (take chi values)) in
@@ -92,8 +92,8 @@ scaled-u-ready source values stride width chi room s e =
       ltb-false (length values) chi (y .0),
     )
 
-pub scaled-vt-ready : (values source : List Float) (stride width chi room : ℕ) → Sized stride width chi → scaledVtReply values source stride width chi room .0 ≡ 0
-    → Ready stride width chi (length source) room × (chi ≤ length values)
+pub scaled-vt-ready : (values source : List Float) (stride width chi room : ℕ) → SiteSized stride width chi → scaledVtReply values source stride width chi room .0 ≡ 0
+    → LineReady stride width chi (length source) room × (chi ≤ length values)
 unfolding scaledVtReply
 scaled-vt-ready values source stride width chi room s e =
     let a = andThen (valuesAllowed 0 (take chi values)) (linesFrom source stride width 0 chi) in
@@ -133,10 +133,3 @@ pub filled : (first rest : Reply) (cells : ℕ) (f : ℕ → Complex) (old : Lis
     → paper b ≡ rest → b ≡ Done → end ≡ written cells f old → Filled (andThen first rest) cells f old Done end
 filled first rest cells f old a b p d e g h =
     record { answer-is = ap paper (sym g) ∙ e ∙ sym (passed-on first rest a p d); out-is = h }
-
--- ONE OUTCOME: two ends of a fill that both meet the contract are the same
-pub fill-one : (reply : Reply) (cells : ℕ) (f : ℕ → Complex) (old : List Float) (x y : Answer) (end end' : List Float) → Filled reply cells f old x end
-    → Filled reply cells f old y end' → (x ≡ y) × (end ≡ end')
-fill-one reply cells f old x y end end' a b =
-    let e : x ≡ y = paper-one x y (a .answer-is ∙ sym (b .answer-is)) in
-    (e, a .out-is ∙ ap (λ (z : Answer). ifDone (paper z .0) (written cells f old) old) e ∙ sym (b .out-is))

@@ -56,7 +56,7 @@ pub record Filled (reply : Reply) (cells : ℕ) (f : ℕ → Complex) (old : Lis
   pub out-is : end ≡ ifDone (paper answer .0) (written cells f old) old
 
 -- the sizes that are taken
-pub record Sized (stride width chi : ℕ) : Type 0 where
+pub record SiteSized (stride width chi : ℕ) : Type 0 where
   pub stride-small : stride ≤ 4096
   pub chi-small : chi ≤ 4096
   pub inside : width ≤ stride

@@ -6,7 +6,7 @@ ghost use lib.ListN.{length, take};
 ghost use Rattle.answers.specs.Paper.{paper, andThen};
 ghost use Rattle.values.specs.Lists.{valuesAllowed};
 ghost use Rattle.site_lines.specs.Sources.{linesFrom, siteCell, isometryCell, scaledUCell, vtCell, scaledVtCell};
-ghost use Rattle.sites.specs.Calls.{lineSizes, columnSizes, rowSizes, plainReply, scaledUReply, scaledVtReply, Filled, Sized};
+ghost use Rattle.sites.specs.Calls.{lineSizes, columnSizes, rowSizes, plainReply, scaledUReply, scaledVtReply, Filled, SiteSized};
 
 // Answer 1 of a source: chi lines, stride cells apart, width cells of each read.
 fn check_source(stride: usize, width: usize, chi: usize) -> Answer
@@ -53,7 +53,7 @@ fn check_rows(row_len: usize, chi: usize, physical_dim: usize, bond_right: usize
 
 // Answers 6 and 7 of a source and a site.
 fn check_plain(source: &[f64], stride: usize, width: usize, chi: usize, room: usize) -> Answer
-    requires { ⌜ Sized stride width chi ⌝ }
+    requires { ⌜ SiteSized stride width chi ⌝ }
     ensures { λ r. ⌜ paper r ≡ plainReply (now (source .entry)) stride width chi room ⌝ }
 {
     if source.len() < 2 * (chi * stride) {
@@ -110,7 +110,7 @@ fn check_scaled_u(
     chi: usize,
     room: usize,
 ) -> Answer
-    requires { ⌜ Sized stride width chi ⌝ }
+    requires { ⌜ SiteSized stride width chi ⌝ }
     ensures { λ r. ⌜ paper r ≡ scaledUReply (now (source .entry)) (now (values .entry)) stride width chi room ⌝ }
 {
     if source.len() < 2 * (chi * stride) {
@@ -134,7 +134,7 @@ fn check_scaled_vt(
     chi: usize,
     room: usize,
 ) -> Answer
-    requires { ⌜ Sized stride width chi ⌝ }
+    requires { ⌜ SiteSized stride width chi ⌝ }
     ensures { λ r. ⌜ paper r ≡ scaledVtReply (now (values .entry)) (now (source .entry)) stride width chi room ⌝ }
 {
     if values.len() < chi {

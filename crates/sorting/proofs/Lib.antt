@@ -1,3 +1,3 @@
 -- The laws, and what the functions' proofs share.
-pub mod SortedLaws
 pub mod Total
+pub mod Theorems

@@ -8,18 +8,18 @@ use lib.Ieee.{Float}
 use lib.ListN.{length, take, drop}
 use Rattle.answers.specs.declared.Answer.{Answer}
 use Rattle.answers.specs.Paper.{Reply, paper, ifDone}
-use Rattle.answers.proofs.PaperLaws.{paper-one, stays, worked-new, worked-old, done-old, end-old, end-worked}
+use Rattle.answers.proofs.PaperLaws.{stays, worked-new, worked-old, done-old, end-old, end-worked}
 use Rattle.complex.specs.Zeros.{zeroed}
 use Rattle.svd_load.specs.Numbers.{filled}
 use Rattle.finish.specs.declared.Kept.{Kept}
 use Rattle.finish.specs.Finish.{padded}
-use Rattle.finish.proofs.OutcomeLaws.{reply-worked, kept-same}
+use Rattle.finish.proofs.OutcomeLaws.{reply-worked}
 use Rattle.values.specs.Sort.{sortedDown}
 use Rattle.weights.specs.Weights.{rootsOf}
 use Rattle.weights.specs.WeightOutcome.{WeightOutcome}
 use Rattle.spectra.specs.Eigenvalues.{eigenvalue, eigenvaluesOf, squareRefusal}
 use Rattle.spectra.proofs.OutcomeLaws.{front-is, past-is, square-small, zeroed-part}
-use Rattle.spectra.specs.Density.{densityValues, densityReply, densityAnswer, DensityWorked, DensityValues}
+use Rattle.spectra.specs.Density.{densityValues, densityValuesReply, densityValuesAnswer, DensityWorked, DensityValues}
 
 -- there is room for the roots beside the matrix
 pub side-fits : (n : ℕ) → 1 ≤ n → n ≤ 2 * (n * n)
@@ -45,7 +45,7 @@ density-made rho n out work mid r end work′ e o c =
     record {
       answer = rw t at (o .answer);
       count = rw t at (o .count);
-      values = rw t at (o .values) ∙ past (densityReply rho n .0) n (densityValues rho n) mid out d;
+      values = rw t at (o .values) ∙ past (densityValuesReply rho n .0) n (densityValues rho n) mid out d;
       cleared = c;
     }
 
@@ -57,12 +57,12 @@ pub density-refused : (rho : List Float) (n : ℕ) (out scratch : List Float) (r
 density-refused rho n out scratch r e h =
     let x = squareRefusal rho n (length out) (length scratch) in
     let m : x .0 ≡ 0 → ⊥ = λ z. h (ap (λ (y : Reply). y .0) e ∙ z) in
-    let s = sym (stays x (densityReply rho n) m) in
+    let s = sym (stays x (densityValuesReply rho n) m) in
     let l = square-small rho n (length out) (length scratch) in
     record { answer = e ∙ sym s; count = rw s (done-old _ _ _ m); values = rw s (end-old _ _ _ _ m l); cleared = rw s (worked-old _ _ _ m l) }
 
 pub density-worked : (rho : List Float) (n : ℕ) (out scratch work : List Float) (r : Kept) (out′ work′ : List Float)
-    → densityAnswer rho n out scratch ≡ densityReply rho n → work ≡ take (2 * (n * n)) scratch → 2 * (n * n) ≤ length scratch
+    → densityValuesAnswer rho n out scratch ≡ densityValuesReply rho n → work ≡ take (2 * (n * n)) scratch → 2 * (n * n) ≤ length scratch
     → DensityWorked rho n out work r out′ work′
     → DensityValues rho n out scratch r out′ (work′ ++ drop (2 * (n * n)) scratch)
 density-worked rho n out scratch work r out′ work′ e g h w =
@@ -74,9 +74,3 @@ density-worked rho n out scratch work r out′ work′ e g h w =
       values = rw e (w .values ∙ end-worked _ _ _ out k);
       cleared = rw e (c ∙ worked-new _ _ scratch k);
     }
-
--- ONE OUTCOME: two ends of a call that both meet the contract are the same
-pub schmidt-values-from-density-one : (rho : List Float) (n : ℕ) (out scratch : List Float) (r r' : Kept) (o o' s s' : List Float)
-    → DensityValues rho n out scratch r o s → DensityValues rho n out scratch r' o' s' → (r ≡ r') × (o ≡ o') × (s ≡ s')
-schmidt-values-from-density-one rho n out scratch r r' o o' s s' x y =
-    (kept-same r r' (paper-one _ _ (x .answer ∙ sym (y .answer))) (x .count ∙ sym (y .count)), x .values ∙ sym (y .values), x .cleared ∙ sym (y .cleared))

@@ -2,7 +2,7 @@
 use mathlib.Core.Path.{_≡_, refl, sym, ap, _∙_}
 use mathlib.Core.Bool.{Bool, true, false, not}
 use mathlib.Core.List.{List, [], _∷_, _++_, append-nil}
-use mathlib.Core.Logic.{_⊎_, inl, inr}
+use mathlib.Core.Logic.{inl}
 use Prim.Native.Nat.{ℕ, suc, _*_, _/_, _≤_, _<_}
 use native.Mathlib.Omega.{arith}
 use borrow.Author.Tests.{lt-ltb, le-ltb, ltb-false, eq-eqb, ne-eqb, eqb-true, not-false}
@@ -13,7 +13,7 @@ use lib.Seq.{take-at, drop-at, length-take-le}
 use Rattle.answers.specs.declared.Answer.{Answer}
 use Rattle.answers.specs.declared.Answer.the-variants.{Done, NotFinite}
 use Rattle.answers.specs.Paper.{Reply, paper, done, refuse}
-use Rattle.answers.proofs.PaperLaws.{refuse-done, stays, paper-one, worked-new, worked-old, end-old, end-worked}
+use Rattle.answers.proofs.PaperLaws.{Ended, refuse-done, stays, nine-ended, worked-new, worked-old, end-old, end-worked}
 use Rattle.numbers.specs.Numbers.{allowed}
 use Rattle.complex.specs.declared.Complex.{Complex}
 use Rattle.complex.specs.Cells.{cellAt, written, components}
@@ -26,9 +26,9 @@ use Rattle.values.specs.Lists.{allFinite}
 use Rattle.svd_sweeps.specs.declared.Sweeps.{Sweeps}
 use Rattle.eigen_pair.specs.CellPlanes.{asPlanes}
 use Rattle.eigen_pair.proofs.CellPlanesLaws.{planes-same}
-use Rattle.eigen_sweeps.specs.Sweeping.{State, state, diagonal, settled}
+use Rattle.eigen_sweeps.specs.Sweeping.{EigenState, eigenState, diagonal, eigenSettled}
 use Rattle.spectra.specs.Eigenvalues.{eigenvalue, eigenvaluesOf, eigenReply, squareRefusal, eigenAnswer}
-use Rattle.spectra.specs.Outcomes.{Given, Worked, Eigenvalues}
+use Rattle.spectra.specs.Outcomes.{Given, SpectrumWorked, Eigenvalues}
 
 -- ---- the refusals
 
@@ -115,13 +115,9 @@ unfolding eigenReply
 reply-9 a n h = rw h
 
 -- it is 0 or 9
-pub reply-worked : (a : List Float) (n : ℕ) → (eigenReply a n .0 ≡ 0) ⊎ (8 ≤ eigenReply a n .0)
+pub reply-worked : (a : List Float) (n : ℕ) → Ended (eigenReply a n .0)
 unfolding eigenReply
-reply-worked a n = pick (allFinite (eigenvaluesOf a n))
-  where
-    pick : (b : Bool) → (refuse (not b) (9, 0) done .0 ≡ 0) ⊎ (8 ≤ refuse (not b) (9, 0) done .0)
-    pick true = inl refl
-    pick false = inr (omega arith)
+reply-worked a n = nine-ended (allFinite (eigenvaluesOf a n)) done (inl refl)
 
 -- ---- the work
 
@@ -132,10 +128,10 @@ loaded c f old {xs} e = ap (λ (l : List Float). planesOf c (cellAt l)) e ∙ pl
 
 -- the matrix was loaded, swept, and its diagonal written
 pub spectrum-made : (a : List Float) (n : ℕ) (old : List Float) {w1 w2 out : List Float} {s : Sweeps}
-    → w1 ≡ planesOf (n * n) (cellAt a) → state w2 s ≡ settled n w1 → out ≡ filled n (diagonal w2 n) old → out ≡ filled n (eigenvalue a n) old
+    → w1 ≡ planesOf (n * n) (cellAt a) → eigenState w2 s ≡ eigenSettled n w1 → out ≡ filled n (diagonal w2 n) old → out ≡ filled n (eigenvalue a n) old
 unfolding eigenvalue
 spectrum-made a n old {w1} {w2} e f g =
-    let h : w2 ≡ settled n (planesOf (n * n) (cellAt a)) .work = ap (λ (x : State). x .work) f ∙ ap (λ (l : List Float). settled n l .work) e in
+    let h : w2 ≡ eigenSettled n (planesOf (n * n) (cellAt a)) .work = ap (λ (x : EigenState). x .work) f ∙ ap (λ (l : List Float). eigenSettled n l .work) e in
     g ∙ ap (λ (l : List Float). filled n (diagonal l n) old) h
 
 -- work that was zeroed whole does not say what it held
@@ -163,12 +159,12 @@ module _ (a : List Float) (n : ℕ) (out scratch mid scratch′ : List Float) (w
   all-is : b ≡ allFinite (eigenvaluesOf a n)
   all-is = rw (written, front-is n (eigenvalue a n) out) at finite
 
-  pub worked-done : b ≡ true → Worked a n out scratch Done mid scratch′
+  pub worked-done : b ≡ true → SpectrumWorked a n out scratch Done mid scratch′
   worked-done t =
       let r = reply-0 a n (sym all-is ∙ t) in
       record { answer = sym r; values = rw r written; cleared = cleared }
 
-  pub worked-infinite : b ≡ false → (end : List Float) → end ≡ zeroed n mid → Worked a n out scratch NotFinite end scratch′
+  pub worked-infinite : b ≡ false → (end : List Float) → end ≡ zeroed n mid → SpectrumWorked a n out scratch NotFinite end scratch′
   unfolding zeroed
   worked-infinite t end e =
       let r = reply-9 a n (sym all-is ∙ t) in
@@ -188,16 +184,10 @@ eigenvalues-refused a n out scratch r e h =
     record { answer = e ∙ sym s; values = rw s (end-old _ _ _ _ m l); cleared = rw s (worked-old _ _ _ m l) }
 
 pub eigenvalues-worked : (a : List Float) (n : ℕ) (out scratch : List Float) (r : Answer) (out′ scratch′ : List Float)
-    → eigenAnswer a n out scratch ≡ eigenReply a n → Worked a n out scratch r out′ scratch′ → Eigenvalues a n out scratch r out′ scratch′
+    → eigenAnswer a n out scratch ≡ eigenReply a n → SpectrumWorked a n out scratch r out′ scratch′ → Eigenvalues a n out scratch r out′ scratch′
 eigenvalues-worked a n out scratch r out′ scratch′ e w =
     record {
       answer = w .answer ∙ sym e;
       values = rw e (w .values ∙ end-worked _ _ _ out (reply-worked a n));
       cleared = rw e (w .cleared ∙ worked-new _ _ scratch (reply-worked a n));
     }
-
--- ONE OUTCOME: two ends of a call that both meet the contract are the same
-pub hermitian-eigenvalues-one : (a : List Float) (n : ℕ) (out scratch : List Float) (r r' : Answer) (o o' s s' : List Float)
-    → Eigenvalues a n out scratch r o s → Eigenvalues a n out scratch r' o' s' → (r ≡ r') × (o ≡ o') × (s ≡ s')
-hermitian-eigenvalues-one a n out scratch r r' o o' s s' x y =
-    (paper-one r r' (x .answer ∙ sym (y .answer)), x .values ∙ sym (y .values), x .cleared ∙ sym (y .cleared))

@@ -16,23 +16,23 @@ abbrev pub densityValues : List Float → ℕ → List Float
 densityValues rho n = weightsFinished (eigenvaluesOf rho n)
 
 -- 8 or 9, as the finish gives them
-abbrev pub densityReply : List Float → ℕ → Reply
-densityReply rho n = weightsReply (eigenvaluesOf rho n)
+abbrev pub densityValuesReply : List Float → ℕ → Reply
+densityValuesReply rho n = weightsReply (eigenvaluesOf rho n)
 
 -- the whole answer
-abbrev pub densityAnswer : List Float → ℕ → List Float → List Float → Reply
-densityAnswer rho n out scratch = andThen (squareRefusal rho n (length out) (length scratch)) (densityReply rho n)
+abbrev pub densityValuesAnswer : List Float → ℕ → List Float → List Float → Reply
+densityValuesAnswer rho n out scratch = andThen (squareRefusal rho n (length out) (length scratch)) (densityValuesReply rho n)
 
 -- of a density that is not refused
 pub record DensityWorked (rho : List Float) (n : ℕ) (out work : List Float) (r : Kept) (out′ work′ : List Float) : Type 0 where
-  pub answer : paper (r .answer) ≡ densityReply rho n
-  pub count : r .count ≡ ifDone (densityReply rho n .0) (length (densityValues rho n)) 0
-  pub values : out′ ≡ ifDone (densityReply rho n .0) (padded n (densityValues rho n) out) (zeroed n out)
+  pub answer : paper (r .answer) ≡ densityValuesReply rho n
+  pub count : r .count ≡ ifDone (densityValuesReply rho n .0) (length (densityValues rho n)) 0
+  pub values : out′ ≡ ifDone (densityValuesReply rho n .0) (padded n (densityValues rho n) out) (zeroed n out)
   pub cleared : work′ ≡ zeroed (2 * (n * n)) work
 
 -- of schmidt_values_from_density
 pub record DensityValues (rho : List Float) (n : ℕ) (out scratch : List Float) (r : Kept) (out′ scratch′ : List Float) : Type 0 where
-  pub answer : paper (r .answer) ≡ densityAnswer rho n out scratch
-  pub count : r .count ≡ ifDone (densityAnswer rho n out scratch .0) (length (densityValues rho n)) 0
-  pub values : out′ ≡ atEnd (densityAnswer rho n out scratch .0) (padded n (densityValues rho n) out) (zeroed n out) out
-  pub cleared : scratch′ ≡ ifWorked (densityAnswer rho n out scratch .0) (zeroed (2 * (n * n)) scratch) scratch
+  pub answer : paper (r .answer) ≡ densityValuesAnswer rho n out scratch
+  pub count : r .count ≡ ifDone (densityValuesAnswer rho n out scratch .0) (length (densityValues rho n)) 0
+  pub values : out′ ≡ atEnd (densityValuesAnswer rho n out scratch .0) (padded n (densityValues rho n) out) (zeroed n out) out
+  pub cleared : scratch′ ≡ ifWorked (densityValuesAnswer rho n out scratch .0) (zeroed (2 * (n * n)) scratch) scratch

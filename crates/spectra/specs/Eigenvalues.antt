@@ -10,11 +10,11 @@ use Rattle.complex.specs.Cells.{cellAt, components}
 use Rattle.svd_load.specs.Numbers.{numbersOf}
 use Rattle.svd_load.specs.Loading.{planesOf}
 use Rattle.values.specs.Lists.{allFinite}
-use Rattle.eigen_sweeps.specs.Sweeping.{diagonal, settled}
+use Rattle.eigen_sweeps.specs.Sweeping.{diagonal, eigenSettled}
 
 -- entry i of the diagonal that the sweeps end with
 unfoldable pub eigenvalue : List Float → ℕ → ℕ → Float
-eigenvalue a n i = diagonal (settled n (planesOf (n * n) (cellAt a)) .work) n i
+eigenvalue a n i = diagonal (eigenSettled n (planesOf (n * n) (cellAt a)) .work) n i
 
 abbrev pub eigenvaluesOf : List Float → ℕ → List Float
 eigenvaluesOf a n = numbersOf n (eigenvalue a n)

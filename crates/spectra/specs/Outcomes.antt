@@ -18,7 +18,7 @@ pub record Given (n a out scratch : ℕ) : Type 0 where
   pub spare : 2 * (n * n) ≤ scratch
 
 -- of a matrix that is not refused
-pub record Worked (a : List Float) (n : ℕ) (out scratch : List Float) (r : Answer) (out′ scratch′ : List Float) : Type 0 where
+pub record SpectrumWorked (a : List Float) (n : ℕ) (out scratch : List Float) (r : Answer) (out′ scratch′ : List Float) : Type 0 where
   pub answer : paper r ≡ eigenReply a n
   pub values : out′ ≡ ifDone (eigenReply a n .0) (filled n (eigenvalue a n) out) (zeroed n out)
   pub cleared : scratch′ ≡ zeroed (2 * (n * n)) scratch

@@ -5,14 +5,14 @@ ghost use mathlib.Core.Path.{_≡_};
 ghost use Prim.Native.Nat.{_*_, _≤_};
 ghost use lib.ListN.{length};
 ghost use Rattle.answers.specs.Paper.{paper};
-ghost use Rattle.eigen_sweeps.specs.Sweeping.{Square, diagonal};
+ghost use Rattle.eigen_sweeps.specs.Sweeping.{SquareRoom, diagonal};
 ghost use Rattle.svd_load.specs.Numbers.{filled};
 ghost use Rattle.svd_load.specs.Loading.{planesOf};
 ghost use Rattle.complex.specs.Cells.{cellAt};
 ghost use Rattle.complex.specs.Zeros.{zeroed};
 ghost use Rattle.eigen_pair.specs.CellPlanes.{asPlanes};
 ghost use Rattle.spectra.specs.Eigenvalues.{eigenvalue, squareRefusal};
-ghost use Rattle.spectra.specs.Outcomes.{Given, Worked, Eigenvalues};
+ghost use Rattle.spectra.specs.Outcomes.{Given, SpectrumWorked, Eigenvalues};
 ghost use Rattle.spectra.specs.Density.{DensityWorked, DensityValues};
 
 // Answers 1, 6 and 7 of a spectrum of a square matrix.
@@ -50,7 +50,7 @@ fn load_cells(a: &[f64], c: usize, work: &mut [f64])
 
 // The real parts of the diagonal, to the front of out.
 fn write_diagonal(work: &[f64], n: usize, out: &mut [f64])
-    requires { ⌜ Square n (length (now work)) × (n ≤ length (now out)) ⌝ }
+    requires { ⌜ SquareRoom n (length (now work)) × (n ≤ length (now out)) ⌝ }
     ensures { λ _. ⌜ now (out .exit) ≡ filled n (diagonal (asPlanes (n * n) (now (work .entry))) n) (now (out .entry)) ⌝ }
 {
     for i in 0..n {
@@ -74,7 +74,7 @@ fn spectrum(a: &[f64], n: usize, out: &mut [f64], work: &mut [f64])
 // The eigenvalues of a matrix that is not refused: 0 or 9.
 fn work_out(a: &[f64], n: usize, out: &mut [f64], scratch: &mut [f64]) -> Answer
     requires { ⌜ Given n (length (now a)) (length (now out)) (length (now scratch)) ⌝ }
-    ensures { λ r. ⌜ Worked (now (a .entry)) n (now (out .entry)) (now (scratch .entry)) r (now (out .exit)) (now (scratch .exit)) ⌝ }
+    ensures { λ r. ⌜ SpectrumWorked (now (a .entry)) n (now (out .entry)) (now (scratch .entry)) r (now (out .exit)) (now (scratch .exit)) ⌝ }
 {
     let need = 2 * (n * n);
     spectrum(a, n, out, &mut scratch[..need]);

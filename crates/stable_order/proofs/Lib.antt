@@ -3,4 +3,4 @@ pub mod Comparing
 pub mod OrderLaws
 pub mod PlacesLaws
 pub mod PushLaws
-pub mod StableLaws
+pub mod Theorems

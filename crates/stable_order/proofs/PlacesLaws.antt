@@ -9,7 +9,7 @@ use lib.Dec.{T, le→leb}
 use lib.ListN.{length, getD, take, drop}
 use lib.Ieee.{Float, nan, binary64, inFloat, inUnsigned}
 use lib.Ieee.Back.{unsigned-back}
-use Rattle.stable_order.specs.Places.{place, placeOf, placesOf, placesIn, Below, Places}
+use Rattle.stable_order.specs.Places.{place, placeIn, placesOf, placesIn, Below, Places}
 
 -- ---- laws
 
@@ -26,7 +26,7 @@ pub small-in : (i : ℕ) → i < 4096 → T (inFloat binary64 (pos i))
 unfolding inFloat
 small-in i h = le→leb i (2 ^ 53) (omega arith)
 
-pub small-back : (i : ℕ) → i < 4096 → T (inUnsigned binary64 64 (place i)) × (placeOf (place i) ≡ i)
+pub small-back : (i : ℕ) → i < 4096 → T (inUnsigned binary64 64 (place i)) × (placeIn (place i) ≡ i)
 small-back i h = unsigned-back binary64 64 i (small-in i h) (omega arith)
 
 pub length-placesOf : (l : List ℕ) → length (placesOf l) ≡ length l
@@ -85,11 +85,11 @@ module _ (n k : ℕ) (l : List Float) (h : k < length l) (m : n ≤ 4096) (p : P
   castable = rw here (small-back (getD (p .places) k 0) (omega (arith, low-here)) .0)
 
   -- and is the place that the list holds there
-  pub read-back : placeOf (getD l k nan) ≡ getD (placesIn l) k 0
+  pub read-back : placeIn (getD l k nan) ≡ getD (placesIn l) k 0
   read-back =
       let q = p .places in
       let e : placesIn l ≡ q = rw (p .are) (places-back n q m (p .low)) in
       rw (here, e) (small-back (getD q k 0) (omega (arith, low-here)) .1)
 
-  pub read-low : placeOf (getD l k nan) < n
+  pub read-low : placeIn (getD l k nan) < n
   read-low = rw (here, small-back (getD (p .places) k 0) (omega (arith, low-here)) .1) low-here

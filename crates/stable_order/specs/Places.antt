@@ -9,8 +9,8 @@ use lib.Ieee.{Float, binary64, ofInt, toUnsigned}
 abbrev pub place : ℕ → Float
 place i = ofInt binary64 (pos i)
 
-abbrev pub placeOf : Float → ℕ
-placeOf x = toUnsigned 64 x
+abbrev pub placeIn : Float → ℕ
+placeIn x = toUnsigned 64 x
 
 -- a list of places as floats, and back
 unfoldable pub placesOf : List ℕ → List Float
@@ -19,7 +19,7 @@ placesOf (i ∷ l) = place i ∷ placesOf l
 
 unfoldable pub placesIn : List Float → List ℕ
 placesIn [] = []
-placesIn (x ∷ l) = placeOf x ∷ placesIn l
+placesIn (x ∷ l) = placeIn x ∷ placesIn l
 
 -- every place of a list is below n
 abbrev pub Below : ℕ → List ℕ → Type 0

@@ -1,2 +1,2 @@
 -- The laws, and what the functions' proofs share.
-pub mod StarredLaws
+pub mod Theorems

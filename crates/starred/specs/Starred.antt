@@ -6,13 +6,13 @@ use lib.Ieee as Ieee
 use lib.Ieee.{Float, binary64, ofBits}
 use lib.ListN.{take}
 use Rattle.complex.specs.Zeros.{zeros}
-use Rattle.qr_passes.specs.GramSchmidt.{factors, factorsOf}
+use Rattle.qr_passes.specs.GramSchmidt.{factors, qrFactors}
 use Rattle.site_ranks.specs.Ranks.{rankOf}
 use Rattle.answers.specs.Paper.{Reply}
 use Rattle.qubits.specs.Lists.{subsystem}
 use Rattle.qubits.specs.Spread.{rowOffsets, tracedBase}
 use Rattle.cuts.specs.Cut.{sourceOf}
-use Rattle.eigen_pair.specs.Decide.{thetaOf, tangentOf}
+use Rattle.eigen_pair.specs.Decide.{thetaOf, eigenTangent}
 
 abbrev to8 : List ℕ
 to8 = 0 ∷ 1 ∷ 2 ∷ 3 ∷ 4 ∷ 5 ∷ 6 ∷ 7 ∷ []
@@ -58,14 +58,14 @@ pub record Starred : Type 0 where
   -- the printed case, n=4, list 0,1: the columns start at 0,4,8,12
   pub starts : map (sourceOf 4 (0 ∷ 1 ∷ [])) (0 ∷ 4 ∷ 8 ∷ 12 ∷ []) ≡ 0 ∷ 4 ∷ 8 ∷ 12 ∷ []
   -- QR of zero 2×2: rank 1, q (1,0), r zero
-  pub qr-zero : factorsOf (zeros 8) 2 2 ≡ factors (float1 ∷ zeros 7) (zeros 8) 1
+  pub qr-zero : qrFactors (zeros 8) 2 2 ≡ factors (float1 ∷ zeros 7) (zeros 8) 1
   -- columns (2,0),(4,0): rank 1, r 2,4
-  pub qr-rank : factorsOf twoColumns 2 2 .rank ≡ 1
-  pub qr-r : take 4 (factorsOf twoColumns 2 2 .r) ≡ float2 ∷ float0 ∷ float4 ∷ float0 ∷ []
+  pub qr-rank : qrFactors twoColumns 2 2 .rank ≡ 1
+  pub qr-r : take 4 (qrFactors twoColumns 2 2 .r) ≡ float2 ∷ float0 ∷ float4 ∷ float0 ∷ []
   -- rank of 1, 0.5, 0.25 with threshold 0.3 and cap 8: 2. Of 0, 0: 1. Any list with cap 0: 0
   pub rank-halves : rankOf (float1 ∷ ofBits binary64 0x3fe0_0000_0000_0000 ∷ ofBits binary64 0x3fd0_0000_0000_0000 ∷ []) threshold 8 ≡ 2
   pub rank-zeros : rankOf (float0 ∷ float0 ∷ []) threshold 8 ≡ 1
   pub rank-capped : (values : List Float) (epsilon : Float) → rankOf values epsilon 0 ≡ 0
   -- eigen pair with diagonal +0.0, -0.0 and off-diagonal 1: theta -0.0, t = -1
   pub eigen-theta : thetaOf float0 (Ieee.neg float0) float1 ≡ Ieee.neg float0
-  pub eigen-tangent : tangentOf (Ieee.neg float0) ≡ Ieee.neg float1
+  pub eigen-tangent : eigenTangent (Ieee.neg float0) ≡ Ieee.neg float1

@@ -1,7 +1,7 @@
--- Laws of the SVD's statements; `svd-one`: only one outcome meets the contract. Assumes nothing.
+-- Laws of the SVD's statements; `svd-jacobi-one`: only one outcome meets the contract. Assumes nothing.
 use mathlib.Core.Path.{_≡_, refl, sym, ap, ap₂, _∙_}
 use mathlib.Core.Bool.{Bool, true, false, not, cond}
-use mathlib.Core.Logic.{_⊎_, inl, inr}
+use mathlib.Core.Logic.{inl}
 use mathlib.Core.List.{List, _++_, append-nil}
 use Prim.Native.Nat.{ℕ, zero, suc, _+_, _*_, _≤_, _<_}
 use native.Mathlib.Nat.{mul-comm, mul-le-mul, mul-le-mul-left, mul-le-mul-right}
@@ -12,7 +12,7 @@ use lib.ListN.{length, drop, drop-of-length-le}
 use lib.Ieee.{Float}
 use Rattle.answers.specs.declared.Answer.{Answer}
 use Rattle.answers.specs.Paper.{Reply, paper, done, refuse, andThen, ifDone, atEnd}
-use Rattle.answers.proofs.PaperLaws.{refuse-done, andThen-done, stays, refuse-small, after-small, paper-one, worked-new, worked-old, end-old}
+use Rattle.answers.proofs.PaperLaws.{refuse-done, andThen-done, stays, refuse-small, after-small, Ended, nine-ended, worked-new, worked-old, end-old}
 use Rattle.complex.specs.Cells.{cellAt, components}
 use Rattle.complex.proofs.CellLaws.{components-small}
 use Rattle.complex.specs.Zeros.{zeros, zeroed}
@@ -20,7 +20,7 @@ use Rattle.svd_load.specs.Loading.{planesOf, conjugateTransposed}
 use Rattle.values.specs.Lists.{allFinite}
 use Rattle.svd_thin.specs.Thin.{Thin, Lent}
 use Rattle.svd_thin.proofs.ThinLaws.{side-fits}
-use Rattle.svd.specs.Svd.{sideOf, rowsOf, needU, needVt, needScratch, sizeTest, lengthTests, tests, workOf, directions, turns, uOf, sOf, vtOf, finiteFactors, endTest, answerOf, Svd, Exact, Factored, Finished, Worked}
+use Rattle.svd.specs.Svd.{sideOf, rowsOf, needU, needVt, svdScratch, svdSizes, svdLengths, svdTests, workOf, directions, vColumns, uOf, sOf, vtOf, finiteFactors, svdEnd, svdAnswer, Svd, SvdExact, SvdFactored, SvdFinished, SvdWorked}
 
 -- ---- the sizes
 
@@ -56,28 +56,28 @@ too-many' m n a b h =
     omega arith
 
 -- a size below 1 is refused, and so is a product above 4096
-pub size-rows : (m n : ℕ) → m < 1 → (1, 0) ≡ sizeTest m n
-unfolding sizeTest
+pub size-rows : (m n : ℕ) → m < 1 → (1, 0) ≡ svdSizes m n
+unfolding svdSizes
 size-rows m n h = rw (lt-leb 1 m h)
 
-pub size-columns : (m n : ℕ) → 1 ≤ m → n < 1 → (1, 0) ≡ sizeTest m n
-unfolding sizeTest
+pub size-columns : (m n : ℕ) → 1 ≤ m → n < 1 → (1, 0) ≡ svdSizes m n
+unfolding svdSizes
 size-columns m n a h = rw (le-leb 1 m a, lt-leb 1 n h)
 
-pub size-cells : (m n : ℕ) → 1 ≤ m → 1 ≤ n → 4096 < m * n → (1, 0) ≡ sizeTest m n
-unfolding sizeTest
+pub size-cells : (m n : ℕ) → 1 ≤ m → 1 ≤ n → 4096 < m * n → (1, 0) ≡ svdSizes m n
+unfolding svdSizes
 size-cells m n a b h = rw (le-leb 1 m a, le-leb 1 n b, lt-ltb 4096 (m * n) h)
 
-pub size-good : (m n : ℕ) → 1 ≤ m → 1 ≤ n → m * n ≤ 4096 → done ≡ sizeTest m n
-unfolding sizeTest
+pub size-good : (m n : ℕ) → 1 ≤ m → 1 ≤ n → m * n ≤ 4096 → done ≡ svdSizes m n
+unfolding svdSizes
 size-good m n a b h = rw (le-leb 1 m a, le-leb 1 n b, le-ltb 4096 (m * n) h)
 
 not-out : (b : Bool) → not b ≡ false → b ≡ true
 not-out true e = refl
 not-out false e = cc
 
-pub size-done : (m n : ℕ) → sizeTest m n .0 ≡ 0 → (1 ≤ m) × (1 ≤ n) × (m * n ≤ 4096)
-unfolding sizeTest
+pub size-done : (m n : ℕ) → svdSizes m n .0 ≡ 0 → (1 ≤ m) × (1 ≤ n) × (m * n ≤ 4096)
+unfolding svdSizes
 size-done m n e =
     let a = refuse-done (not (leb 1 m)) 0 0 _ e in
     let b = refuse-done (not (leb 1 n)) 0 0 _ (a .1) in
@@ -94,13 +94,13 @@ side-cells m n k e =
     (mul-le-mul-left m b, mul-le-mul-right n a, omega (arith, side-fits k))
 
 module _ (m n a u s vt scratch : ℕ) {k : ℕ} (e : k ≡ sideOf m n) where
-  pub lengths-0 : (a ≡ 2 * (m * n) → ⊥) → (6, 0) ≡ lengthTests m n a u s vt scratch
-  unfolding lengthTests
+  pub lengths-0 : (a ≡ 2 * (m * n) → ⊥) → (6, 0) ≡ svdLengths m n a u s vt scratch
+  unfolding svdLengths
   lengths-0 h = rw (ne-eqb a (2 * (m * n)) h)
 
   module _ (ea : a ≡ 2 * (m * n)) where
-    pub lengths-1 : u < 2 * (m * k) → (6, 1) ≡ lengthTests m n a u s vt scratch
-    unfolding lengthTests
+    pub lengths-1 : u < 2 * (m * k) → (6, 1) ≡ svdLengths m n a u s vt scratch
+    unfolding svdLengths
     lengths-1 h =
         let g : u < needU m n = rw e at h in
         rw (eq-eqb a (2 * (m * n)) ea, lt-ltb u (needU m n) g)
@@ -109,8 +109,8 @@ module _ (m n a u s vt scratch : ℕ) {k : ℕ} (e : k ≡ sideOf m n) where
       gu : needU m n ≤ u
       gu = rw e at hu
 
-      pub lengths-2 : s < k → (6, 2) ≡ lengthTests m n a u s vt scratch
-      unfolding lengthTests
+      pub lengths-2 : s < k → (6, 2) ≡ svdLengths m n a u s vt scratch
+      unfolding svdLengths
       lengths-2 h =
           let g : s < sideOf m n = rw e at h in
           rw (eq-eqb a (2 * (m * n)) ea, le-ltb u (needU m n) gu, lt-ltb s (sideOf m n) g)
@@ -119,8 +119,8 @@ module _ (m n a u s vt scratch : ℕ) {k : ℕ} (e : k ≡ sideOf m n) where
         gs : sideOf m n ≤ s
         gs = rw e at hs
 
-        pub lengths-3 : vt < 2 * (k * n) → (6, 3) ≡ lengthTests m n a u s vt scratch
-        unfolding lengthTests
+        pub lengths-3 : vt < 2 * (k * n) → (6, 3) ≡ svdLengths m n a u s vt scratch
+        unfolding svdLengths
         lengths-3 h =
             let g : vt < needVt m n = rw e at h in
             rw (eq-eqb a (2 * (m * n)) ea, le-ltb u (needU m n) gu, le-ltb s (sideOf m n) gs, lt-ltb vt (needVt m n) g)
@@ -129,33 +129,33 @@ module _ (m n a u s vt scratch : ℕ) {k : ℕ} (e : k ≡ sideOf m n) where
           gv : needVt m n ≤ vt
           gv = rw e at hv
 
-          pub lengths-4 : scratch < 6 * (m * n) + 2 * k → (6, 4) ≡ lengthTests m n a u s vt scratch
-          unfolding lengthTests
+          pub lengths-4 : scratch < 6 * (m * n) + 2 * k → (6, 4) ≡ svdLengths m n a u s vt scratch
+          unfolding svdLengths
           lengths-4 h =
-              let g : scratch < needScratch m n = rw e at h in
+              let g : scratch < svdScratch m n = rw e at h in
               rw (
                 eq-eqb a (2 * (m * n)) ea,
                 le-ltb u (needU m n) gu,
                 le-ltb s (sideOf m n) gs,
                 le-ltb vt (needVt m n) gv,
-                lt-ltb scratch (needScratch m n) g,
+                lt-ltb scratch (svdScratch m n) g,
               )
 
-          pub lengths-good : 6 * (m * n) + 2 * k ≤ scratch → done ≡ lengthTests m n a u s vt scratch
-          unfolding lengthTests
+          pub lengths-good : 6 * (m * n) + 2 * k ≤ scratch → done ≡ svdLengths m n a u s vt scratch
+          unfolding svdLengths
           lengths-good h =
-              let g : needScratch m n ≤ scratch = rw e at h in
+              let g : svdScratch m n ≤ scratch = rw e at h in
               rw (
                 eq-eqb a (2 * (m * n)) ea,
                 le-ltb u (needU m n) gu,
                 le-ltb s (sideOf m n) gs,
                 le-ltb vt (needVt m n) gv,
-                le-ltb scratch (needScratch m n) g,
+                le-ltb scratch (svdScratch m n) g,
               )
 
 -- ---- the tests of an accepted call
 
-pub record Accepted (m n a u s vt scratch : ℕ) : Type 0 where
+pub record SvdAccepted (m n a u s vt scratch : ℕ) : Type 0 where
   pub rows : 1 ≤ m
   pub columns : 1 ≤ n
   pub cells : m * n ≤ 4096
@@ -163,19 +163,19 @@ pub record Accepted (m n a u s vt scratch : ℕ) : Type 0 where
   pub u-fits : needU m n ≤ u
   pub s-fits : sideOf m n ≤ s
   pub vt-fits : needVt m n ≤ vt
-  pub scratch-fits : needScratch m n ≤ scratch
+  pub scratch-fits : svdScratch m n ≤ scratch
 
-pub accepted : (a : List Float) (m n u s vt scratch : ℕ) → tests a m n u s vt scratch .0 ≡ 0 → Accepted m n (length a) u s vt scratch
-unfolding tests lengthTests
+pub accepted : (a : List Float) (m n u s vt scratch : ℕ) → svdTests a m n u s vt scratch .0 ≡ 0 → SvdAccepted m n (length a) u s vt scratch
+unfolding svdTests svdLengths
 accepted a m n u s vt scratch e =
-    let first = andThen-done (sizeTest m n) _ e in
+    let first = andThen-done (svdSizes m n) _ e in
     let z = size-done m n (first .0) in
-    let second = andThen-done (lengthTests m n (length a) u s vt scratch) (components 0 a) (first .1) in
+    let second = andThen-done (svdLengths m n (length a) u s vt scratch) (components 0 a) (first .1) in
     let t0 = refuse-done (not (eqb (length a) (2 * (m * n)))) 5 0 _ (second .0) in
     let t1 = refuse-done (ltb u (needU m n)) 5 1 _ (t0 .1) in
     let t2 = refuse-done (ltb s (sideOf m n)) 5 2 _ (t1 .1) in
     let t3 = refuse-done (ltb vt (needVt m n)) 5 3 _ (t2 .1) in
-    let t4 = refuse-done (ltb scratch (needScratch m n)) 5 4 _ (t3 .1) in
+    let t4 = refuse-done (ltb scratch (svdScratch m n)) 5 4 _ (t3 .1) in
     record {
       rows = z .0;
       columns = z .1;
@@ -184,7 +184,7 @@ accepted a m n u s vt scratch e =
       u-fits = ltb-false u (needU m n) (t1 .0);
       s-fits = ltb-false s (sideOf m n) (t2 .0);
       vt-fits = ltb-false vt (needVt m n) (t3 .0);
-      scratch-fits = ltb-false scratch (needScratch m n) (t4 .0);
+      scratch-fits = ltb-false scratch (svdScratch m n) (t4 .0);
     }
 
 -- ---- the factors
@@ -202,7 +202,7 @@ root n m h c = pick (leb n 64) refl
         absurd (omega arith)
 
 -- the lengths that the work on a wide matrix asks, and those of a tall one
-pub wide-lent : (m n a u s vt scratch scratch' : ℕ) → m < n → Exact m n a u s vt scratch → scratch' ≡ scratch → Lent n m s u scratch' × (vt ≡ 2 * (m * n))
+pub wide-lent : (m n a u s vt scratch scratch' : ℕ) → m < n → SvdExact m n a u s vt scratch → scratch' ≡ scratch → Lent n m s u scratch' × (vt ≡ 2 * (m * n))
 wide-lent m n a u s vt scratch scratch' h e i =
     let k : sideOf m n ≡ m = side-wide m n h .0 in
     let l : m ≤ n = omega arith in
@@ -213,7 +213,7 @@ wide-lent m n a u s vt scratch scratch' h e i =
     let lt : scratch' ≡ 6 * (m * n) + 2 * m = i ∙ rw k at (e .scratch-is) in
     (record { tall = omega arith; columns = sq; cells = e .cells; s-is = ls; other-is = lu; scratch-is = lt }, lv)
 
-pub tall-lent : (m n a u s vt scratch scratch' : ℕ) → n ≤ m → Exact m n a u s vt scratch → scratch' ≡ scratch → Lent m n s vt scratch' × (u ≡ 2 * (n * m))
+pub tall-lent : (m n a u s vt scratch scratch' : ℕ) → n ≤ m → SvdExact m n a u s vt scratch → scratch' ≡ scratch → Lent m n s vt scratch' × (u ≡ 2 * (n * m))
 tall-lent m n a u s vt scratch scratch' h e i =
     let k : sideOf m n ≡ n = side-tall m n h .0 in
     let c : m * n ≡ n * m = mul-comm m n in
@@ -225,8 +225,8 @@ tall-lent m n a u s vt scratch scratch' h e i =
     (record { tall = h; columns = root n m h d; cells = d; s-is = ls; other-is = lv; scratch-is = lt }, lu)
 
 pub wide-made : (a : List Float) (m n : ℕ) {work main s other : List Float} → m < n → work ≡ planesOf (m * n) (conjugateTransposed a m n)
-    → Thin n m true work main s other → Factored a m n other s main
-unfolding uOf sOf vtOf directions turns workOf
+    → Thin n m true work main s other → SvdFactored a m n other s main
+unfolding uOf sOf vtOf directions vColumns workOf
 wide-made a m n h e t =
     let k = side-wide m n h in
     record {
@@ -236,8 +236,8 @@ wide-made a m n h e t =
     }
 
 pub tall-made : (a : List Float) (m n : ℕ) {work main s other : List Float} → n ≤ m → work ≡ planesOf (n * m) (cellAt a)
-    → Thin m n false work main s other → Factored a m n main s other
-unfolding uOf sOf vtOf directions turns workOf
+    → Thin m n false work main s other → SvdFactored a m n main s other
+unfolding uOf sOf vtOf directions vColumns workOf
 tall-made a m n h e t =
     let k = side-tall m n h in
     record {
@@ -267,22 +267,22 @@ zeroed-all l =
     rw (drop-of-length-le l e, append-nil)
 
 -- all finite, or not
-pub finished-good : (u s vt : List Float) (r : Answer) → paper r ≡ done → finiteFactors u s vt ≡ true → Finished u s vt r u s vt
-unfolding endTest
+pub finished-good : (u s vt : List Float) (r : Answer) → paper r ≡ done → finiteFactors u s vt ≡ true → SvdFinished u s vt r u s vt
+unfolding svdEnd
 finished-good u s vt r e h =
     record { answer = e ∙ rw h; u-is = rw e; s-is = rw e; vt-is = rw e }
 
 pub finished-bad : (u s vt : List Float) (r : Answer) {u' s' vt' : List Float} → paper r ≡ (9, 0) → finiteFactors u s vt ≡ false
-    → u' ≡ zeroed (length u) u → s' ≡ zeroed (length s) s → vt' ≡ zeroed (length vt) vt → Finished u s vt r u' s' vt'
-unfolding endTest
+    → u' ≡ zeroed (length u) u → s' ≡ zeroed (length s) s → vt' ≡ zeroed (length vt) vt → SvdFinished u s vt r u' s' vt'
+unfolding svdEnd
 finished-bad u s vt r e h eu es ev =
     record { answer = e ∙ rw h; u-is = rw e (eu ∙ zeroed-all u); s-is = rw e (es ∙ zeroed-all s); vt-is = rw e (ev ∙ zeroed-all vt) }
 
 pub worked : (a : List Float) (m n la : ℕ) (u₀ s₀ vt₀ scratch₀ scratch : List Float) {u s vt u' s' vt' scratch' : List Float} (r : Answer)
-    → Exact m n la (length u₀) (length s₀) (length vt₀) (length scratch₀)
+    → SvdExact m n la (length u₀) (length s₀) (length vt₀) (length scratch₀)
     → length u ≡ length u₀ → length s ≡ length s₀ → length vt ≡ length vt₀
-    → Factored a m n u s vt → (k : ℕ) → k ≡ length scratch₀ → length scratch ≡ length scratch₀ → scratch' ≡ zeroed k scratch → Finished u s vt r u' s' vt'
-    → Worked a m n r u' s' vt' scratch'
+    → SvdFactored a m n u s vt → (k : ℕ) → k ≡ length scratch₀ → length scratch ≡ length scratch₀ → scratch' ≡ zeroed k scratch → SvdFinished u s vt r u' s' vt'
+    → SvdWorked a m n r u' s' vt' scratch'
 unfolding zeroed
 worked a m n la u₀ s₀ vt₀ scratch₀ scratch {u} {s} {vt} {u'} {s'} {vt'} {scratch'} r e lu ls lv f k ek lt z g =
     let l : length scratch ≤ k = omega arith in
@@ -295,21 +295,17 @@ worked a m n la u₀ s₀ vt₀ scratch₀ scratch {u} {s} {vt} {u'} {s'} {vt'} 
     }
 
 -- 0 or 9
-end-number : (u s vt : List Float) → (endTest u s vt .0 ≡ 0) ⊎ (8 ≤ endTest u s vt .0)
-unfolding endTest
-end-number u s vt = pick (finiteFactors u s vt)
-  where
-    pick : (b : Bool) → (refuse (not b) (9, 0) done .0 ≡ 0) ⊎ (8 ≤ refuse (not b) (9, 0) done .0)
-    pick true = inl refl
-    pick false = inr (omega arith)
+end-number : (u s vt : List Float) → Ended (svdEnd u s vt .0)
+unfolding svdEnd
+end-number u s vt = nine-ended (finiteFactors u s vt) done (inl refl)
 
-pub join-end : (x : ℕ) (new cleared rest old : List Float) → (x ≡ 0) ⊎ (8 ≤ x) → ifDone x new cleared ++ rest ≡ atEnd x (new ++ rest) (cleared ++ rest) old
+pub join-end : (x : ℕ) (new cleared rest old : List Float) → Ended x → ifDone x new cleared ++ rest ≡ atEnd x (new ++ rest) (cleared ++ rest) old
 join-end zero new cleared rest old h = refl
 join-end (suc x) new cleared rest old h = worked-new (suc x) (cleared ++ rest) old h
 
 -- no refusal before the work has a number from 8 on
-size-small : (m n : ℕ) → sizeTest m n .0 < 8
-unfolding sizeTest
+size-small : (m n : ℕ) → svdSizes m n .0 < 8
+unfolding svdSizes
 size-small m n =
     let one : 1 < 8 = omega arith in
     refuse-small (not (leb 1 m)) 1 0 (refuse (not (leb 1 n)) (1, 0) (refuse (ltb 4096 (m * n)) (1, 0) done)) one
@@ -328,44 +324,44 @@ row-small false false false true t4 = omega arith
 row-small false false false false true = omega arith
 row-small false false false false false = omega arith
 
-lengths-small : (m n a u s vt scratch : ℕ) → lengthTests m n a u s vt scratch .0 < 8
-unfolding lengthTests row
+lengths-small : (m n a u s vt scratch : ℕ) → svdLengths m n a u s vt scratch .0 < 8
+unfolding svdLengths row
 lengths-small m n a u s vt scratch =
-    row-small (not (eqb a (2 * (m * n)))) (ltb u (needU m n)) (ltb s (sideOf m n)) (ltb vt (needVt m n)) (ltb scratch (needScratch m n))
+    row-small (not (eqb a (2 * (m * n)))) (ltb u (needU m n)) (ltb s (sideOf m n)) (ltb vt (needVt m n)) (ltb scratch (svdScratch m n))
 
-tests-small : (a : List Float) (m n u s vt scratch : ℕ) → tests a m n u s vt scratch .0 < 8
-unfolding tests
+tests-small : (a : List Float) (m n u s vt scratch : ℕ) → svdTests a m n u s vt scratch .0 < 8
+unfolding svdTests
 tests-small a m n u s vt scratch =
-    let l = lengthTests m n (length a) u s vt scratch in
-    after-small (sizeTest m n .0) (sizeTest m n) (andThen l (components 0 a)) (size-small m n)
+    let l = svdLengths m n (length a) u s vt scratch in
+    after-small (svdSizes m n .0) (svdSizes m n) (andThen l (components 0 a)) (size-small m n)
     (after-small (l .0) l (components 0 a) (lengths-small m n (length a) u s vt scratch) (components-small 0 a))
 
 -- an accepted call, and a refused one
 pub svd-worked : (a : List Float) (m n : ℕ) (u s vt scratch : List Float) (r : Answer) {u' s' vt' scratch' : List Float} {k : ℕ}
     → k ≡ sideOf m n
-    → andThen (tests a m n (length u) (length s) (length vt) (length scratch)) (endTest (uOf a m n) (sOf a m n) (vtOf a m n))
-    ≡ endTest (uOf a m n) (sOf a m n) (vtOf a m n)
-    → Worked a m n r u' s' vt' scratch'
+    → andThen (svdTests a m n (length u) (length s) (length vt) (length scratch)) (svdEnd (uOf a m n) (sOf a m n) (vtOf a m n))
+    ≡ svdEnd (uOf a m n) (sOf a m n) (vtOf a m n)
+    → SvdWorked a m n r u' s' vt' scratch'
     → Svd a m n u s vt scratch r (u' ++ drop (2 * (m * k)) u) (s' ++ drop k s) (vt' ++ drop (2 * (k * n)) vt) (scratch' ++ drop (6 * (m * n) + 2 * k) scratch)
-unfolding answerOf zeroed
+unfolding svdAnswer zeroed
 svd-worked a m n u s vt scratch r i e w =
-    let p : (paper r .0 ≡ 0) ⊎ (8 ≤ paper r .0) = rw (w .answer) (end-number (uOf a m n) (sOf a m n) (vtOf a m n)) in
+    let p : Ended (paper r .0) = rw (w .answer) (end-number (uOf a m n) (sOf a m n) (vtOf a m n)) in
     record {
       answer = w .answer ∙ sym e;
       u-is = rw (i, w .u-is) (join-end (paper r .0) (uOf a m n) (zeros (needU m n)) (drop (needU m n) u) u p);
       s-is = rw (i, w .s-is) (join-end (paper r .0) (sOf a m n) (zeros (sideOf m n)) (drop (sideOf m n) s) s p);
       vt-is = rw (i, w .vt-is) (join-end (paper r .0) (vtOf a m n) (zeros (needVt m n)) (drop (needVt m n) vt) vt p);
-      scratch-is = rw (i, w .scratch-is) (worked-new (paper r .0) (zeros (needScratch m n) ++ drop (needScratch m n) scratch) scratch p);
+      scratch-is = rw (i, w .scratch-is) (worked-new (paper r .0) (zeros (svdScratch m n) ++ drop (svdScratch m n) scratch) scratch p);
     }
 
 pub svd-refused : (a : List Float) (m n : ℕ) (u s vt scratch : List Float) (r : Answer)
-    → paper r ≡ tests a m n (length u) (length s) (length vt) (length scratch) → (paper r .0 ≡ 0 → ⊥)
+    → paper r ≡ svdTests a m n (length u) (length s) (length vt) (length scratch) → (paper r .0 ≡ 0 → ⊥)
     → Svd a m n u s vt scratch r u s vt scratch
-unfolding answerOf
+unfolding svdAnswer
 svd-refused a m n u s vt scratch r e h =
     let b : paper r .0 < 8 = rw e (tests-small a m n (length u) (length s) (length vt) (length scratch)) in
     record {
-      answer = stays (paper r) (endTest (uOf a m n) (sOf a m n) (vtOf a m n)) h ∙ ap (λ (x : Reply). andThen x (endTest (uOf a m n) (sOf a m n) (vtOf a m n))) e;
+      answer = stays (paper r) (svdEnd (uOf a m n) (sOf a m n) (vtOf a m n)) h ∙ ap (λ (x : Reply). andThen x (svdEnd (uOf a m n) (sOf a m n) (vtOf a m n))) e;
       u-is = end-old (paper r .0) _ _ u h b;
       s-is = end-old (paper r .0) _ _ s h b;
       vt-is = end-old (paper r .0) _ _ vt h b;
@@ -373,15 +369,3 @@ svd-refused a m n u s vt scratch r e h =
     }
 
 -- ---- only one outcome
-
-pub svd-one : (a : List Float) (m n : ℕ) (u s vt scratch : List Float) (r q : Answer) (u' s' vt' scratch' u″ s″ vt″ scratch″ : List Float)
-    → Svd a m n u s vt scratch r u' s' vt' scratch' → Svd a m n u s vt scratch q u″ s″ vt″ scratch″
-    → (r ≡ q) × (u' ≡ u″) × (s' ≡ s″) × (vt' ≡ vt″) × (scratch' ≡ scratch″)
-svd-one a m n u s vt scratch r q u' s' vt' scratch' u″ s″ vt″ scratch″ x y =
-    let e : r ≡ q = paper-one r q (x .answer ∙ sym (y .answer)) in (
-      e,
-      x .u-is ∙ rw e (sym (y .u-is)),
-      x .s-is ∙ rw e (sym (y .s-is)),
-      x .vt-is ∙ rw e (sym (y .vt-is)),
-      x .scratch-is ∙ rw e (sym (y .scratch-is)),
-    )

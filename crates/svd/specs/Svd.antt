@@ -11,7 +11,7 @@ use Rattle.answers.specs.Paper.{Reply, paper, done, refuse, andThen, ifDone, if
 use Rattle.complex.specs.Cells.{cellAt, components}
 use Rattle.complex.specs.Zeros.{zeros, zeroed}
 use Rattle.svd_load.specs.Loading.{planesOf, conjugateTransposed}
-use Rattle.svd_columns.specs.Columns.{directionsOf, turnsOf}
+use Rattle.svd_columns.specs.Columns.{directionsOf, vColumnsOf}
 use Rattle.values.specs.Lists.{allFinite}
 use Rattle.svd_thin.specs.Thin.{swept, orderOf, valuesOf}
 
@@ -31,24 +31,24 @@ needU m n = 2 * (m * sideOf m n)
 abbrev pub needVt : ℕ → ℕ → ℕ
 needVt m n = 2 * (sideOf m n * n)
 
-abbrev pub needScratch : ℕ → ℕ → ℕ
-needScratch m n = 6 * (m * n) + 2 * sideOf m n
+abbrev pub svdScratch : ℕ → ℕ → ℕ
+svdScratch m n = 6 * (m * n) + 2 * sideOf m n
 
 -- ---- the refusals, in the paper's order
 
-unfoldable pub sizeTest : ℕ → ℕ → Reply
-sizeTest m n = refuse (not (leb 1 m)) (1, 0) (refuse (not (leb 1 n)) (1, 0) (refuse (ltb 4096 (m * n)) (1, 0) done))
+unfoldable pub svdSizes : ℕ → ℕ → Reply
+svdSizes m n = refuse (not (leb 1 m)) (1, 0) (refuse (not (leb 1 n)) (1, 0) (refuse (ltb 4096 (m * n)) (1, 0) done))
 
-unfoldable pub lengthTests : ℕ → ℕ → ℕ → ℕ → ℕ → ℕ → ℕ → Reply
-lengthTests m n a u s vt scratch =
+unfoldable pub svdLengths : ℕ → ℕ → ℕ → ℕ → ℕ → ℕ → ℕ → Reply
+svdLengths m n a u s vt scratch =
     refuse (not (eqb a (2 * (m * n)))) (6, 0)
     (refuse (ltb u (needU m n)) (6, 1)
     (refuse (ltb s (sideOf m n)) (6, 2)
     (refuse (ltb vt (needVt m n)) (6, 3)
-    (refuse (ltb scratch (needScratch m n)) (6, 4) done))))
+    (refuse (ltb scratch (svdScratch m n)) (6, 4) done))))
 
-unfoldable pub tests : List Float → ℕ → ℕ → ℕ → ℕ → ℕ → ℕ → Reply
-tests a m n u s vt scratch = andThen (sizeTest m n) (andThen (lengthTests m n (length a) u s vt scratch) (components 0 a))
+unfoldable pub svdTests : List Float → ℕ → ℕ → ℕ → ℕ → ℕ → ℕ → Reply
+svdTests a m n u s vt scratch = andThen (svdSizes m n) (andThen (svdLengths m n (length a) u s vt scratch) (components 0 a))
 
 -- ---- the factors
 
@@ -63,19 +63,19 @@ directions a m n =
     directionsOf t (valuesOf (rowsOf m n) (sideOf m n) t) (orderOf (rowsOf m n) (sideOf m n) t) (rowsOf m n) (sideOf m n) (ltb m n)
 
 -- V after the sweeps, conjugated and in order
-unfoldable pub turns : List Float → ℕ → ℕ → List Float
-turns a m n =
+unfoldable pub vColumns : List Float → ℕ → ℕ → List Float
+vColumns a m n =
     let t = swept (rowsOf m n) (sideOf m n) (workOf a m n) in
-    turnsOf (t .v) (orderOf (rowsOf m n) (sideOf m n) (t .work)) (sideOf m n) (ltb m n)
+    vColumnsOf (t .v) (orderOf (rowsOf m n) (sideOf m n) (t .work)) (sideOf m n) (ltb m n)
 
 unfoldable pub uOf : List Float → ℕ → ℕ → List Float
-uOf a m n = cond (ltb m n) (turns a m n) (directions a m n)
+uOf a m n = cond (ltb m n) (vColumns a m n) (directions a m n)
 
 unfoldable pub sOf : List Float → ℕ → ℕ → List Float
 sOf a m n = valuesOf (rowsOf m n) (sideOf m n) (swept (rowsOf m n) (sideOf m n) (workOf a m n) .work)
 
 unfoldable pub vtOf : List Float → ℕ → ℕ → List Float
-vtOf a m n = cond (ltb m n) (directions a m n) (turns a m n)
+vtOf a m n = cond (ltb m n) (directions a m n) (vColumns a m n)
 
 -- ---- the answer
 
@@ -83,24 +83,24 @@ unfoldable pub finiteFactors : List Float → List Float → List Float → Bool
 finiteFactors u s vt = allFinite u && (allFinite s && allFinite vt)
 
 -- 9 where a number of a factor is not finite
-unfoldable pub endTest : List Float → List Float → List Float → Reply
-endTest u s vt = refuse (not (finiteFactors u s vt)) (9, 0) done
+unfoldable pub svdEnd : List Float → List Float → List Float → Reply
+svdEnd u s vt = refuse (not (finiteFactors u s vt)) (9, 0) done
 
-unfoldable pub answerOf : List Float → ℕ → ℕ → ℕ → ℕ → ℕ → ℕ → Reply
-answerOf a m n u s vt scratch = andThen (tests a m n u s vt scratch) (endTest (uOf a m n) (sOf a m n) (vtOf a m n))
+unfoldable pub svdAnswer : List Float → ℕ → ℕ → ℕ → ℕ → ℕ → ℕ → Reply
+svdAnswer a m n u s vt scratch = andThen (svdTests a m n u s vt scratch) (svdEnd (uOf a m n) (sOf a m n) (vtOf a m n))
 
 -- the answer, and what u, s, vt and scratch hold at the end
 pub record Svd (a : List Float) (m n : ℕ) (u s vt scratch : List Float) (r : Answer) (u' s' vt' scratch' : List Float) : Type 0 where
-  pub answer : paper r ≡ answerOf a m n (length u) (length s) (length vt) (length scratch)
+  pub answer : paper r ≡ svdAnswer a m n (length u) (length s) (length vt) (length scratch)
   pub u-is : u' ≡ atEnd (paper r .0) (uOf a m n ++ drop (needU m n) u) (zeroed (needU m n) u) u
   pub s-is : s' ≡ atEnd (paper r .0) (sOf a m n ++ drop (sideOf m n) s) (zeroed (sideOf m n) s) s
   pub vt-is : vt' ≡ atEnd (paper r .0) (vtOf a m n ++ drop (needVt m n) vt) (zeroed (needVt m n) vt) vt
-  pub scratch-is : scratch' ≡ ifWorked (paper r .0) (zeroed (needScratch m n) scratch) scratch
+  pub scratch-is : scratch' ≡ ifWorked (paper r .0) (zeroed (svdScratch m n) scratch) scratch
 
 -- ---- the steps
 
 -- the sizes and lengths of an accepted call, over slices of exactly the needed lengths
-pub record Exact (m n a u s vt scratch : ℕ) : Type 0 where
+pub record SvdExact (m n a u s vt scratch : ℕ) : Type 0 where
   pub rows : 1 ≤ m
   pub columns : 1 ≤ n
   pub cells : m * n ≤ 4096
@@ -108,22 +108,22 @@ pub record Exact (m n a u s vt scratch : ℕ) : Type 0 where
   pub u-is : u ≡ needU m n
   pub s-is : s ≡ sideOf m n
   pub vt-is : vt ≡ needVt m n
-  pub scratch-is : scratch ≡ needScratch m n
+  pub scratch-is : scratch ≡ svdScratch m n
 
-pub record Factored (a : List Float) (m n : ℕ) (u s vt : List Float) : Type 0 where
+pub record SvdFactored (a : List Float) (m n : ℕ) (u s vt : List Float) : Type 0 where
   pub u-is : u ≡ uOf a m n
   pub s-is : s ≡ sOf a m n
   pub vt-is : vt ≡ vtOf a m n
 
-pub record Finished (u s vt : List Float) (r : Answer) (u' s' vt' : List Float) : Type 0 where
-  pub answer : paper r ≡ endTest u s vt
+pub record SvdFinished (u s vt : List Float) (r : Answer) (u' s' vt' : List Float) : Type 0 where
+  pub answer : paper r ≡ svdEnd u s vt
   pub u-is : u' ≡ ifDone (paper r .0) u (zeros (length u))
   pub s-is : s' ≡ ifDone (paper r .0) s (zeros (length s))
   pub vt-is : vt' ≡ ifDone (paper r .0) vt (zeros (length vt))
 
-pub record Worked (a : List Float) (m n : ℕ) (r : Answer) (u s vt scratch : List Float) : Type 0 where
-  pub answer : paper r ≡ endTest (uOf a m n) (sOf a m n) (vtOf a m n)
+pub record SvdWorked (a : List Float) (m n : ℕ) (r : Answer) (u s vt scratch : List Float) : Type 0 where
+  pub answer : paper r ≡ svdEnd (uOf a m n) (sOf a m n) (vtOf a m n)
   pub u-is : u ≡ ifDone (paper r .0) (uOf a m n) (zeros (needU m n))
   pub s-is : s ≡ ifDone (paper r .0) (sOf a m n) (zeros (sideOf m n))
   pub vt-is : vt ≡ ifDone (paper r .0) (vtOf a m n) (zeros (needVt m n))
-  pub scratch-is : scratch ≡ zeros (needScratch m n)
+  pub scratch-is : scratch ≡ zeros (svdScratch m n)

@@ -5,7 +5,7 @@ ghost use mathlib.Core.Path.{_≡_};
 ghost use Prim.Native.Nat.{_*_, _≤_};
 ghost use lib.ListN.{length};
 ghost use Rattle.answers.specs.Paper.{paper};
-ghost use Rattle.svd.specs.Svd.{sideOf, sizeTest, lengthTests, tests, finiteFactors, Exact, Factored, Finished, Worked, Svd};
+ghost use Rattle.svd.specs.Svd.{sideOf, svdSizes, svdLengths, svdTests, finiteFactors, SvdExact, SvdFactored, SvdFinished, SvdWorked, Svd};
 
 // The smaller of the two sizes: how many values there are.
 pub fn smaller_size(m: usize, n: usize) -> usize
@@ -19,7 +19,7 @@ pub fn smaller_size(m: usize, n: usize) -> usize
 
 // Both sizes at least 1, and at most 4096 cells: else 1.
 fn check_sizes(m: usize, n: usize) -> Answer
-    ensures { λ r. ⌜ paper r ≡ sizeTest m n ⌝ }
+    ensures { λ r. ⌜ paper r ≡ svdSizes m n ⌝ }
 {
     if m < 1 {
         return Answer::Size;
@@ -50,7 +50,7 @@ fn check_lengths(
     scratch: usize,
 ) -> Answer
     requires { ⌜ m * n ≤ 4096 ⌝ }
-    ensures { λ r. ⌜ paper r ≡ lengthTests m n a u s vt scratch ⌝ }
+    ensures { λ r. ⌜ paper r ≡ svdLengths m n a u s vt scratch ⌝ }
 {
     let k = smaller_size(m, n);
     if a != 2 * (m * n) {
@@ -73,7 +73,7 @@ fn check_lengths(
 
 // Every refusal that comes before the work.
 fn check(a: &[f64], m: usize, n: usize, u: usize, s: usize, vt: usize, scratch: usize) -> Answer
-    ensures { λ r. ⌜ paper r ≡ tests (now (a .entry)) m n u s vt scratch ⌝ }
+    ensures { λ r. ⌜ paper r ≡ svdTests (now (a .entry)) m n u s vt scratch ⌝ }
 {
     let first = check_sizes(m, n);
     let Answer::Done = first else {
@@ -97,8 +97,8 @@ fn factor(
     vt: &mut [f64],
     scratch: &mut [f64],
 )
-    requires { ⌜ Exact m n (length (now a)) (length (now u)) (length (now s)) (length (now vt)) (length (now scratch)) ⌝ }
-    ensures { λ _. ⌜ Factored (now (a .entry)) m n (now (u .exit)) (now (s .exit)) (now (vt .exit)) ⌝ }
+    requires { ⌜ SvdExact m n (length (now a)) (length (now u)) (length (now s)) (length (now vt)) (length (now scratch)) ⌝ }
+    ensures { λ _. ⌜ SvdFactored (now (a .entry)) m n (now (u .exit)) (now (s .exit)) (now (vt .exit)) ⌝ }
 {
     if m < n {
         let w = 2 * (m * n);
@@ -127,7 +127,7 @@ fn finite_factors(u: &[f64], s: &[f64], vt: &[f64]) -> bool
 
 // 9 where a number of a factor is not finite, and then all three are +0.0.
 fn finish(u: &mut [f64], s: &mut [f64], vt: &mut [f64]) -> Answer
-    ensures { λ r. ⌜ Finished (now (u .entry)) (now (s .entry)) (now (vt .entry)) r (now (u .exit)) (now (s .exit)) (now (vt .exit)) ⌝ }
+    ensures { λ r. ⌜ SvdFinished (now (u .entry)) (now (s .entry)) (now (vt .entry)) r (now (u .exit)) (now (s .exit)) (now (vt .exit)) ⌝ }
 {
     if finite_factors(u, s, vt) {
         return Answer::Done;
@@ -148,8 +148,8 @@ fn work(
     vt: &mut [f64],
     scratch: &mut [f64],
 ) -> Answer
-    requires { ⌜ Exact m n (length (now a)) (length (now u)) (length (now s)) (length (now vt)) (length (now scratch)) ⌝ }
-    ensures { λ r. ⌜ Worked (now (a .entry)) m n r (now (u .exit)) (now (s .exit)) (now (vt .exit)) (now (scratch .exit)) ⌝ }
+    requires { ⌜ SvdExact m n (length (now a)) (length (now u)) (length (now s)) (length (now vt)) (length (now scratch)) ⌝ }
+    ensures { λ r. ⌜ SvdWorked (now (a .entry)) m n r (now (u .exit)) (now (s .exit)) (now (vt .exit)) (now (scratch .exit)) ⌝ }
 {
     factor(a, m, n, u, s, vt, scratch);
     complex::zero_first(scratch, scratch.len());

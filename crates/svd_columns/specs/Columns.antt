@@ -37,8 +37,8 @@ unfoldable pub directionOf : Bool → Float → Complex → Complex
 directionOf wide norm z = cond wide (conjugate (unitLength norm z)) (unitLength norm z)
 
 -- a cell of V†: V's, conjugated; in the wide case, conjugated again, of U
-unfoldable pub turnOf : Bool → Complex → Complex
-turnOf wide z = cond wide (conjugate (conjugate z)) (conjugate z)
+unfoldable pub vCell : Bool → Complex → Complex
+vCell wide z = cond wide (conjugate (conjugate z)) (conjugate z)
 
 -- columns of `rows` cells: the cell x stands in row x % rows of column x / rows
 unfoldable pub inColumns : ℕ → (ℕ → ℕ → Complex) → ℕ → Complex
@@ -50,9 +50,9 @@ directionsOf work values order rows side wide =
     cellsOf (side * rows) (inColumns rows (λ j r. directionOf wide (getD values j nan) (planeAt work (side * rows) (getD order j 0 * rows + r))))
 
 -- the columns of V, in order
-unfoldable pub turnsOf : List Float → List ℕ → ℕ → Bool → List Float
-turnsOf v order side wide =
-    cellsOf (side * side) (inColumns side (λ j r. turnOf wide (planeAt v (side * side) (getD order j 0 * side + r))))
+unfoldable pub vColumnsOf : List Float → List ℕ → ℕ → Bool → List Float
+vColumnsOf v order side wide =
+    cellsOf (side * side) (inColumns side (λ j r. vCell wide (planeAt v (side * side) (getD order j 0 * side + r))))
 
 -- the values, in order
 unfoldable pub sortedOf : List Float → List ℕ → ℕ → List Float

@@ -7,7 +7,7 @@ ghost use lib.ListN.{length};
 ghost use Rattle.complex.specs.Cells.{written};
 ghost use Rattle.complex.specs.Planes.{planeAt};
 ghost use Rattle.stable_order.specs.Places.{placesIn, Places};
-ghost use Rattle.svd_columns.specs.Columns.{squaresTo, normsOf, normClampMin, unitLength, directionOf, directionsOf, turnOf, turnsOf, sortedOf};
+ghost use Rattle.svd_columns.specs.Columns.{squaresTo, normsOf, normClampMin, unitLength, directionOf, directionsOf, vCell, vColumnsOf, sortedOf};
 
 // The sum of the squares of a column's cells, from the cell `at` on, row after row from +0.0.
 fn squares(work: &[f64], c: usize, at: usize, rows: usize) -> f64
@@ -59,7 +59,7 @@ fn direction(z: Complex, norm: f64, wide: bool) -> Complex
 
 // A cell of the factor on V's side: of V†, or conjugated once more as a cell of U in the wide case.
 fn turn(z: Complex, wide: bool) -> Complex
-    ensures { λ r. ⌜ r ≡ turnOf wide z ⌝ }
+    ensures { λ r. ⌜ r ≡ vCell wide z ⌝ }
 {
     let x = z.conj();
     if wide { x.conj() } else { x }
@@ -87,7 +87,7 @@ fn direction_column(
 // The column of V that starts at the cell `at` is written to the first cells of `out`.
 fn turn_column(v: &[f64], c: usize, at: usize, rows: usize, wide: bool, out: &mut [f64])
     requires { ⌜ (at + rows ≤ c) × (length (now v) ≡ 2 * c) × (2 * rows ≤ length (now out)) ⌝ }
-    ensures { λ _. ⌜ now (out .exit) ≡ written rows (λ r. turnOf wide (planeAt (now (v .entry)) c (at + r))) (now (out .entry)) ⌝ }
+    ensures { λ _. ⌜ now (out .exit) ≡ written rows (λ r. vCell wide (planeAt (now (v .entry)) c (at + r))) (now (out .entry)) ⌝ }
 {
     for r in 0..rows {
         let z = complex::read_plane(v, c, at + r);
@@ -118,10 +118,10 @@ pub fn write_directions(
 }
 
 // All columns of V in order.
-pub fn write_turns(v: &[f64], order: &[f64], side: usize, wide: bool, out: &mut [f64])
+pub fn write_v(v: &[f64], order: &[f64], side: usize, wide: bool, out: &mut [f64])
     requires { ⌜ (side * side ≤ 4096) × (side ≤ 4096) × (length (now v) ≡ 2 * (side * side))
         × (length (now order) ≡ side) × Places side (now order) × (length (now out) ≡ 2 * (side * side)) ⌝ }
-    ensures { λ _. ⌜ now (out .exit) ≡ turnsOf (now (v .entry)) (placesIn (now (order .entry))) side wide ⌝ }
+    ensures { λ _. ⌜ now (out .exit) ≡ vColumnsOf (now (v .entry)) (placesIn (now (order .entry))) side wide ⌝ }
 {
     let c = side * side;
     for j in 0..side {

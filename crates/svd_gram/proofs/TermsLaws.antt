@@ -11,7 +11,7 @@ use lib.Ieee.{Float, binary64, nan}
 use lib.ListN.{length, getD, set, length-set}
 use lib.Seq.{getD-set-same, getD-set-other}
 use Rattle.complex.specs.declared.Complex.{Complex}
-use Rattle.complex.specs.Arithmetic.{complexOf, product, sum, conjugate, normSqr}
+use Rattle.complex.specs.Arithmetic.{complexOf, product, sumOf, conjugate, normSqr}
 use Rattle.complex.specs.Planes.{planeAt}
 use Rattle.svd_gram.specs.declared.GramSums.{GramSums}
 use Rattle.svd_gram.specs.Gram.{oneRow, gramTo}
@@ -25,7 +25,7 @@ pub addedTo-more : (g : GramSums) (t : List Float) (k : ℕ) {s : GramSums} → 
     → record {
       pp = Ieee.add binary64 (s .pp) (getD t k nan);
       qq = Ieee.add binary64 (s .qq) (getD t (32 + k) nan);
-      pq = sum (s .pq) (complexOf (getD t (64 + k) nan) (getD t (96 + k) nan));
+      pq = sumOf (s .pq) (complexOf (getD t (64 + k) nan) (getD t (96 + k) nan));
     } ≡ addedTo g t (k + 1)
 unfolding addedTo
 addedTo-more g t k e = rw (e, add-one)

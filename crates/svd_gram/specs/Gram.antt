@@ -4,7 +4,7 @@ use Prim.Native.Nat.{ℕ, zero, suc, _+_}
 use lib.Ieee as Ieee
 use lib.Ieee.{Float, binary64}
 use Rattle.complex.specs.declared.Complex.{Complex}
-use Rattle.complex.specs.Arithmetic.{complexOf, product, sum, conjugate, normSqr}
+use Rattle.complex.specs.Arithmetic.{complexOf, product, sumOf, conjugate, normSqr}
 use Rattle.complex.specs.Planes.{planeAt}
 use Rattle.complex.specs.Zeros.{zeroFloat}
 use Rattle.svd_gram.specs.declared.GramSums.{GramSums}
@@ -18,7 +18,7 @@ oneRow g ap aq =
     record {
       pp = Ieee.add binary64 (g .pp) (normSqr ap);
       qq = Ieee.add binary64 (g .qq) (normSqr aq);
-      pq = sum (g .pq) (product (conjugate ap) aq);
+      pq = sumOf (g .pq) (product (conjugate ap) aq);
     }
 
 -- the rows below k

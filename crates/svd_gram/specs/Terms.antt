@@ -6,7 +6,7 @@ use Prim.Native.Nat.{ℕ, zero, suc, _+_, _<_}
 use lib.Ieee as Ieee
 use lib.Ieee.{Float, binary64, nan}
 use lib.ListN.{length, getD}
-use Rattle.complex.specs.Arithmetic.{complexOf, product, sum, conjugate, normSqr}
+use Rattle.complex.specs.Arithmetic.{complexOf, product, sumOf, conjugate, normSqr}
 use Rattle.complex.specs.Planes.{planeAt}
 use Rattle.svd_gram.specs.declared.GramSums.{GramSums}
 
@@ -25,5 +25,5 @@ addedTo g t (suc k) =
     record {
       pp = Ieee.add binary64 (s .pp) (getD t k nan);
       qq = Ieee.add binary64 (s .qq) (getD t (32 + k) nan);
-      pq = sum (s .pq) (complexOf (getD t (64 + k) nan) (getD t (96 + k) nan));
+      pq = sumOf (s .pq) (complexOf (getD t (64 + k) nan) (getD t (96 + k) nan));
     }

@@ -4,3 +4,4 @@ pub mod SignedZeros
 pub mod Signs
 pub mod TurnsLaws
 pub mod ZeroProductsLaws
+pub mod Theorems

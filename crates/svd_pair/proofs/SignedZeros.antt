@@ -3,28 +3,28 @@ use mathlib.Core.Path.{_≡_, refl}
 use lib.Ieee as Ieee
 use lib.Ieee.{binary64, ofBits, toBits, ofFields, odd, round, units}
 use Rattle.complex.specs.declared.Complex.{Complex}
-use Rattle.complex.specs.Arithmetic.{complexOf, product, sum, negation, conjugate, scaled}
+use Rattle.complex.specs.Arithmetic.{complexOf, product, sumOf, negation, conjugate, scaled}
 use Rattle.complex.specs.Zeros.{zeroFloat}
 use Rattle.svd_pair.specs.declared.Factors.{Factors}
-use Rattle.svd_pair.specs.Decisions.{one}
-use Rattle.svd_pair.specs.Turns.{factorsOf, newP}
+use Rattle.numbers.specs.Numbers.{oneFloat}
+use Rattle.svd_pair.specs.Turns.{turnFactors, newP}
 use Rattle.svd_pair.proofs.TurnsLaws.{realP}
 
 -- no angle, and the phase 1
 abbrev still : Factors
-still = factorsOf one zeroFloat (complexOf one zeroFloat)
+still = turnFactors oneFloat zeroFloat (complexOf oneFloat zeroFloat)
 
 -- the cells (-0, -1) and (-1, 1)
 abbrev ap : Complex
-ap = complexOf (Ieee.neg zeroFloat) (Ieee.neg one)
+ap = complexOf (Ieee.neg zeroFloat) (Ieee.neg oneFloat)
 
 abbrev aq : Complex
-aq = complexOf (Ieee.neg one) one
+aq = complexOf (Ieee.neg oneFloat) oneFloat
 
 pub plus-zero : toBits binary64 (newP still ap aq .re) ≡ 0
-unfolding newP factorsOf product sum negation conjugate ofBits toBits ofFields odd round units Ieee.add Ieee.sub Ieee.mul Ieee.neg Ieee.sum Ieee.size Ieee.span Ieee.climb
+unfolding newP turnFactors product sumOf negation conjugate ofBits toBits ofFields odd round units Ieee.add Ieee.sub Ieee.mul Ieee.neg Ieee.sum Ieee.size Ieee.span Ieee.climb
 plus-zero = refl
 
 pub minus-zero : toBits binary64 (realP still ap aq .re) ≡ 0x8000_0000_0000_0000
-unfolding realP factorsOf product sum negation conjugate scaled ofBits toBits ofFields odd round units Ieee.add Ieee.sub Ieee.mul Ieee.neg Ieee.sum Ieee.size Ieee.span Ieee.climb
+unfolding realP turnFactors product sumOf negation conjugate scaled ofBits toBits ofFields odd round units Ieee.add Ieee.sub Ieee.mul Ieee.neg Ieee.sum Ieee.size Ieee.span Ieee.climb
 minus-zero = refl

@@ -6,11 +6,11 @@ use Rattle.complex.specs.declared.Complex.{Complex}
 use Rattle.complex.specs.Arithmetic.{complexOf, product, negation, scaled}
 use Rattle.complex.specs.Zeros.{zeroFloat}
 use Rattle.svd_pair.specs.declared.Factors.{Factors}
-use Rattle.svd_pair.specs.Turns.{factorsOf}
+use Rattle.svd_pair.specs.Turns.{turnFactors}
 use Rattle.svd_pair.specs.ZeroProducts.{RealTurn}
 
-pub factors-real : {f : Factors} (cosine sine : Float) (phase : Complex) → f ≡ factorsOf cosine sine phase → RealTurn f
-unfolding factorsOf negation
+pub factors-real : {f : Factors} (cosine sine : Float) (phase : Complex) → f ≡ turnFactors cosine sine phase → RealTurn f
+unfolding turnFactors negation
 factors-real cosine sine phase e = record { cosine = rw e; sine = rw e }
 
 -- what -0.0 gives

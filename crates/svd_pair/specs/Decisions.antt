@@ -4,6 +4,7 @@ use mathlib.Core.List.{List, [], _∷_}
 use Prim.Native.Nat.{ℕ}
 use lib.Ieee as Ieee
 use lib.Ieee.{Float, binary64, ofBits}
+use Rattle.numbers.specs.Numbers.{oneFloat}
 use Rattle.numbers.specs.Root.{sqrtOf}
 use Rattle.complex.specs.declared.Complex.{Complex}
 use Rattle.complex.specs.Arithmetic.{quotient, normSqr}
@@ -26,41 +27,37 @@ verdict (Turn c s phase) = record { number = 1; values = c ∷ s ∷ phase .re �
 
 -- ---- the constants, by their bits
 
--- 1.0
-abbrev pub one : Float
-one = ofBits binary64 0x3ff0_0000_0000_0000
-
 -- 2.0
 abbrev pub two : Float
 two = ofBits binary64 0x4000_0000_0000_0000
 
 -- 1e-15, JACOBI_REL_TOL
-abbrev pub tolerance : Float
-tolerance = ofBits binary64 0x3cd2_03af_9ee7_5616
+abbrev pub svdTolerance : Float
+svdTolerance = ofBits binary64 0x3cd2_03af_9ee7_5616
 
 -- ---- the decision
 
 -- 1 + x * x under the root
 abbrev pub hypotenuse : Float → Float
-hypotenuse x = sqrtOf (Ieee.add binary64 one (Ieee.mul binary64 x x))
+hypotenuse x = sqrtOf (Ieee.add binary64 oneFloat (Ieee.mul binary64 x x))
 
 -- tau ≥ 0 takes the first branch; tau < 0 and a NaN the second
 unfoldable pub tangentOf : Float → Float
 tangentOf tau =
     cond (Ieee.le zeroFloat tau)
-    (Ieee.div binary64 (Ieee.neg one) (Ieee.add binary64 tau (hypotenuse tau)))
-    (Ieee.div binary64 one (Ieee.add binary64 (Ieee.neg tau) (hypotenuse tau)))
+    (Ieee.div binary64 (Ieee.neg oneFloat) (Ieee.add binary64 tau (hypotenuse tau)))
+    (Ieee.div binary64 oneFloat (Ieee.add binary64 (Ieee.neg tau) (hypotenuse tau)))
 
 -- ((1e-15 * 1e-15) * pp) * qq: up to this square of the modulus a pair is left as it is
-abbrev pub bound : GramSums → Float
-bound g = Ieee.mul binary64 (Ieee.mul binary64 (Ieee.mul binary64 tolerance tolerance) (g .pp)) (g .qq)
+abbrev pub skipBound : GramSums → Float
+skipBound g = Ieee.mul binary64 (Ieee.mul binary64 (Ieee.mul binary64 svdTolerance svdTolerance) (g .pp)) (g .qq)
 
 -- (qq - pp) / (2 * beta)
 abbrev pub tauOf : GramSums → Float → Float
 tauOf g beta = Ieee.div binary64 (Ieee.sub binary64 (g .qq) (g .pp)) (Ieee.mul binary64 two beta)
 
 abbrev pub cosineOf : Float → Float
-cosineOf t = Ieee.div binary64 one (hypotenuse t)
+cosineOf t = Ieee.div binary64 oneFloat (hypotenuse t)
 
 -- the turn by the tangent t, with the phase pq / beta
 unfoldable pub turnAt : Complex → Float → Float → Decision
@@ -70,4 +67,4 @@ abbrev pub turnOf : GramSums → Float → Decision
 turnOf g beta = turnAt (g .pq) beta (tangentOf (tauOf g beta))
 
 unfoldable pub decisionOf : GramSums → Decision
-decisionOf g = cond (Ieee.le (normSqr (g .pq)) (bound g)) Leave (turnOf g (modulusOf (g .pq)))
+decisionOf g = cond (Ieee.le (normSqr (g .pq)) (skipBound g)) Leave (turnOf g (modulusOf (g .pq)))

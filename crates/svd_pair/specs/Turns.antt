@@ -3,7 +3,7 @@ use mathlib.Core.List.{List}
 use Prim.Native.Nat.{ℕ, zero, suc, _+_}
 use lib.Ieee.{Float}
 use Rattle.complex.specs.declared.Complex.{Complex}
-use Rattle.complex.specs.Arithmetic.{complexOf, product, sum, negation, conjugate}
+use Rattle.complex.specs.Arithmetic.{complexOf, product, sumOf, negation, conjugate}
 use Rattle.complex.specs.Planes.{planeAt, setPlane}
 use Rattle.complex.specs.Zeros.{zeroFloat}
 use Rattle.svd_pair.specs.declared.Factors.{Factors}
@@ -15,8 +15,8 @@ abbrev pub real : Float → Complex
 real x = complexOf x zeroFloat
 
 -- the cosine and the sine are complex numbers; so the negated sine has imaginary part -0.0
-unfoldable pub factorsOf : Float → Float → Complex → Factors
-factorsOf cosine sine phase =
+unfoldable pub turnFactors : Float → Float → Complex → Factors
+turnFactors cosine sine phase =
     record {
       pp = real cosine;
       pq = product (real sine) (conjugate phase);
@@ -25,10 +25,10 @@ factorsOf cosine sine phase =
     }
 
 unfoldable pub newP : Factors → Complex → Complex → Complex
-newP f ap aq = sum (product (f .pp) ap) (product (f .pq) aq)
+newP f ap aq = sumOf (product (f .pp) ap) (product (f .pq) aq)
 
 unfoldable pub newQ : Factors → Complex → Complex → Complex
-newQ f ap aq = sum (product (f .qp) ap) (product (f .qq) aq)
+newQ f ap aq = sumOf (product (f .qp) ap) (product (f .qq) aq)
 
 -- the cells i and j are turned, both from their old values
 unfoldable pub turnRow : Factors → ℕ → ℕ → ℕ → List Float → List Float
@@ -42,4 +42,4 @@ turnRows f c a b (suc k) xs = turnRow f c (a + k) (b + k) (turnRows f c a b k xs
 -- what a decision does to two columns of m rows
 unfoldable pub applied : Decision → ℕ → ℕ → ℕ → ℕ → List Float → List Float
 applied Leave c a b m xs = xs
-applied (Turn cosine sine phase) c a b m xs = turnRows (factorsOf cosine sine phase) c a b m xs
+applied (Turn cosine sine phase) c a b m xs = turnRows (turnFactors cosine sine phase) c a b m xs

@@ -9,7 +9,7 @@ ghost use lib.ListN.{length};
 ghost use Rattle.complex.specs.Arithmetic.{scaled};
 ghost use Rattle.complex.specs.Zeros.{zeroFloat};
 ghost use Rattle.svd_pair.specs.Decisions.{verdict, decisionOf, tangentOf, turnAt};
-ghost use Rattle.svd_pair.specs.Turns.{factorsOf, newP, newQ, turnRow, turnRows, applied};
+ghost use Rattle.svd_pair.specs.Turns.{turnFactors, newP, newQ, turnRow, turnRows, applied};
 ghost use Rattle.svd_pair.specs.ZeroProducts.{RealTurn};
 
 const JACOBI_REL_TOL: f64 = 1e-15;
@@ -46,7 +46,7 @@ fn tangent(tau: f64, near: Guesses) -> f64
 }
 
 // The turn by the tangent t, for the mixed sum pq of modulus beta.
-fn turn_at(pq: Complex, beta: f64, t: f64, near: Guesses) -> Decision
+pub fn turn_at(pq: Complex, beta: f64, t: f64, near: Guesses) -> Decision
     ensures { λ r. ⌜ r ≡ turnAt pq beta t ⌝ }
 {
     let x = 1.0 + t * t;
@@ -86,7 +86,7 @@ pub struct Factors {
 impl Factors {
     // The cosine and the sine are complex numbers with imaginary part +0.0: signs of zeros hang on it.
     pub fn new(cosine: f64, sine: f64, phase: Complex) -> Factors
-        ensures { λ r. ⌜ r ≡ factorsOf cosine sine phase ⌝ }
+        ensures { λ r. ⌜ r ≡ turnFactors cosine sine phase ⌝ }
     {
         let c = Complex {
             re: cosine,

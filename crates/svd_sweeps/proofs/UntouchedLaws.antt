@@ -15,7 +15,7 @@ use Rattle.svd_pair.specs.declared.Decision.{Decision}
 use Rattle.svd_pair.specs.declared.Decision.the-variants.{Leave, Turn}
 use Rattle.svd_gram.specs.Gram.{gramTo}
 use Rattle.svd_pair.specs.Decisions.{decisionOf}
-use Rattle.svd_pair.specs.Turns.{factorsOf, newP, newQ, turnRow, turnRows, applied}
+use Rattle.svd_pair.specs.Turns.{turnFactors, newP, newQ, turnRow, turnRows, applied}
 use Rattle.svd_sweeps.proofs.SweepingLaws.{column-fits}
 use Rattle.svd_sweeps.specs.Untouched.{decisionAt}
 
@@ -56,7 +56,7 @@ pub column-other : (d : Decision) (m n p q x r : ℕ) (xs : List Float) → p < 
 unfolding applied
 column-other Leave m n p q x r xs hp hq h np nq hr = refl
 column-other (Turn cosine sine phase) m n p q x r xs hp hq h np nq hr =
-    rows-other (factorsOf cosine sine phase) xs (n * m) (x * m + r) (p * m) (q * m) m
+    rows-other (turnFactors cosine sine phase) xs (n * m) (x * m + r) (p * m) (q * m) m
     (omega (arith, column-fits x n m h)) (column-fits p n m hp) (column-fits q n m hq)
     (λ s l. apart m x p r s np hr l) (λ s l. apart m x q r s nq hr l)
 

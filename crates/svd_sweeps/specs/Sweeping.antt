@@ -20,7 +20,7 @@ pub record ValueRoom (m n lw : ℕ) : Type 0 where
   pub cells : n * m ≤ 4096
 
 -- and V of n columns of n cells
-pub record Room (m n lw lv : ℕ) : Type 0 where
+pub record SvdRoom (m n lw lv : ℕ) : Type 0 where
   pub work : lw ≡ 2 * (n * m)
   pub v : lv ≡ 2 * (n * n)
   pub columns : n ≤ 64

@@ -16,8 +16,8 @@ use Rattle.stable_order.specs.Places.{Places, placesOf, placesIn}
 use Rattle.stable_order.proofs.PlacesLaws.{places-back}
 use Rattle.stable_order.specs.Order.{orderTo}
 use Rattle.stable_order.proofs.OrderLaws.{order-below}
-use Rattle.svd_columns.specs.Columns.{normsOf, sortedOf, directionsOf, turnsOf}
-use Rattle.svd_thin.specs.Thin.{swept, orderOf, valuesOf, orderPart, Ranked, Thin}
+use Rattle.svd_columns.specs.Columns.{normsOf, sortedOf, directionsOf, vColumnsOf}
+use Rattle.svd_thin.specs.Thin.{swept, orderOf, valuesOf, orderPart, ThinOrdered, Thin}
 
 -- ---- laws
 
@@ -69,7 +69,7 @@ pub ranked-made : (rows side : ℕ) (scratch rest : List Float) {norms s order :
     → length order ≡ side
     → order ≡ placesOf (orderTo (take side (norms ++ rest)) side)
     → s ≡ sortedOf (take side (norms ++ rest)) (orderTo (take side (norms ++ rest)) side) side
-    → Ranked rows side (take (2 * (side * rows)) scratch) s (putMid (2 * (side * rows)) (2 * (side * rows) + side - 2 * (side * rows)) scratch order)
+    → ThinOrdered rows side (take (2 * (side * rows)) scratch) s (putMid (2 * (side * rows)) (2 * (side * rows) + side - 2 * (side * rows)) scratch order)
 unfolding valuesOf orderOf
 ranked-made rows side scratch rest {norms} {s} {order} h l e k f g =
     let t : take side (norms ++ rest) ≡ norms = take-at norms rest side l in
@@ -80,16 +80,16 @@ ranked-made rows side scratch rest {norms} {s} {order} h l e k f g =
       order-is = b .0 ∙ f ∙ rw (t, e);
     }
 
-pub ranked-places : (rows side : ℕ) (work s scratch : List Float) → Ranked rows side work s scratch → Places side (orderPart rows side scratch)
+pub ranked-places : (rows side : ℕ) (work s scratch : List Float) → ThinOrdered rows side work s scratch → Places side (orderPart rows side scratch)
 unfolding orderOf
 ranked-places rows side work s scratch r =
     record { places = orderTo (normsOf work rows side) side; are = r .order-is; low = order-below (normsOf work rows side) side }
 
 pub thin-made : (rows side : ℕ) (wide : Bool) (work rest rest' : List Float) {work' v' s scratch main other : List Float} → side ≤ 64
     → length work' ≡ 2 * (side * rows) → length v' ≡ 2 * (side * side) → work' ≡ swept rows side work .work → v' ≡ swept rows side work .v
-    → Ranked rows side (take (2 * (side * rows)) (work' ++ rest)) s scratch
+    → ThinOrdered rows side (take (2 * (side * rows)) (work' ++ rest)) s scratch
     → main ≡ directionsOf (take (2 * (side * rows)) scratch) s (placesIn (orderPart rows side scratch)) rows side wide
-    → other ≡ turnsOf (take (2 * (side * side)) (v' ++ rest')) (placesIn (orderPart rows side scratch)) side wide
+    → other ≡ vColumnsOf (take (2 * (side * side)) (v' ++ rest')) (placesIn (orderPart rows side scratch)) side wide
     → Thin rows side wide work main s other
 unfolding orderOf
 thin-made rows side wide work rest rest' {work'} {v'} {s} {scratch} {main} {other} b lw lv ew ev r em eo =

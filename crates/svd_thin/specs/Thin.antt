@@ -9,7 +9,7 @@ use Rattle.svd_sweeps.specs.Sweeping.{State, settled}
 use Rattle.svd_load.specs.Loading.{unitPlanes}
 use Rattle.stable_order.specs.Places.{placesOf}
 use Rattle.stable_order.specs.Order.{orderTo}
-use Rattle.svd_columns.specs.Columns.{normsOf, sortedOf, directionsOf, turnsOf}
+use Rattle.svd_columns.specs.Columns.{normsOf, sortedOf, directionsOf, vColumnsOf}
 
 -- the work matrix and V after the sweeps
 unfoldable pub swept : ℕ → ℕ → List Float → State
@@ -46,7 +46,7 @@ pub record Written (rows side work order s main other : ℕ) : Type 0 where
   pub other-is : other ≡ 2 * (side * side)
 
 -- after the ranking of the settled matrix `work`: the values, and in scratch the matrix and behind it the order
-pub record Ranked (rows side : ℕ) (work s scratch : List Float) : Type 0 where
+pub record ThinOrdered (rows side : ℕ) (work s scratch : List Float) : Type 0 where
   pub s-is : s ≡ valuesOf rows side work
   pub work-is : take (2 * (side * rows)) scratch ≡ work
   pub order-is : orderPart rows side scratch ≡ placesOf (orderOf rows side work)
@@ -58,4 +58,4 @@ pub record Thin (rows side : ℕ) (wide : Bool) (work main s other : List Float)
       side
       wide
   pub s-is : s ≡ valuesOf rows side (swept rows side work .work)
-  pub other-is : other ≡ turnsOf (swept rows side work .v) (orderOf rows side (swept rows side work .work)) side wide
+  pub other-is : other ≡ vColumnsOf (swept rows side work .v) (orderOf rows side (swept rows side work .work)) side wide

@@ -4,15 +4,15 @@
 ghost use mathlib.Core.Path.{_≡_};
 ghost use Prim.Native.Nat.{_*_, _≤_};
 ghost use lib.ListN.{length, take};
-ghost use Rattle.svd_sweeps.specs.Sweeping.{Room};
+ghost use Rattle.svd_sweeps.specs.Sweeping.{SvdRoom};
 ghost use Rattle.stable_order.specs.Places.{placesOf, placesIn, Places};
 ghost use Rattle.stable_order.specs.Order.{orderTo};
-ghost use Rattle.svd_columns.specs.Columns.{sortedOf, directionsOf, turnsOf};
-ghost use Rattle.svd_thin.specs.Thin.{swept, orderPart, Lent, Ranked, Written, Thin};
+ghost use Rattle.svd_columns.specs.Columns.{sortedOf, directionsOf, vColumnsOf};
+ghost use Rattle.svd_thin.specs.Thin.{swept, orderPart, Lent, ThinOrdered, Written, Thin};
 
 // V starts as the unit matrix; the sweeps turn both.
 fn sweep(work: &mut [f64], v: &mut [f64], rows: usize, side: usize)
-    requires { ⌜ Room rows side (length (now work)) (length (now v)) ⌝ }
+    requires { ⌜ SvdRoom rows side (length (now work)) (length (now v)) ⌝ }
     ensures { λ _. ⌜ (now (work .exit) ≡ swept rows side (now (work .entry)) .work) × (now (v .exit) ≡ swept rows side (now (work .entry)) .v) ⌝ }
 {
     svd_load::unit(v, side);
@@ -33,7 +33,7 @@ pub fn sort(norms: &[f64], side: usize, s: &mut [f64], order: &mut [f64])
 // the values to s.
 pub fn rank(rows: usize, side: usize, s: &mut [f64], other: &mut [f64], scratch: &mut [f64])
     requires { ⌜ Lent rows side (length (now s)) (length (now other)) (length (now scratch)) ⌝ }
-    ensures { λ _. ⌜ Ranked rows side (take (2 * (side * rows)) (now (scratch .entry))) (now (s .exit)) (now (scratch .exit)) ⌝ }
+    ensures { λ _. ⌜ ThinOrdered rows side (take (2 * (side * rows)) (now (scratch .entry))) (now (s .exit)) (now (scratch .exit)) ⌝ }
 {
     let w = 2 * (side * rows);
     let e = w + side;
@@ -54,10 +54,10 @@ fn write_factors(
 )
     requires { ⌜ Written rows side (length (now work)) (length (now order)) (length (now s)) (length (now main)) (length (now other)) × Places side (now order) ⌝ }
     ensures { λ _. ⌜ (now (main .exit) ≡ directionsOf (now (work .entry)) (now (s .entry)) (placesIn (now (order .entry))) rows side wide)
-        × (now (other .exit) ≡ turnsOf (take (2 * (side * side)) (now (main .entry))) (placesIn (now (order .entry))) side wide) ⌝ }
+        × (now (other .exit) ≡ vColumnsOf (take (2 * (side * side)) (now (main .entry))) (placesIn (now (order .entry))) side wide) ⌝ }
 {
     let x = 2 * (side * side);
-    svd_columns::write_turns(&main[..x], order, side, wide, other);
+    svd_columns::write_v(&main[..x], order, side, wide, other);
     svd_columns::write_directions(work, s, order, rows, side, wide, main);
 }
 
@@ -74,7 +74,7 @@ fn write_from(
     requires { ⌜ Lent rows side (length (now s)) (length (now other)) (length (now scratch)) × (length (now main) ≡ 2 * (side * rows))
         × Places side (orderPart rows side (now scratch)) ⌝ }
     ensures { λ _. ⌜ (now (main .exit) ≡ directionsOf (take (2 * (side * rows)) (now (scratch .entry))) (now (s .entry)) (placesIn (orderPart rows side (now (scratch .entry)))) rows side wide)
-        × (now (other .exit) ≡ turnsOf (take (2 * (side * side)) (now (main .entry))) (placesIn (orderPart rows side (now (scratch .entry)))) side wide) ⌝ }
+        × (now (other .exit) ≡ vColumnsOf (take (2 * (side * side)) (now (main .entry))) (placesIn (orderPart rows side (now (scratch .entry)))) side wide) ⌝ }
 {
     let w = 2 * (side * rows);
     let e = w + side;

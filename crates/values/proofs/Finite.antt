@@ -8,7 +8,7 @@ use native.Mathlib.Omega.{arith}
 use lib.Ieee.{Float, nan, inf, fin}
 use lib.ListN.{length, getD, drop, drop-of-length-le}
 use lib.Seq.{drop-cons}
-use Rattle.numbers.specs.Numbers.{allowed, finite}
+use Rattle.numbers.specs.Numbers.{allowed, isFinite}
 use Rattle.scaled.specs.Each.{EachAllowed}
 use Rattle.values.specs.Lists.{allFinite}
 
@@ -21,22 +21,22 @@ and-true : (a : Bool) → (a && true) ≡ a
 and-true true = refl
 and-true false = refl
 
-pub finite-more : (s : List Float) (i : ℕ) (b : Bool) {x : Bool} → i < length s → allFinite s ≡ (b && allFinite (drop i s)) → x ≡ finite (getD s i nan)
+pub finite-more : (s : List Float) (i : ℕ) (b : Bool) {x : Bool} → i < length s → allFinite s ≡ (b && allFinite (drop i s)) → x ≡ isFinite (getD s i nan)
     → allFinite s ≡ ((b && x) && allFinite (drop (i + 1) s))
 unfolding allFinite
 finite-more s i b h e f =
     e
     ∙ ap (λ (l : List Float). b && allFinite l) (drop-cons s i nan h)
-    ∙ one-more b (finite (getD s i nan)) (allFinite (drop (suc i) s))
-    ∙ ap (λ (n : ℕ). (b && finite (getD s i nan)) && allFinite (drop n s)) (sym (add-one i))
+    ∙ one-more b (isFinite (getD s i nan)) (allFinite (drop (suc i) s))
+    ∙ ap (λ (n : ℕ). (b && isFinite (getD s i nan)) && allFinite (drop n s)) (sym (add-one i))
     ∙ ap (λ (y : Bool). (b && y) && allFinite (drop (i + 1) s)) (sym f)
 
 pub finite-end : (s : List Float) (i : ℕ) (b : Bool) → length s ≤ i → allFinite s ≡ (b && allFinite (drop i s)) → b ≡ allFinite s
 unfolding allFinite
 finite-end s i b h e = sym (e ∙ ap (λ (l : List Float). b && allFinite l) (drop-of-length-le s h) ∙ and-true b)
 
-allowed-finite : (x : Float) → allowed x ≡ true → finite x ≡ true
-unfolding allowed finite
+allowed-finite : (x : Float) → allowed x ≡ true → isFinite x ≡ true
+unfolding allowed isFinite
 allowed-finite nan h = h
 allowed-finite (inf s) h = h
 allowed-finite (fin s m e) h = refl

@@ -4,7 +4,7 @@ use mathlib.Core.List.{List, [], _∷_}
 use Prim.Native.Nat.{ℕ, suc}
 use lib.Ieee.{Float, binary64, ofBits, neg, add, mul, le}
 use Rattle.answers.specs.Paper.{Reply, done, refuse}
-use Rattle.numbers.specs.Numbers.{allowed, finite}
+use Rattle.numbers.specs.Numbers.{allowed, isFinite}
 
 -- -0.0, from which the Rust sums
 abbrev pub minusZero : Float
@@ -17,7 +17,7 @@ valuesAllowed i (x ∷ l) = refuse (not (allowed x)) (7, i) (valuesAllowed (suc 
 
 unfoldable pub allFinite : List Float → Bool
 allFinite [] = true
-allFinite (x ∷ l) = cond (finite x) (allFinite l) false
+allFinite (x ∷ l) = cond (isFinite x) (allFinite l) false
 
 -- cut at the first value at or below the floor
 unfoldable pub keptAbove : Float → List Float → List Float

@@ -16,21 +16,13 @@ use Rattle.complex.proofs.ZerosLaws.{length-zeros}
 use Rattle.values.proofs.ListLaws.{kept-le, length-scaled}
 use Rattle.values.proofs.SortLaws.{length-sort}
 use Rattle.finish.specs.declared.Kept.{Kept}
-use Rattle.numbers.specs.Numbers.{oneFloat}
+use Rattle.numbers.specs.Numbers.{oneFloat, largerOf}
 use Rattle.values.specs.Lists.{keptAbove, squaresFrom, minusZero}
 use Rattle.values.specs.Sort.{sortedDown}
-use Rattle.finish.specs.Finish.{valueFloor, finishOf, finishReply, padded, floorOf, finishSorted, scaled, kept}
+use Rattle.finish.specs.Finish.{valueFloor, finishOf, finishReply, padded, floorOf, finishSorted, normalised, keptValues}
 use Rattle.finish.specs.Outcome.{FinishedOutcome}
-use Rattle.weights.specs.Weights.{largerOf, largestFrom, weightFloor, rootsAbove, rootsOf}
+use Rattle.weights.specs.Weights.{largestFrom, weightFloor, rootsAbove, rootsOf}
 use Rattle.weights.specs.WeightOutcome.{WeightOutcome}
-
-pub larger-second : (a b : Float) → lt a b ≡ true → b ≡ largerOf a b
-unfolding largerOf
-larger-second a b h = rw h
-
-pub larger-first : (a b : Float) → lt a b ≡ false → a ≡ largerOf a b
-unfolding largerOf
-larger-first a b h = rw h
 
 pub largest-end : (m : Float) (l : List Float) (i : ℕ) → length l ≤ i → largestFrom m (drop i l) ≡ m
 unfolding largestFrom
@@ -113,7 +105,7 @@ zeroed-zeroed k n old h =
 -- ---- the finish
 
 finish-le : (values : List Float) → length (finishOf values) ≤ length values
-unfolding finishSorted scaled kept
+unfolding finishSorted normalised keptValues
 finish-le values =
     let s = sortedDown values in
     let k = keptAbove (floorOf s) s in

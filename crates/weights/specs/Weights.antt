@@ -4,13 +4,10 @@ use mathlib.Core.Bool.{cond}
 use mathlib.Core.List.{List, [], _∷_}
 use lib.Ieee.{Float, binary64, mul, lt}
 use Rattle.answers.specs.Paper.{Reply}
+use Rattle.numbers.specs.Numbers.{largerOf}
 use Rattle.numbers.specs.Root.{sqrtOf}
 use Rattle.complex.specs.Zeros.{zeroFloat}
 use Rattle.finish.specs.Finish.{valueFloor, finishOf, finishReply}
-
--- the larger of two, the first where they do not compare
-unfoldable pub largerOf : Float → Float → Float
-largerOf a b = cond (lt a b) b a
 
 -- the largest of these and those before
 unfoldable pub largestFrom : Float → List Float → Float

@@ -3,7 +3,7 @@ ghost use mathlib.Core.Path.{_≡_};
 ghost use Prim.Native.Nat.{_≤_};
 ghost use lib.ListN.{length, take};
 ghost use Rattle.complex.specs.Zeros.{zeroFloat};
-ghost use Rattle.weights.specs.Weights.{largerOf, largestFrom, rootsAbove};
+ghost use Rattle.weights.specs.Weights.{largestFrom, rootsAbove};
 ghost use Rattle.weights.specs.WeightOutcome.{WeightOutcome};
 
 // A weight at or below this part of the largest is noise.
@@ -15,16 +15,9 @@ fn largest_weight(s: &[f64]) -> f64
 {
     let mut largest = 0.0;
     for i in 0..s.len() {
-        largest = larger(largest, s[i]);
+        largest = numbers::larger_of(largest, s[i]);
     }
     largest
-}
-
-// The larger of two, the first where they do not compare.
-fn larger(a: f64, b: f64) -> f64
-    ensures { λ r. ⌜ r ≡ largerOf a b ⌝ }
-{
-    if a < b { b } else { a }
 }
 
 // The roots of the weights above the floor, in their order, to the front of roots; how many.

@@ -1,7 +1,7 @@
 -- `cut_values::check` meets its contract: its two parts in the paper's order. Assumes nothing.
 use mathlib.Core.Path.{sym, _∙_}
 use Rattle.answers.proofs.Stopped.{refused, passed}
-use Rattle.cut_values.specs.Schmidt.{rest}
+use Rattle.cut_values.specs.Schmidt.{cutValuesRest}
 use borrow.Author.Needs.{needs}
 use Rattle.cut_values.proofs.check.Statement.{statement}
 use Rattle.cut_values.proofs.check.Tie as tie
@@ -13,14 +13,14 @@ enum-told : tie.Need-enum-told
 enum-told c = search needs
 
 returns : tie.Need-returns
-unfolding rest
+unfolding cutValuesRest
 returns c = refused (c .before .check-lengths .result) _ _ (c .before .check-lengths .ensures) (c .match .keys2)
 
 check-components-requires : tie.Need-check-components-requires
 check-components-requires c κs = search needs
 
 returns-2 : tie.Need-returns-2
-unfolding rest
+unfolding cutValuesRest
 returns-2 c = c .check-components .ensures ∙ sym (passed _ _ _ (c .before .before .before .check-lengths .ensures) (c .before .enum-told .given .1))
 
 pub check-spec : {M : Type 1} → statement M

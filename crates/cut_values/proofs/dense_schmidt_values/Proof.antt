@@ -10,7 +10,7 @@ use Rattle.answers.proofs.Stopped.{refused, was-done, stopped-number}
 use Rattle.qubits.proofs.NamedLaws.{pow-small}
 use Rattle.cut_sides.specs.Sides.{cutRefusal, Parted}
 use Rattle.cut_sides.proofs.SideLaws.{is-parted}
-use Rattle.cut_values.specs.Schmidt.{tests, rest}
+use Rattle.cut_values.specs.Schmidt.{cutValuesTests, cutValuesRest}
 use Rattle.cut_values.proofs.SchmidtLaws.{rest-done, sides-few, sized, schmidt-refused, tests-rest, schmidt-worked}
 use borrow.Author.Needs.{needs}
 use Rattle.cut_values.proofs.dense_schmidt_values.Statement.{statement}
@@ -27,7 +27,7 @@ few : (c : tie.After-sides-of) → c .sides-of .result .rows ≤ 64
 few c = sides-few _ _ _ (parted (c .before)) (c .sides-of .ensures)
 
 -- 6 and 7 do not refuse
-rest-passed : (c : tie.After-enum-told2) → let a = c .before .before .before .before .before .before .before .before .before .before .before .args in rest (now (a .state)) (a .n) (c .before .before .before .sides-of .result .rows) (length (now (a .out))) (length (now (a .scratch))) .0 ≡ 0
+rest-passed : (c : tie.After-enum-told2) → let a = c .before .before .before .before .before .before .before .before .before .before .before .args in cutValuesRest (now (a .state)) (a .n) (c .before .before .before .sides-of .result .rows) (length (now (a .out))) (length (now (a .scratch))) .0 ≡ 0
 rest-passed c = was-done _ _ (c .before .before .check .ensures) (c .enum-told2 .given .1)
 
 fits : (c : tie.After-bit) → let a = c .before .before .before .before .before .before .before .before .before .before .before .before .args in 8 * c .bit .result + 2 * c .before .before .before .before .sides-of .result .rows ≤ length (now (a .scratch))
@@ -40,7 +40,7 @@ enum-told : tie.Need-enum-told
 enum-told c = search needs
 
 returns : tie.Need-returns
-unfolding tests
+unfolding cutValuesTests
 returns c =
     let r = c .before .cut-refusal .result in
     schmidt-refused _ _ _ _ _ _ r (refused r _ _ (c .before .cut-refusal .ensures) (c .match .keys2)) (stopped-number r (c .match .keys2))

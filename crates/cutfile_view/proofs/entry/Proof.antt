@@ -42,7 +42,7 @@ use denote.Triple.Table.{entered, cited}
 use denote.Triple.Walked.{says, needs, Stays, stay-none, walkOf, goes-none, Walks, ends-at, walked, walk-meets}
 use denote.Exit.{yes}
 use denote.Triple.Clauses.{ensured, lasts}
-use Rattle.cutfile.specs.Layout.{LongEnough, entryAt}
+use Rattle.cutfile.specs.Layout.{LongEnough, fileEntry}
 use Rattle.cutfile.proofs.entry_at as callee
 use Rattle.cutfile.proofs.entry_at.Symbol as callee-def
 use Rattle.cutfile.proofs.entry_at.Symbol.{name as #cutfile·entry-at}
@@ -80,7 +80,7 @@ module _ {M : Type 1} (𝓤 : URA M) (H : Heap 𝓤) (A : Atoms 𝓤) (W : Given
   v = sliceVal (d .bytes .ptr) (length (d .bytes .now))
 
   abbrev found : ℕ
-  found = entryAt (now (d .bytes)) i
+  found = fileEntry (now (d .bytes)) i
 
   abbrev at : Vals entry.signature (κ, tt)
   at = (mach ∷ [], (vint w64 i ∷ [], tt))

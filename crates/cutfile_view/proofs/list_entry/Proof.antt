@@ -37,7 +37,7 @@ use denote.Triple.Table.{entered, cited}
 use denote.Triple.Walked.{says, needs, Stays, stay-none, stay-none-slice, walkOf, goes-none, goes-none-slice, Walks, ends-at, walked, walk-meets}
 use denote.Exit.{yes}
 use denote.Triple.Clauses.{ensured, lasts}
-use Rattle.cutfile.specs.Layout.{LongEnough, entryAt}
+use Rattle.cutfile.specs.Layout.{LongEnough, fileEntry}
 use Rattle.cutfile_view.specs.declared.CutFile.{CutFile}
 use Rattle.cutfile_view.proofs.CutFile as T
 use Rattle.cutfile_view.proofs.CutFile.Laws as T′
@@ -82,7 +82,7 @@ Made s n k r = (r .bytes ≡ s) × (r .n ≡ n) × (r .k ≡ k)
 ready-in : (s : RefT (List ℕ)) (n k i : ℕ) (r : CutFile) → Made s n k r → Ready s n k i → Ready-in r i
 ready-in s n k i r e ready = rw (e .0, e .1, e .2) ready
 
-same : (s : RefT (List ℕ)) (n k i : ℕ) (r : CutFile) → Made s n k r → entryAt (now (r .bytes)) i ≡ entryAt (now s) i
+same : (s : RefT (List ℕ)) (n k i : ℕ) (r : CutFile) → Made s n k r → fileEntry (now (r .bytes)) i ≡ fileEntry (now s) i
 same s n k i r e = rw (e .0)
 
 module _ {M : Type 1} (𝓤 : URA M) (H : Heap 𝓤) (A : Atoms 𝓤) (W : Given 𝓤 H A) (mem : Memory → SProp 𝓤) (run : Routine → Fun 𝓤) (κ : Lft) (q : Share) (s : RefT (List ℕ)) (n k i : ℕ) (n-fits : n < 2 ^ 64) (k-fits : k < 2 ^ 64) (i-fits : i < 2 ^ 64) where
@@ -91,7 +91,7 @@ module _ {M : Type 1} (𝓤 : URA M) (H : Heap 𝓤) (A : Atoms 𝓤) (W : Given
   v = sliceVal (s .ptr) (length (s .now))
 
   abbrev found : ℕ
-  found = entryAt (now s) i
+  found = fileEntry (now s) i
 
   -- the struct's type as a local of a body has it
   abbrev αᵉ : NamedLft
@@ -133,8 +133,8 @@ module _ {M : Type 1} (𝓤 : URA M) (H : Heap 𝓤) (A : Atoms 𝓤) (W : Given
       qed W (‵ (B (κ, tt) .own r (u ∷ [])) ∷ (‵ (flft κ q) ⊛ ‵ ftrue) ∷ []) ∵ says ! ready $
       nothing ! $ owned ! usize (Is usize) (uint-makes 𝓤 H A W w64) i _ (refl, i-fits) $ fjoin ! $ move ! (1 ∷ 0 ∷ []) $ fjoin ! $ move ! (1 ∷ 0 ∷ []) $ frame ! $ done !
 
-  entry-said : (r : CutFile) (t : ℕ) → ent 𝓤 (ensured 𝓤 H A entry.ended (entry.clauses 𝓤 H A mem run) (κ, tt) (r, (i, tt)) tt t) (fact 𝓤 (t ≡ entryAt (now (r .bytes)) i))
-  entry-said r t = exE 𝓤 _ (λ ws. snd∗ 𝓤 (sem 𝓤 H A (lasts entry.ended (κ, tt) (r, (i, tt)) ws)) (fact 𝓤 (t ≡ entryAt (now (r .bytes)) i)))
+  entry-said : (r : CutFile) (t : ℕ) → ent 𝓤 (ensured 𝓤 H A entry.ended (entry.clauses 𝓤 H A mem run) (κ, tt) (r, (i, tt)) tt t) (fact 𝓤 (t ≡ fileEntry (now (r .bytes)) i))
+  entry-said r t = exE 𝓤 _ (λ ws. snd∗ 𝓤 (sem 𝓤 H A (lasts entry.ended (κ, tt) (r, (i, tt)) ws)) (fact 𝓤 (t ≡ fileEntry (now (r .bytes)) i)))
 
   exits : (t : ℕ) (u : Val) → t ≡ found → ent 𝓤 (⋆ 𝓤 H A (‵ (u32 .own t (u ∷ [])) ∷ (‵ (flft κ q) ⊛ ‵ ftrue) ∷ ‵ Own ∷ [])) (Post u)
   exits t u e =
@@ -158,7 +158,7 @@ module _ {M : Type 1} (𝓤 : URA M) (H : Heap 𝓤) (A : Atoms 𝓤) (W : Given
         use2 W (raw (Entry 𝓤 H A mem run .pre (to-entry r u))) (goes-entry r u (ready-in s n k i r e ready)) $
         calls-at ! fm (Entry 𝓤 H A mem run) known-entry (to-entry r u) (and-then ! (load ! (from ! (stop !)) (look ! 2 refl)) (and-then ! (load ! (from ! (stop !)) (look ! 4 refl)) (no-more !))) (λ u′.
         use1 W (later (some (λ (t : ℕ). ((‵ (flft κ q) ⊛ ‵ ftrue) ⊛ ‵ (u32 .own t (u′ ∷ []))) ⊛ raw (ensured 𝓤 H A entry.ended (entry.clauses 𝓤 H A mem run) (κ, tt) (r, (i, tt)) tt t)))) (id⊢ 𝓤 _) $ await ! tt $ pick ! (λ t.
-        split ! $ move ! (1 ∷ []) $ use1 W (raw (fact 𝓤 (t ≡ entryAt (now (r .bytes)) i))) (entry-said r t) $ heard ! (t ≡ entryAt (now (r .bytes)) i) (λ e′. split ! $ move ! (1 ∷ []) $
+        split ! $ move ! (1 ∷ []) $ use1 W (raw (fact 𝓤 (t ≡ fileEntry (now (r .bytes)) i))) (entry-said r t) $ heard ! (t ≡ fileEntry (now (r .bytes)) i) (λ e′. split ! $ move ! (1 ∷ []) $
         -- [the result; the token; what s owns; the locals, the last first, with room for _0 at their end]
         peeks ! u32 (Is u32) (shows 𝓤 H A u32) t (u′ ∷ []) (λ is′.
         land ! (from ! (stop !)) (init ! 13 refl (uint-lawful 𝓤 H A W w32 .typed t _ is′ .0)) $

@@ -6,7 +6,7 @@ use Prim.Native.Nat.{ℕ, _≤_, _-_}
 use native.Mathlib.Omega.{arith}
 use lib.ListN.{length, set}
 use denote.Ref.{now}
-use Rattle.cutfile.specs.Layout.{entryAt}
+use Rattle.cutfile.specs.Layout.{fileEntry}
 use Rattle.decode.specs.Tables.{filled}
 use Rattle.decode.proofs.TablesLaws.{filled-none, length-filled, filled-more}
 use borrow.Author.Needs.{needs}
@@ -14,7 +14,7 @@ use Rattle.decode.proofs.decode_list.Statement.{statement}
 use Rattle.decode.proofs.decode_list.Tie as tie
 
 abbrev Inv-loop : tie.InvT-loop
-Inv-loop file n k out₀ i₀ out i = (i ≤ k) × (out ≡ filled i (entryAt file) out₀)
+Inv-loop file n k out₀ i₀ out i = (i ≤ k) × (out ≡ filled i (fileEntry file) out₀)
 
 abbrev μ-loop : tie.MeasureT-loop
 μ-loop file n k out₀ i₀ out i = k - i
@@ -29,10 +29,10 @@ index-requires : tie.Need-index-requires Inv-loop μ-loop
 index-requires c κs = search needs
 
 mul-out : tie.Need-mul-out Inv-loop μ-loop
-mul-out c = let l = ap length (c .before .before .before .loop .inv .1) ∙ length-filled (entryAt (now (c .before .before .before .before .before .before .args .file))) _ _ (omega arith) in omega arith
+mul-out c = let l = ap length (c .before .before .before .loop .inv .1) ∙ length-filled (fileEntry (now (c .before .before .before .before .before .before .args .file))) _ _ (omega arith) in omega arith
 
 slice-write-out : tie.Need-slice-write-out Inv-loop μ-loop
-slice-write-out c = let l = ap length (c .before .before .before .loop .inv .1) ∙ length-filled (entryAt (now (c .before .before .before .before .before .before .args .file))) _ _ (omega arith) in omega arith
+slice-write-out c = let l = ap length (c .before .before .before .loop .inv .1) ∙ length-filled (fileEntry (now (c .before .before .before .before .before .before .args .file))) _ _ (omega arith) in omega arith
 
 add-i : tie.Need-add-i Inv-loop μ-loop
 add-i c = search needs
@@ -47,7 +47,7 @@ same-length : tie.Need-same-length Inv-loop μ-loop
 same-length c = ap length (c .before .loop .inv .1) ∙ length-filled _ _ _ (omega arith)
 
 returns : tie.Need-returns Inv-loop μ-loop
-returns c = c .before .loop .inv .1 ∙ ap (λ (m : ℕ). filled m (entryAt (now (c .before .before .before .before .args .file))) (now (c .before .before .before .before .args .out))) (omega arith)
+returns c = c .before .loop .inv .1 ∙ ap (λ (m : ℕ). filled m (fileEntry (now (c .before .before .before .before .args .file))) (now (c .before .before .before .before .args .out))) (omega arith)
 
 pub decode-list-spec : {M : Type 1} → statement M
 decode-list-spec =

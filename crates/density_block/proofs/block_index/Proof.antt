@@ -5,7 +5,7 @@ use native.Mathlib.Omega.{arith}
 use lib.ListN.{length, drop}
 use denote.Ref.{now}
 use Rattle.density_block.specs.Factor.{blockIndex}
-use Rattle.density_block.proofs.FactorLawsLaws.{index-end, index-small, index-turn, index-all}
+use Rattle.density_block.proofs.FactorLaws.{index-end, index-small, index-turn, index-all}
 use borrow.Author.Needs.{needs}
 use Rattle.density_block.proofs.block_index.Statement.{statement}
 use Rattle.density_block.proofs.block_index.Tie as tie

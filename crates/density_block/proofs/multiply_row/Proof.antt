@@ -7,14 +7,14 @@ use Rattle.complex.specs.Arithmetic.{product}
 use Rattle.complex.specs.Cells.{cellAt}
 use Rattle.density_entries.proofs.MirroredLaws.{index-small, cell-in}
 use Rattle.density_block.specs.Factor.{factorEntry}
-use Rattle.density_block.proofs.FactorLawsLaws.{factor-in, factor-small, factored-square, row-begin, row-turn, row-end}
-use Rattle.density_block.specs.FactorLaws.{RowTurns}
+use Rattle.density_block.proofs.FactorLaws.{factor-in, factor-small, factored-square, row-begin, row-turn, row-end}
+use Rattle.density_block.specs.FactorLoops.{FactorSteps}
 use borrow.Author.Needs.{needs}
 use Rattle.density_block.proofs.multiply_row.Statement.{statement}
 use Rattle.density_block.proofs.multiply_row.Tie as tie
 
 abbrev Inv-loop : tie.InvT-loop
-Inv-loop rho₀ dim t positions factor side row u₀ rho u = RowTurns dim t (factorEntry positions factor side t) rho₀ rho u
+Inv-loop rho₀ dim t positions factor side row u₀ rho u = FactorSteps dim t (factorEntry positions factor side t) rho₀ rho u
 
 abbrev μ-loop : tie.MeasureT-loop
 μ-loop rho₀ dim t positions factor side row u₀ rho u = dim - u

@@ -4,7 +4,7 @@ use Prim.Native.Nat.{_-_}
 use native.Mathlib.Omega.{arith}
 use mathlib.Core.Path.{_∙_}
 use Rattle.density_block.specs.Factor.{factorEntry}
-use Rattle.density_block.proofs.FactorLawsLaws.{AllTurns, all-begin, all-turn, all-end}
+use Rattle.density_block.proofs.FactorLaws.{AllTurns, all-begin, all-turn, all-end}
 use borrow.Author.Needs.{needs}
 use Rattle.density_block.proofs.multiply_rows.Statement.{statement}
 use Rattle.density_block.proofs.multiply_rows.Tie as tie

@@ -3,7 +3,7 @@ use mathlib.Core.Path.{_≡_, refl, sym, ap, _∙_}
 use Prim.Native.Nat.{ℕ, _≤_}
 use native.Mathlib.Omega.{arith}
 use Rattle.density_block.specs.Factor.{widthOf}
-use Rattle.density_block.proofs.FactorLawsLaws.{width-found, width-next, width-none}
+use Rattle.density_block.proofs.FactorLaws.{width-found, width-next, width-none}
 use borrow.Author.Needs.{needs}
 use Rattle.density_block.proofs.width_of.Statement.{statement}
 use Rattle.density_block.proofs.width_of.Tie as tie

@@ -1,14 +1,14 @@
 -- `density_entries::fill_offsets` meets its contract. The loop's invariant and its turn are those of `EntryLaws`. Assumes nothing.
 use Prim.Native.Nat.{_-_}
 use native.Mathlib.Omega.{arith}
-use Rattle.density_entries.specs.EntryLaws.{OffsetTurns}
-use Rattle.density_entries.proofs.EntryLawsLaws.{offset-begin, offset-turn, offset-end}
+use Rattle.density_entries.specs.OffsetLoop.{OffsetSteps}
+use Rattle.density_entries.proofs.EntryLaws.{offset-begin, offset-turn, offset-end}
 use borrow.Author.Needs.{needs}
 use Rattle.density_entries.proofs.fill_offsets.Statement.{statement}
 use Rattle.density_entries.proofs.fill_offsets.Tie as tie
 
 abbrev Inv-loop : tie.InvT-loop
-Inv-loop list n dim offsets₀ t₀ offsets t = OffsetTurns list dim offsets₀ offsets t
+Inv-loop list n dim offsets₀ t₀ offsets t = OffsetSteps list dim offsets₀ offsets t
 
 abbrev μ-loop : tie.MeasureT-loop
 μ-loop list n dim offsets₀ t₀ offsets t = dim - t

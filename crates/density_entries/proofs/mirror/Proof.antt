@@ -1,13 +1,13 @@
 -- `density_entries::mirror` meets its contract. The loop's invariant and its turn are those of `Mirrored`. Assumes nothing.
 use Prim.Native.Nat.{_-_}
 use native.Mathlib.Omega.{arith}
-use Rattle.density_entries.proofs.MirroredLaws.{RowTurns, row-begin, row-turn, row-end, mirror-end}
+use Rattle.density_entries.proofs.MirroredLaws.{MirrorSteps, row-begin, row-turn, row-end, mirror-end}
 use borrow.Author.Needs.{needs}
 use Rattle.density_entries.proofs.mirror.Statement.{statement}
 use Rattle.density_entries.proofs.mirror.Tie as tie
 
 abbrev Inv-loop : tie.InvT-loop
-Inv-loop rho₀ dim t₀ rho t = RowTurns dim rho₀ rho t
+Inv-loop rho₀ dim t₀ rho t = MirrorSteps dim rho₀ rho t
 
 abbrev μ-loop : tie.MeasureT-loop
 μ-loop rho₀ dim t₀ rho t = dim - t

@@ -2,14 +2,14 @@
 use Prim.Native.Nat.{_≤_, _-_}
 use native.Mathlib.Omega.{arith}
 use Rattle.density_entries.proofs.MirroredLaws.{index-small, cell-in}
-use Rattle.density_rows.specs.RowSums.{RowTurns}
+use Rattle.density_rows.specs.RowSums.{RowSumSteps}
 use Rattle.density_rows.proofs.RowSumsLaws.{row-begin, row-turn, row-end}
 use borrow.Author.Needs.{needs}
 use Rattle.density_rows.proofs.write_row.Statement.{statement}
 use Rattle.density_rows.proofs.write_row.Tie as tie
 
 abbrev Inv-loop : tie.InvT-loop
-Inv-loop sums w dim r m out₀ u₀ out u = (u ≤ m) × RowTurns sums w dim r out₀ out u
+Inv-loop sums w dim r m out₀ u₀ out u = (u ≤ m) × RowSumSteps sums w dim r out₀ out u
 
 abbrev μ-loop : tie.MeasureT-loop
 μ-loop sums w dim r m out₀ u₀ out u = m - u

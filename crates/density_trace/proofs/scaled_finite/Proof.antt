@@ -4,7 +4,7 @@ use mathlib.Core.Bool.{Bool, true, _&&_}
 use Prim.Native.Nat.{ℕ, _≤_, _-_}
 use native.Mathlib.Omega.{arith}
 use denote.Ref.{now}
-use Rattle.numbers.specs.Numbers.{finite}
+use Rattle.numbers.specs.Numbers.{isFinite}
 use Rattle.complex.specs.declared.Complex.{Complex}
 use Rattle.complex.specs.Arithmetic.{scaled}
 use Rattle.complex.proofs.Loops.{stop}
@@ -42,13 +42,13 @@ loop-less : tie.Need-loop-less Inv-loop μ-loop
 loop-less c = search needs
 
 loop-again : tie.Need-loop-again Inv-loop μ-loop
-loop-again c = let z = c .before .before .before .before .before .before .before .before .before in let e = c .before .before .before .before .scale .ensures ∙ ap (λ (w : Complex). scaled w (z .args .scale)) (c .before .before .before .before .before .read-cell .ensures) in (omega (arith, c .before .before .before .before .before .before .loop-test .taken), finite-more (scaledCell (now (z .args .rho)) (z .args .scale)) (c .before .before .before .before .before .before .before .loop .k) (c .before .before .before .before .before .before .before .loop .inv .1) (ap (λ (w : Complex). finite (w .re)) (sym e) ∙ sym (c .before .before .before .is-finite .ensures) ∙ c .before .before .if1 .taken) (ap (λ (w : Complex). finite (w .im)) (sym e) ∙ sym (c .before .is-finite2 .ensures) ∙ c .if2 .taken))
+loop-again c = let z = c .before .before .before .before .before .before .before .before .before in let e = c .before .before .before .before .scale .ensures ∙ ap (λ (w : Complex). scaled w (z .args .scale)) (c .before .before .before .before .before .read-cell .ensures) in (omega (arith, c .before .before .before .before .before .before .loop-test .taken), finite-more (scaledCell (now (z .args .rho)) (z .args .scale)) (c .before .before .before .before .before .before .before .loop .k) (c .before .before .before .before .before .before .before .loop .inv .1) (ap (λ (w : Complex). isFinite (w .re)) (sym e) ∙ sym (c .before .before .before .is-finite .ensures) ∙ c .before .before .if1 .taken) (ap (λ (w : Complex). isFinite (w .im)) (sym e) ∙ sym (c .before .is-finite2 .ensures) ∙ c .if2 .taken))
 
 returns : tie.Need-returns Inv-loop μ-loop
-returns c = let z = c .before .before .before .before .before .before .before .before .before in let e = c .before .before .before .before .scale .ensures ∙ ap (λ (w : Complex). scaled w (z .args .scale)) (c .before .before .before .before .before .read-cell .ensures) in sym (finite-stop (scaledCell (now (z .args .rho)) (z .args .scale)) (z .args .cells) (c .before .before .before .before .before .before .before .loop .k) (c .before .before .before .before .before .before .loop-test .taken) (ap₂ (λ (x y : Bool). x && y) (ap (λ (w : Complex). finite (w .re)) (sym e) ∙ sym (c .before .before .before .is-finite .ensures) ∙ c .before .before .if1 .taken) (ap (λ (w : Complex). finite (w .im)) (sym e) ∙ sym (c .before .is-finite2 .ensures) ∙ c .if2 .left)))
+returns c = let z = c .before .before .before .before .before .before .before .before .before in let e = c .before .before .before .before .scale .ensures ∙ ap (λ (w : Complex). scaled w (z .args .scale)) (c .before .before .before .before .before .read-cell .ensures) in sym (finite-stop (scaledCell (now (z .args .rho)) (z .args .scale)) (z .args .cells) (c .before .before .before .before .before .before .before .loop .k) (c .before .before .before .before .before .before .loop-test .taken) (ap₂ (λ (x y : Bool). x && y) (ap (λ (w : Complex). isFinite (w .re)) (sym e) ∙ sym (c .before .before .before .is-finite .ensures) ∙ c .before .before .if1 .taken) (ap (λ (w : Complex). isFinite (w .im)) (sym e) ∙ sym (c .before .is-finite2 .ensures) ∙ c .if2 .left)))
 
 returns-2 : tie.Need-returns-2 Inv-loop μ-loop
-returns-2 c = let z = c .before .before .before .before .before .before .before in let e = c .before .before .scale .ensures ∙ ap (λ (w : Complex). scaled w (z .args .scale)) (c .before .before .before .read-cell .ensures) in let f = scaledCell (now (z .args .rho)) (z .args .scale) in sym (finite-stop f (z .args .cells) (c .before .before .before .before .before .loop .k) (c .before .before .before .before .loop-test .taken) (ap (λ (x : Bool). x && finite (f (c .before .before .before .before .before .loop .k) .im)) (ap (λ (w : Complex). finite (w .re)) (sym e) ∙ sym (c .before .is-finite .ensures) ∙ c .if1 .left)))
+returns-2 c = let z = c .before .before .before .before .before .before .before in let e = c .before .before .scale .ensures ∙ ap (λ (w : Complex). scaled w (z .args .scale)) (c .before .before .before .read-cell .ensures) in let f = scaledCell (now (z .args .rho)) (z .args .scale) in sym (finite-stop f (z .args .cells) (c .before .before .before .before .before .loop .k) (c .before .before .before .before .loop-test .taken) (ap (λ (x : Bool). x && isFinite (f (c .before .before .before .before .before .loop .k) .im)) (ap (λ (w : Complex). isFinite (w .re)) (sym e) ∙ sym (c .before .is-finite .ensures) ∙ c .if1 .left)))
 
 returns-3 : tie.Need-returns-3 Inv-loop μ-loop
 returns-3 c = let z = c .before .before .before in stop (λ (k : ℕ). finiteCells k (scaledCell (now (z .args .rho)) (z .args .scale))) (sym (c .before .loop .inv .1)) (c .before .loop .inv .0) (c .loop-test .left)

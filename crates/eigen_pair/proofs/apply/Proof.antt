@@ -1,5 +1,5 @@
 -- `eigen_pair::apply` meets its contract: one case of the definition for each case of the decision. Assumes nothing.
-use Rattle.eigen_pair.specs.Turn.{applied}
+use Rattle.eigen_pair.specs.Turn.{eigenApplied}
 use Rattle.eigen_pair.proofs.TurnLaws.{applied-turn}
 use borrow.Author.Needs.{needs}
 use Rattle.eigen_pair.proofs.apply.Statement.{statement}
@@ -15,7 +15,7 @@ turn-pair-requires : tie.Need-turn-pair-requires
 turn-pair-requires c κs = search needs
 
 returns : tie.Need-returns
-unfolding applied
+unfolding eigenApplied
 returns c = cc
 
 same-length : tie.Need-same-length

@@ -2,7 +2,7 @@
 use mathlib.Core.Path.{_∙_}
 use Prim.Native.Nat.{_*_, _+_, _<_}
 use native.Mathlib.Omega.{arith}
-use Rattle.svd_pair.proofs.DecisionsLaws.{verdict-one}
+use Rattle.svd_pair.proofs.Theorems.{verdict-one}
 use denote.Ref.{now}
 use Rattle.eigen_pair.proofs.CellPlanesLaws.{plane-read, plane-re}
 use Rattle.eigen_pair.proofs.TurnLaws.{cell-fits}

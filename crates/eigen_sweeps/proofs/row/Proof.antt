@@ -4,14 +4,14 @@ use Prim.Native.Nat.{_+_, _-_, _*_, _≤_, _<_}
 use native.Mathlib.Omega.{arith}
 use lib.ListN.{length}
 use Rattle.eigen_pair.specs.CellPlanes.{asPlanes}
-use Rattle.eigen_sweeps.specs.Sweeping.{state, pairsTo}
+use Rattle.eigen_sweeps.specs.Sweeping.{eigenState, eigenPairsTo}
 use Rattle.eigen_sweeps.proofs.SweepingLaws.{pairs-none, pairs-more}
 use borrow.Author.Needs.{needs}
 use Rattle.eigen_sweeps.proofs.row.Statement.{statement}
 use Rattle.eigen_sweeps.proofs.row.Tie as tie
 
 abbrev Inv-loop : tie.InvT-loop
-Inv-loop xs₀ n largest p t₀ q₀ xs t q = (p < q) × (q ≤ n) × (length xs ≡ length xs₀) × (t .turned + (p + 1) ≤ t₀ .turned + q) × (t .begun ≡ t₀ .begun) × (state (asPlanes (n * n) xs) t ≡ pairsTo n largest p (q - (p + 1)) (state (asPlanes (n * n) xs₀) t₀))
+Inv-loop xs₀ n largest p t₀ q₀ xs t q = (p < q) × (q ≤ n) × (length xs ≡ length xs₀) × (t .turned + (p + 1) ≤ t₀ .turned + q) × (t .begun ≡ t₀ .begun) × (eigenState (asPlanes (n * n) xs) t ≡ eigenPairsTo n largest p (q - (p + 1)) (eigenState (asPlanes (n * n) xs₀) t₀))
 
 abbrev μ-loop : tie.MeasureT-loop
 μ-loop xs₀ n largest p t₀ q₀ xs t q = n - q

@@ -4,14 +4,14 @@ use Prim.Native.Nat.{_-_, _*_, _≤_}
 use native.Mathlib.Omega.{arith}
 use lib.ListN.{length}
 use Rattle.eigen_pair.specs.CellPlanes.{asPlanes}
-use Rattle.eigen_sweeps.specs.Sweeping.{state, settled, sweepsTo}
+use Rattle.eigen_sweeps.specs.Sweeping.{eigenState, eigenSettled, eigenSweepsTo}
 use Rattle.eigen_sweeps.proofs.SweepingLaws.{settled-start, sweeps-done, sweeps-more, sweeps-quiet}
 use borrow.Author.Needs.{needs}
 use Rattle.eigen_sweeps.proofs.settle.Statement.{statement}
 use Rattle.eigen_sweeps.proofs.settle.Tie as tie
 
 abbrev Inv-loop : tie.InvT-loop
-Inv-loop xs₀ n s₀ k₀ xs s k = (k ≤ 60) × (length xs ≡ length xs₀) × (s .begun ≤ k) × (s .turned ≤ k * 4096) × (sweepsTo n (60 - k) (state (asPlanes (n * n) xs) s) ≡ settled n (asPlanes (n * n) xs₀))
+Inv-loop xs₀ n s₀ k₀ xs s k = (k ≤ 60) × (length xs ≡ length xs₀) × (s .begun ≤ k) × (s .turned ≤ k * 4096) × (eigenSweepsTo n (60 - k) (eigenState (asPlanes (n * n) xs) s) ≡ eigenSettled n (asPlanes (n * n) xs₀))
 
 abbrev μ-loop : tie.MeasureT-loop
 μ-loop xs₀ n s₀ k₀ xs s k = 60 - k

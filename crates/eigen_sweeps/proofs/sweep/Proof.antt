@@ -4,14 +4,14 @@ use Prim.Native.Nat.{_+_, _-_, _*_, _≤_}
 use native.Mathlib.Omega.{arith}
 use lib.ListN.{length}
 use Rattle.eigen_pair.specs.CellPlanes.{asPlanes}
-use Rattle.eigen_sweeps.specs.Sweeping.{state, rowsTo}
+use Rattle.eigen_sweeps.specs.Sweeping.{eigenState, rowsTo}
 use Rattle.eigen_sweeps.proofs.SweepingLaws.{rows-none, rows-more, sweep-made}
 use borrow.Author.Needs.{needs}
 use Rattle.eigen_sweeps.proofs.sweep.Statement.{statement}
 use Rattle.eigen_sweeps.proofs.sweep.Tie as tie
 
 abbrev Inv-loop : tie.InvT-loop
-Inv-loop xs₀ n largest t₀ p₀ xs t p = (p ≤ n) × (length xs ≡ length xs₀) × (t .turned ≤ t₀ .turned + p * 64) × (t .begun ≡ t₀ .begun) × (state (asPlanes (n * n) xs) t ≡ rowsTo n largest p (state (asPlanes (n * n) xs₀) t₀))
+Inv-loop xs₀ n largest t₀ p₀ xs t p = (p ≤ n) × (length xs ≡ length xs₀) × (t .turned ≤ t₀ .turned + p * 64) × (t .begun ≡ t₀ .begun) × (eigenState (asPlanes (n * n) xs) t ≡ rowsTo n largest p (eigenState (asPlanes (n * n) xs₀) t₀))
 
 abbrev μ-loop : tie.MeasureT-loop
 μ-loop xs₀ n largest t₀ p₀ xs t p = n - p

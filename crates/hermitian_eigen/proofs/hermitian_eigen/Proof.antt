@@ -7,7 +7,7 @@ use lib.ListN.{length}
 use lib.Seq.{length-take-le}
 use denote.Ref.{now}
 use Rattle.answers.proofs.Stopped.{passed, was-done, stopped-number}
-use Rattle.hermitian_eigen.proofs.HermitianLaws.{Accepted, accepted, eigen-worked, eigen-refused}
+use Rattle.hermitian_eigen.proofs.HermitianLaws.{HermitianAccepted, accepted, eigen-worked, eigen-refused}
 use borrow.Author.Needs.{needs}
 use Rattle.hermitian_eigen.proofs.hermitian_eigen.Statement.{statement}
 use Rattle.hermitian_eigen.proofs.hermitian_eigen.Tie as tie
@@ -15,7 +15,7 @@ use Rattle.hermitian_eigen.proofs.hermitian_eigen.Tie as tie
 -- the tests passed
 accept : (c : tie.After-enum-told)
     → let a = c .before .before .before .before .before .before .before .args in
-    Accepted (a .dim) (length (now (a .matrix))) (length (now (a .values))) (length (now (a .vectors))) (length (now (a .scratch)))
+    HermitianAccepted (a .dim) (length (now (a .matrix))) (length (now (a .values))) (length (now (a .vectors))) (length (now (a .scratch)))
 accept c = accepted _ _ _ _ _ (was-done _ _ (c .before .before .check .ensures) (c .enum-told .given .1))
 
 cells : (c : tie.After-enum-told) → let a = c .before .before .before .before .before .before .before .args in a .dim * a .dim ≤ 64 * 64

@@ -1,7 +1,7 @@
 -- `qr::check` meets its contract: each refusal ends the row, and the row ends with the components. Assumes nothing.
 use mathlib.Core.Path.{sym, _∙_}
 use Rattle.answers.proofs.Stopped.{refused, passed, was-done}
-use Rattle.qr.specs.Call.{refusal}
+use Rattle.qr.specs.Call.{qrRefusal}
 use Rattle.qr.proofs.CallLaws.{sizes-done}
 use borrow.Author.Needs.{needs}
 use Rattle.qr.proofs.check.Statement.{statement}
@@ -14,7 +14,7 @@ enum-told : tie.Need-enum-told
 enum-told c = search needs
 
 returns : tie.Need-returns
-unfolding refusal
+unfolding qrRefusal
 returns c = refused (c .before .check-sizes .result) _ _ (c .before .check-sizes .ensures) (c .match .keys2)
 
 check-lengths-requires : tie.Need-check-lengths-requires
@@ -24,14 +24,14 @@ enum-told-2 : tie.Need-enum-told-2
 enum-told-2 c = search needs
 
 returns-2 : tie.Need-returns-2
-unfolding refusal
+unfolding qrRefusal
 returns-2 c = refused (c .before .check-lengths .result) _ _ (c .before .check-lengths .ensures) (c .match2 .keys2) ∙ sym (passed _ _ _ (c .before .before .before .before .check-sizes .ensures) (c .before .before .enum-told .given .1))
 
 check-components-requires : tie.Need-check-components-requires
 check-components-requires c κs = search needs
 
 returns-3 : tie.Need-returns-3
-unfolding refusal
+unfolding qrRefusal
 returns-3 c = c .check-components .ensures ∙ sym (passed _ _ _ (c .before .before .before .check-lengths .ensures) (c .before .enum-told2 .given .1)) ∙ sym (passed _ _ _ (c .before .before .before .before .before .before .check-sizes .ensures) (c .before .before .before .before .enum-told .given .1))
 
 pub check-spec : {M : Type 1} → statement M

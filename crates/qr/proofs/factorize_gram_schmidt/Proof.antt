@@ -7,8 +7,8 @@ use lib.Seq.{length-take-le}
 use denote.Ref.{now}
 use Rattle.answers.proofs.Stopped.{was-done, stopped-number}
 use Rattle.complex.specs.Zeros.{zeros}
-use Rattle.qr_passes.specs.Room.{Room}
-use Rattle.qr.specs.Call.{Sized, refusal}
+use Rattle.qr_passes.specs.Room.{QrRoom}
+use Rattle.qr.specs.Call.{QrSized, qrRefusal}
 use Rattle.qr.proofs.CallLaws.{Long, q-cells, r-cells, q-same, r-same, rows-within, refusal-sized, refusal-long, parts-room, room-some, call-refused, call-passed, call-worked}
 use borrow.Author.Needs.{needs}
 use Rattle.qr.proofs.factorize_gram_schmidt.Statement.{statement}
@@ -16,10 +16,10 @@ use Rattle.qr.proofs.factorize_gram_schmidt.Tie as tie
 
 -- what the check that passed says, where the sizes of the parts are known
 good : (c : tie.After-smaller)
-    → let x = c .before .before .before .before .before .before .before .before .args in refusal (now (x .a)) (x .rows) (x .cols) (length (now (x .q))) (length (now (x .r))) (length (now (x .scratch))) .0 ≡ 0
+    → let x = c .before .before .before .before .before .before .before .before .args in qrRefusal (now (x .a)) (x .rows) (x .cols) (length (now (x .q))) (length (now (x .r))) (length (now (x .scratch))) .0 ≡ 0
 good c = was-done _ _ (c .before .before .before .check .ensures) (c .before .enum-told .given .1)
 
-fine : (c : tie.After-smaller) → let x = c .before .before .before .before .before .before .before .before .args in Sized (x .rows) (x .cols)
+fine : (c : tie.After-smaller) → let x = c .before .before .before .before .before .before .before .before .args in QrSized (x .rows) (x .cols)
 fine c = refusal-sized _ _ _ _ _ _ (good c)
 
 few : (c : tie.After-smaller) → let x = c .before .before .before .before .before .before .before .before .args in x .rows * x .cols ≤ 4096
@@ -36,7 +36,7 @@ r-room c = omega (arith, r-same (c .before .before .before .before .before .befo
 
 room : (c : tie.After-smaller)
     → let x = c .before .before .before .before .before .before .before .before .args in
-    Room (x .rows) (x .cols) (min (x .rows) (x .cols)) (length (now (x .a))) (length (take (2 * (c .smaller .result * x .rows)) (now (x .q))))
+    QrRoom (x .rows) (x .cols) (min (x .rows) (x .cols)) (length (now (x .a))) (length (take (2 * (c .smaller .result * x .rows)) (now (x .q))))
     (length (take (2 * (c .smaller .result * x .cols)) (now (x .r)))) (length (take (2 * x .rows) (now (x .scratch))))
 room c = let x = c .before .before .before .before .before .before .before .before .args in parts-room _ _ (now (x .a)) (now (x .q)) (now (x .r)) (now (x .scratch)) (long c) (q-same _ _ (c .smaller .ensures)) (r-same _ _ (c .smaller .ensures)) refl
 

@@ -5,14 +5,14 @@ use Prim.Native.Nat.{_-_, _≤_}
 use lib.ListN.{length}
 use Rattle.complex.proofs.Loops.{stop}
 use Rattle.qr_basis.specs.Matrix.{matrixOf}
-use Rattle.qr_passes.specs.GramSchmidt.{factors, columnsTo}
+use Rattle.qr_passes.specs.GramSchmidt.{factors, qrColumnsTo}
 use Rattle.qr_passes.proofs.GramSchmidtLaws.{columns-none, columns-more}
 use borrow.Author.Needs.{needs}
 use Rattle.qr_factor.proofs.add_columns.Statement.{statement}
 use Rattle.qr_factor.proofs.add_columns.Tie as tie
 
 abbrev Inv-loop : tie.InvT-loop
-Inv-loop a rows cols cap q₀ r₀ v₀ rank₀ j₀ q r v rank j = (j ≤ cols) × (rank ≤ cap) × (length q ≡ length q₀) × (length r ≡ length r₀) × (length v ≡ length v₀) × (factors (matrixOf rows q) r rank ≡ columnsTo a rows cols cap (factors (matrixOf rows q₀) r₀ 0) j)
+Inv-loop a rows cols cap q₀ r₀ v₀ rank₀ j₀ q r v rank j = (j ≤ cols) × (rank ≤ cap) × (length q ≡ length q₀) × (length r ≡ length r₀) × (length v ≡ length v₀) × (factors (matrixOf rows q) r rank ≡ qrColumnsTo a rows cols cap (factors (matrixOf rows q₀) r₀ 0) j)
 
 abbrev μ-loop : tie.MeasureT-loop
 μ-loop a rows cols cap q₀ r₀ v₀ rank₀ j₀ q r v rank j = cols - j
@@ -42,7 +42,7 @@ same-length-3 : tie.Need-same-length-3 Inv-loop μ-loop
 same-length-3 c = c .before .loop .inv .4
 
 returns : tie.Need-returns Inv-loop μ-loop
-returns c = stop (columnsTo _ _ _ _ _) (c .before .loop .inv .5) (search needs) (search needs)
+returns c = stop (qrColumnsTo _ _ _ _ _) (c .before .loop .inv .5) (search needs) (search needs)
 
 pub add-columns-spec : {M : Type 1} → statement M
 add-columns-spec =

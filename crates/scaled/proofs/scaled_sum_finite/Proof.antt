@@ -6,7 +6,7 @@ use Prim.Native.Nat.{_-_, _+_}
 use native.Mathlib.Omega.{arith}
 use borrow.Author.Needs.{needs}
 use lib.ListN.{length}
-use Rattle.numbers.specs.Numbers.{finite}
+use Rattle.numbers.specs.Numbers.{isFinite}
 use Rattle.scaled.proofs.EightLaws.{Holds, holds-first, holds-more, holds-all}
 use Rattle.scaled.proofs.scaled_sum_finite.Statement.{statement}
 use Rattle.scaled.proofs.scaled_sum_finite.Tie as tie
@@ -54,7 +54,7 @@ returns-2 : tie.Need-returns-2 Inv-loop μ-loop
 returns-2 c =
     λ h.
     let b = c .before .before .before in
-    holds-all _ _ _ _ (b .loop .inv .0) (c .before .before .loop-test .left) (b .loop .inv .1) (ap finite (sym (c .before .join .ensures)) ∙ sym (c .is-finite .ensures) ∙ h)
+    holds-all _ _ _ _ (b .loop .inv .0) (c .before .before .loop-test .left) (b .loop .inv .1) (ap isFinite (sym (c .before .join .ensures)) ∙ sym (c .is-finite .ensures) ∙ h)
 
 pub scaled-sum-finite-spec : {M : Type 1} → statement M
 scaled-sum-finite-spec =

@@ -1,13 +1,13 @@
 -- `signs::add_term` meets its contract: `conjugate-product`. Assumes nothing.
 use mathlib.Core.Path.{ap}
-use Rattle.complex.specs.Arithmetic.{sum}
+use Rattle.complex.specs.Arithmetic.{sumOf}
 use Rattle.signs.proofs.Signs.{conjugateProduct, conjugate-product}
 use Rattle.signs.proofs.add_term.Statement.{statement}
 use Rattle.signs.proofs.add_term.Tie as tie
 
 returns : tie.Need-returns
-unfolding sum conjugateProduct
-returns c = let z = c .before .before .before .before .before .before .before .before .before .before in ap (sum (z .args .s)) (conjugate-product (z .args .a) (z .args .b))
+unfolding sumOf conjugateProduct
+returns c = let z = c .before .before .before .before .before .before .before .before .before .before in ap (sumOf (z .args .s)) (conjugate-product (z .args .a) (z .args .b))
 
 pub add-term-spec : {M : Type 1} → statement M
 add-term-spec = tie.close (tie.spec returns)

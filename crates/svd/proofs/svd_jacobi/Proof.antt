@@ -6,7 +6,7 @@ use lib.ListN.{length}
 use lib.Seq.{length-take-le}
 use denote.Ref.{now}
 use Rattle.answers.proofs.Stopped.{passed, was-done, stopped-number}
-use Rattle.svd.proofs.SvdLaws.{Accepted, accepted, side-cells, svd-worked, svd-refused}
+use Rattle.svd.proofs.SvdLaws.{SvdAccepted, accepted, side-cells, svd-worked, svd-refused}
 use borrow.Author.Needs.{needs}
 use Rattle.svd.proofs.svd_jacobi.Statement.{statement}
 use Rattle.svd.proofs.svd_jacobi.Tie as tie
@@ -14,7 +14,7 @@ use Rattle.svd.proofs.svd_jacobi.Tie as tie
 -- the tests passed
 accept : (c : tie.After-enum-told)
     → let a = c .before .before .before .before .before .before .before .before .args in
-    Accepted (a .m) (a .n) (length (now (a .a))) (length (now (a .u))) (length (now (a .s))) (length (now (a .vt))) (length (now (a .scratch)))
+    SvdAccepted (a .m) (a .n) (length (now (a .a))) (length (now (a .u))) (length (now (a .s))) (length (now (a .vt))) (length (now (a .scratch)))
 accept c = accepted _ _ _ _ _ _ _ (was-done _ _ (c .before .before .check .ensures) (c .enum-told .given .1))
 
 cells : (c : tie.After-smaller-size)

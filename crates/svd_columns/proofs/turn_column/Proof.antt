@@ -8,14 +8,14 @@ use Rattle.complex.proofs.Loops.{stop}
 use Rattle.complex.specs.Cells.{written}
 use Rattle.complex.proofs.CellLaws.{written-none}
 use Rattle.complex.specs.Planes.{planeAt}
-use Rattle.svd_columns.specs.Columns.{turnOf}
+use Rattle.svd_columns.specs.Columns.{vCell}
 use Rattle.svd_columns.proofs.Grids.{written-turn}
 use borrow.Author.Needs.{needs}
 use Rattle.svd_columns.proofs.turn_column.Statement.{statement}
 use Rattle.svd_columns.proofs.turn_column.Tie as tie
 
 abbrev Inv-loop : tie.InvT-loop
-Inv-loop v c at rows wide out₀ r₀ out r = (r ≤ rows) × (length out ≡ length out₀) × (out ≡ written r (λ k. turnOf wide (planeAt v c (at + k))) out₀)
+Inv-loop v c at rows wide out₀ r₀ out r = (r ≤ rows) × (length out ≡ length out₀) × (out ≡ written r (λ k. vCell wide (planeAt v c (at + k))) out₀)
 
 abbrev μ-loop : tie.MeasureT-loop
 μ-loop v c at rows wide out₀ r₀ out r = rows - r
@@ -42,13 +42,13 @@ loop-less : tie.Need-loop-less Inv-loop μ-loop
 loop-less c = search needs
 
 loop-again : tie.Need-loop-again Inv-loop μ-loop
-loop-again c = let s = c .before .before .before .before .before .before .before .before .before .before in (search needs, search needs, written-turn _ _ _ (omega (arith, s .pre .2, c .before .before .before .before .before .before .loop-test .taken)) (c .before .before .before .before .before .before .before .loop .inv .2) (c .before .before .before .turn .ensures ∙ ap (turnOf (s .args .wide)) (c .before .before .before .before .before .read-plane .ensures)) (c .before .before .write-cell .ensures))
+loop-again c = let s = c .before .before .before .before .before .before .before .before .before .before in (search needs, search needs, written-turn _ _ _ (omega (arith, s .pre .2, c .before .before .before .before .before .before .loop-test .taken)) (c .before .before .before .before .before .before .before .loop .inv .2) (c .before .before .before .turn .ensures ∙ ap (vCell (s .args .wide)) (c .before .before .before .before .before .read-plane .ensures)) (c .before .before .write-cell .ensures))
 
 same-length : tie.Need-same-length Inv-loop μ-loop
 same-length c = search needs
 
 returns : tie.Need-returns Inv-loop μ-loop
-returns c = let a = c .before .before .before .before .args in stop (λ k. written k (λ j. turnOf (a .wide) (planeAt (now (a .v)) (a .c) (a .at + j))) (now (a .out))) (c .before .loop .inv .2) (search needs) (search needs)
+returns c = let a = c .before .before .before .before .args in stop (λ k. written k (λ j. vCell (a .wide) (planeAt (now (a .v)) (a .c) (a .at + j))) (now (a .out))) (c .before .loop .inv .2) (search needs) (search needs)
 
 pub turn-column-spec : {M : Type 1} → statement M
 turn-column-spec =

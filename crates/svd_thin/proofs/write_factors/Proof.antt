@@ -13,14 +13,14 @@ mul-x c = search needs
 mul-x-2 : tie.Need-mul-x-2
 mul-x-2 c = search needs
 
-slice-reshare-prefix-write-turns : tie.Need-slice-reshare-prefix-write-turns
-slice-reshare-prefix-write-turns c = omega (arith, square-fits (c .before .before .before .before .before .args .rows) (c .before .before .before .before .before .args .side) (c .before .before .before .before .before .pre .0 .tall), c .before .before .before .before .before .pre .0 .main-is)
+slice-reshare-prefix-write-v : tie.Need-slice-reshare-prefix-write-v
+slice-reshare-prefix-write-v c = omega (arith, square-fits (c .before .before .before .before .before .args .rows) (c .before .before .before .before .before .args .side) (c .before .before .before .before .before .pre .0 .tall), c .before .before .before .before .before .pre .0 .main-is)
 
-slice-aggregate-write-turns : tie.Need-slice-aggregate-write-turns
-slice-aggregate-write-turns c = sym (length-take-le _ _ (omega (arith, square-fits (c .before .before .before .before .before .before .args .rows) (c .before .before .before .before .before .before .args .side) (c .before .before .before .before .before .before .pre .0 .tall), c .before .before .before .before .before .before .pre .0 .main-is)))
+slice-aggregate-write-v : tie.Need-slice-aggregate-write-v
+slice-aggregate-write-v c = sym (length-take-le _ _ (omega (arith, square-fits (c .before .before .before .before .before .before .args .rows) (c .before .before .before .before .before .before .args .side) (c .before .before .before .before .before .before .pre .0 .tall), c .before .before .before .before .before .before .pre .0 .main-is)))
 
-write-turns-requires : tie.Need-write-turns-requires
-write-turns-requires c κs = (omega (arith, square-fits (c .before .before .before .before .before .before .before .args .rows) (c .before .before .before .before .before .before .before .args .side) (c .before .before .before .before .before .before .before .pre .0 .tall), c .before .before .before .before .before .before .before .pre .0 .cells), search needs, length-take-le _ _ (omega (arith, square-fits (c .before .before .before .before .before .before .before .args .rows) (c .before .before .before .before .before .before .before .args .side) (c .before .before .before .before .before .before .before .pre .0 .tall), c .before .before .before .before .before .before .before .pre .0 .main-is)), search needs, c .before .before .before .before .before .before .before .pre .1, search needs)
+write-v-requires : tie.Need-write-v-requires
+write-v-requires c κs = (omega (arith, square-fits (c .before .before .before .before .before .before .before .args .rows) (c .before .before .before .before .before .before .before .args .side) (c .before .before .before .before .before .before .before .pre .0 .tall), c .before .before .before .before .before .before .before .pre .0 .cells), search needs, length-take-le _ _ (omega (arith, square-fits (c .before .before .before .before .before .before .before .args .rows) (c .before .before .before .before .before .before .before .args .side) (c .before .before .before .before .before .before .before .pre .0 .tall), c .before .before .before .before .before .before .before .pre .0 .main-is)), search needs, c .before .before .before .before .before .before .before .pre .1, search needs)
 
 write-directions-requires : tie.Need-write-directions-requires
 write-directions-requires c κs = (search needs, search needs, search needs, search needs, search needs, c .before .before .before .before .before .before .before .before .before .before .before .pre .1, search needs)
@@ -32,7 +32,7 @@ same-length-2 : tie.Need-same-length-2
 same-length-2 c = search needs
 
 returns : tie.Need-returns
-returns c = (c .before .before .write-directions .ensures, c .before .before .before .before .before .before .write-turns .ensures)
+returns c = (c .before .before .write-directions .ensures, c .before .before .before .before .before .before .write-v .ensures)
 
 pub write-factors-spec : {M : Type 1} → statement M
 write-factors-spec =
@@ -40,9 +40,9 @@ write-factors-spec =
     (tie.spec
     mul-x
     mul-x-2
-    slice-reshare-prefix-write-turns
-    slice-aggregate-write-turns
-    write-turns-requires
+    slice-reshare-prefix-write-v
+    slice-aggregate-write-v
+    write-v-requires
     write-directions-requires
     same-length
     same-length-2

@@ -19,14 +19,14 @@ abbrev μ-loop : tie.MeasureT-loop
 loop-holds : tie.Need-loop-holds Inv-loop μ-loop
 loop-holds c = (refl, omega arith, refl)
 
-mul-larger : tie.Need-mul-larger Inv-loop μ-loop
-mul-larger c = search needs
+mul-larger-of : tie.Need-mul-larger-of Inv-loop μ-loop
+mul-larger-of c = search needs
 
-shared-slice-read-larger : tie.Need-shared-slice-read-larger Inv-loop μ-loop
-shared-slice-read-larger c = search needs
+shared-slice-read-larger-of : tie.Need-shared-slice-read-larger-of Inv-loop μ-loop
+shared-slice-read-larger-of c = search needs
 
-larger-requires : tie.Need-larger-requires Inv-loop μ-loop
-larger-requires c κs = search needs
+larger-of-requires : tie.Need-larger-of-requires Inv-loop μ-loop
+larger-of-requires c κs = search needs
 
 add-i : tie.Need-add-i Inv-loop μ-loop
 add-i c = search needs
@@ -35,7 +35,7 @@ loop-less : tie.Need-loop-less Inv-loop μ-loop
 loop-less c = search needs
 
 loop-again : tie.Need-loop-again Inv-loop μ-loop
-loop-again c = (refl, omega arith, c .before .before .before .loop .inv .2 ∙ largest-more _ _ _ (c .before .before .loop-test .taken) (c .larger .ensures))
+loop-again c = (refl, omega arith, c .before .before .before .loop .inv .2 ∙ largest-more _ _ _ (c .before .before .loop-test .taken) (c .larger-of .ensures))
 
 returns : tie.Need-returns Inv-loop μ-loop
 returns c = sym (c .before .loop .inv .2 ∙ largest-end _ _ _ (c .loop-test .left))
@@ -47,9 +47,9 @@ largest-weight-spec =
     Inv-loop
     μ-loop
     loop-holds
-    mul-larger
-    shared-slice-read-larger
-    larger-requires
+    mul-larger-of
+    shared-slice-read-larger-of
+    larger-of-requires
     add-i
     loop-less
     loop-again

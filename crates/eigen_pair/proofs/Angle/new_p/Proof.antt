@@ -1,5 +1,5 @@
 -- `eigen_pair::Angle::new_p` meets its contract: the calls are the definition's steps. Assumes nothing.
-use Rattle.eigen_pair.specs.Turn.{newP}
+use Rattle.eigen_pair.specs.Turn.{eigenNewP}
 use borrow.Author.Needs.{needs}
 use Rattle.eigen_pair.proofs.Angle.new_p.Statement.{statement}
 use Rattle.eigen_pair.proofs.Angle.new_p.Tie as tie
@@ -17,7 +17,7 @@ sub-requires : tie.Need-sub-requires
 sub-requires c κs = search needs
 
 returns : tie.Need-returns
-unfolding newP
+unfolding eigenNewP
 returns c = rw (c .sub .ensures, c .before .mul .ensures, c .before .before .real-times2 .ensures, c .before .before .before .real-times .ensures)
 
 pub new-p-spec : {M : Type 1} → statement M

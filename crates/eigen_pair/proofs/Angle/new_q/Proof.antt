@@ -1,5 +1,5 @@
 -- `eigen_pair::Angle::new_q` meets its contract: the calls are the definition's steps. Assumes nothing.
-use Rattle.eigen_pair.specs.Turn.{newQ}
+use Rattle.eigen_pair.specs.Turn.{eigenNewQ}
 use borrow.Author.Needs.{needs}
 use Rattle.eigen_pair.proofs.Angle.new_q.Statement.{statement}
 use Rattle.eigen_pair.proofs.Angle.new_q.Tie as tie
@@ -17,7 +17,7 @@ add-requires : tie.Need-add-requires
 add-requires c κs = search needs
 
 returns : tie.Need-returns
-unfolding newQ
+unfolding eigenNewQ
 returns c = rw (c .add .ensures, c .before .mul .ensures, c .before .before .real-times2 .ensures, c .before .before .before .real-times .ensures)
 
 pub new-q-spec : {M : Type 1} → statement M

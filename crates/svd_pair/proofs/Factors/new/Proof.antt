@@ -1,5 +1,5 @@
 -- `svd_pair::Factors::new` meets its contract: what its callees ensure, put together. Assumes nothing.
-use Rattle.svd_pair.specs.Turns.{factorsOf}
+use Rattle.svd_pair.specs.Turns.{turnFactors}
 use borrow.Author.Needs.{needs}
 use Rattle.svd_pair.proofs.Factors.new.Statement.{statement}
 use Rattle.svd_pair.proofs.Factors.new.Tie as tie
@@ -17,7 +17,7 @@ mul-requires-2 : tie.Need-mul-requires-2
 mul-requires-2 c κs = search needs
 
 returns : tie.Need-returns
-unfolding factorsOf
+unfolding turnFactors
 returns c = rw (c .mul2 .ensures, c .before .neg .ensures, c .before .before .mul .ensures, c .before .before .before .conj .ensures)
 
 pub new-spec : {M : Type 1} → statement M

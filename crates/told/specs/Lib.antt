@@ -1,0 +1,2 @@
+-- What the contracts of exported calls cite.
+pub mod Told
