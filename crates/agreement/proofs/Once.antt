@@ -4,11 +4,11 @@ use mathlib.Core.List.{List}
 use Prim.Native.Nat.{ℕ, _+_, _-_, _*_, _/_, _%_, _^_, _<_}
 use native.Mathlib.Nat.{mul-comm, div-lt-iff-lt-mul, div-add-mod', mod-lt}
 use lib.Arith.{digits-lt, digits-div, digits-mod}
-use lib.Bits.{bitOr}
+use lib.Bits.{bitOr, or-lt}
 use lib.Ieee.{Float}
 use lib.Pow.{pow-pos}
 use Rattle.submasks.specs.Submasks.{submaskAt, submaskNumber, others}
-use Rattle.submasks.proofs.SubmaskLaws.{submaskCount, union, met, row-of, column-of, counts, submaskNumber-lt}
+use Rattle.submasks.proofs.SubmaskLaws.{submaskCount, submaskAt-lt, union, met, row-of, column-of, counts, submaskNumber-lt}
 use Rattle.complex.specs.Cells.{cellAt, written}
 use Rattle.complex.proofs.CellLaws.{cell-written}
 use Rattle.cut_sides.specs.Sides.{side, rowMask, columnMask, Parted}
@@ -59,6 +59,9 @@ pub record Once (n : ℕ) (l : List ℕ) : Type 0 where
   pub in-matrix : (x : ℕ) → placeOf n l x < 2 ^ n
   pub there : (x : ℕ) → x < 2 ^ n → sourceOf n l (placeOf n l x) ≡ x
   pub alone : (k : ℕ) → k < 2 ^ n → placeOf n l (sourceOf n l k) ≡ k
+
+pub source-lt : (n : ℕ) (l : List ℕ) (k : ℕ) → sourceOf n l k < 2 ^ n
+source-lt n l k = or-lt n (submaskAt n (rowMask l n) (k % 2 ^ side l n)) (submaskAt n (columnMask l n) (k / 2 ^ side l n)) (submaskAt-lt n (rowMask l n) (k % 2 ^ side l n)) (submaskAt-lt n (columnMask l n) (k / 2 ^ side l n))
 
 module _ (n : ℕ) (l : List ℕ) (p : Parted l n) where
   pub once : Once n l

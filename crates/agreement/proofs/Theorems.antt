@@ -23,7 +23,7 @@ use Rattle.qubits.specs.Spread.{spread}
 use Rattle.qubit_offsets.specs.Calls.{densityRefusal}
 use Rattle.density_entries.specs.Squares.{mirroredEntry, entryAt}
 use Rattle.agreement.specs.FromCut.{cutDensityCell}
-use Rattle.agreement.proofs.Once.{once, amplitude-held}
+use Rattle.agreement.proofs.Once.{once, source-lt, amplitude-held}
 use Rattle.agreement.proofs.SameDensity.{same-density}
 use Rattle.agreement.specs.Agreement.{HoldsOnce}
 use Rattle.agreement.proofs.AgreementLaws.{density-left, written-same}
@@ -48,7 +48,14 @@ module _ (s : List Float) (n : ℕ) (l : List ℕ) (cap : ℕ) (o : List Float) 
   pub holds-once : HoldsOnce s n l m
   holds-once =
       let u = once n l cut-parted in
-      record { in-matrix = u .in-matrix; held = λ x h. rw cut-left (amplitude-held n l cut-parted s o x h); there = u .there; alone = u .alone }
+      record {
+        in-matrix = u .in-matrix;
+        held = λ x h. rw cut-left (amplitude-held n l cut-parted s o x h);
+        there = u .there;
+        alone = u .alone;
+        source-in = λ k h. source-lt n l k;
+        cell = λ k h. rw cut-left (cell-written (2 ^ n) k (cutCell s n l) o h);
+      }
 
   -- b. THE DENSITY that the other call left is the one summed from the cut matrix alone, bit for bit
   module _ (cap' : ℕ) (o' w : List Float) (r' : Answer) (d w' : List Float) (e : Density s n l cap' o' w r' d w') (z' : paper r' .0 ≡ 0) where

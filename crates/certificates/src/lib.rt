@@ -65,7 +65,8 @@ fn put_file(file: &[u8], n: usize, k: usize, out: &mut [u8]) -> usize
     put_values(&state[..components], n, &list[..k], out)
 }
 
-// Puts the certificate of a file, or `refused N P`, at the front of out; answers its length.
+// Inner: puts the certificate of a file, or `refused N P`, at the front of out, which the program lends with room for any;
+// answers its length.
 pub fn certificate(file: &[u8], out: &mut [u8]) -> usize
     requires { ⌜ 2048 ≤ length (now out) ⌝ }
     ensures { λ r. ⌜ Printed (certificateOf (now (file .entry))) (now (out .entry)) r (now (out .exit)) ⌝ }

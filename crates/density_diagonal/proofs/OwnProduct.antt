@@ -1,94 +1,20 @@
 -- A number with allowed components times its own conjugate: the imaginary part is +0.0, always. Assumes nothing.
-use mathlib.Core.Path.{_≡_, refl, sym, ap, ap₂, subst, _∙_}
+use mathlib.Core.Path.{_≡_, refl, sym, ap, ap₂, _∙_}
 use mathlib.Core.Bool.{Bool, true, false, _&&_, cond}
-use mathlib.Core.Logic.{_⊎_, inl, inr, ⊎-elim}
-use Prim.Native.Nat.{ℕ, zero, suc, _+_, _-_, _*_, _^_, _≤_, _<_}
-use native.Mathlib.Nat.{mul-assoc, mul-left-comm, mul-le-mul, mul-pos, zero-mul, mul-one, sub-self, le-trans, le-of-eq}
+use Prim.Native.Nat.{ℕ, _-_, _*_, _<_}
+use native.Mathlib.Nat.{mul-pos, zero-mul, sub-self}
 use native.Mathlib.Omega.{arith}
-use borrow.Author.Tests.{leb-true, le-ltb}
-use lib.Dec.{T, ltb}
-use lib.IntN.{ℤ, pos, negsuc}
-use lib.Pow.{pow-pos}
-use lib.Ieee.{Float, nan, inf, fin, binary64, round, units, odd, add, mul, neg, sum, up, down, unlike, le, lt, eq, ofBits, low, emax, prec}
-use lib.Ieee.Fits.{round-is}
-use lib.Ieee.Order.{round-mono}
+use borrow.Author.Tests.{le-ltb}
+use lib.Dec.{ltb}
+use lib.Ieee.{Float, nan, inf, fin, binary64, round, add, mul, neg, sum, up, down, ofBits}
 use lib.Ieee.Scale.{round-same}
 use Rattle.numbers.specs.Numbers.{allowed, isFinite}
 use Rattle.complex.specs.declared.Complex.{Complex}
 use Rattle.complex.specs.Arithmetic.{complexOf, product, conjugate, normSqr}
 use Rattle.complex.specs.Zeros.{zeroFloat}
-use Rattle.signs.proofs.Signs.{round-neg, mul-swap, neg-mul, conjugateProduct, conjugate-product}
-
-down-pos : (e : ℤ) → 0 < down e
-down-pos (pos k) = omega arith
-down-pos (negsuc k) = pow-pos (suc k)
-
--- ---- a rounded number of at most 2 ^ 400 is finite
-
--- the square of the bound on a component
-unfoldable bound : ℕ
-bound = 2 ^ 200 * 2 ^ 200
-
-odd-finite : (d : ℕ) (s : Bool) (q k l : ℕ) → isFinite (odd d s q k l) ≡ true
-unfolding odd isFinite
-odd-finite d s zero k l = refl
-odd-finite d s (suc q) k l = refl
-
-either : (b : Bool) (x : Float) → isFinite x ≡ true → (isFinite (cond b x (inf false)) ≡ true) ⊎ (cond b x (inf false) ≡ inf false)
-either true x h = inl h
-either false x h = inr refl
-
-units-either : (q k : ℕ) → (isFinite (units binary64 false q k) ≡ true) ⊎ (units binary64 false q k ≡ inf false)
-unfolding units
-units-either q k =
-    either (ltb (q * 2 ^ k) (2 ^ (low binary64 + suc (emax binary64)))) (odd (suc (prec binary64)) false q k (low binary64))
-    (odd-finite (suc (prec binary64)) false q k (low binary64))
-
-round-either : (a c : ℕ) → (isFinite (round binary64 false a c) ≡ true) ⊎ (round binary64 false a c ≡ inf false)
-round-either a c = subst (λ (x : Float). (isFinite x ≡ true) ⊎ (x ≡ inf false)) (sym (round-is binary64 false a c)) (units-either _ _)
-
-bound-rounded : round binary64 false bound 1 ≡ fin false 1 (pos 400)
-unfolding round bound
-bound-rounded = refl
-
-not-below : T (le (inf false) (fin false 1 (pos 400))) → ⊥
-unfolding le lt eq
-not-below h = h
-
-round-finite : (a c : ℕ) → 0 < c → a ≤ bound * c → isFinite (round binary64 false a c) ≡ true
-round-finite a c hc h =
-    ⊎-elim
-    (λ (e : isFinite (round binary64 false a c) ≡ true). e)
-    (λ (e : round binary64 false a c ≡ inf false).
-    absurd (not-below (subst (λ (x : Float). T (le x (fin false 1 (pos 400)))) e
-    (subst (λ (x : Float). T (le (round binary64 false a c) x)) bound-rounded
-    (round-mono binary64 a c bound 1 hc (omega arith) (le-trans (le-of-eq (mul-one a)) h))))))
-    (round-either a c)
-
-finite-neg : (x : Float) → isFinite (neg x) ≡ isFinite x
-unfolding isFinite neg
-finite-neg nan = refl
-finite-neg (inf s) = refl
-finite-neg (fin s m e) = refl
-
--- the same with either sign
-signed-finite : (s : Bool) (a c : ℕ) → 0 < c → a ≤ bound * c → isFinite (round binary64 s a c) ≡ true
-signed-finite true a c hc h = ap isFinite (round-neg binary64 false a c) ∙ finite-neg (round binary64 false a c) ∙ round-finite a c hc h
-signed-finite false a c hc h = round-finite a c hc h
-
-times-times : (k x y : ℕ) → k * x * (k * y) ≡ k * k * (x * y)
-times-times k x y = mul-assoc k x (k * y) ∙ ap (λ (z : ℕ). k * z) (mul-left-comm x k y) ∙ sym (mul-assoc k k (x * y))
-
--- a product of two allowed components is finite
-mul-finite : (x y : Float) → allowed x ≡ true → allowed y ≡ true → isFinite (mul binary64 x y) ≡ true
-unfolding allowed mul bound
-mul-finite nan y h g = cc
-mul-finite (inf s) y h g = cc
-mul-finite (fin s m e) nan h g = cc
-mul-finite (fin s m e) (inf t) h g = cc
-mul-finite (fin s m e) (fin t n d) h g =
-    signed-finite (unlike s t) (m * up e * (n * up d)) (down e * down d) (mul-pos (down-pos e) (down-pos d))
-    (le-trans (mul-le-mul (leb-true (m * up e) (2 ^ 200 * down e) h) (leb-true (n * up d) (2 ^ 200 * down d) g)) (le-of-eq (times-times (2 ^ 200) (down e) (down d))))
+use Rattle.signs.proofs.Signs.{mul-swap, neg-mul, conjugateProduct, conjugate-product}
+use Rattle.finite_products.proofs.WithinLaws.{down-pos}
+use Rattle.finite_products.proofs.Theorems.{mul-finite}
 
 -- ---- a finite number and its negative
 

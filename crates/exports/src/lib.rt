@@ -34,7 +34,7 @@ ghost use Rattle.site_lines.specs.Sources.{siteCell, isometryCell, scaledUCell,
 ghost use Rattle.sites.specs.Calls.{columnSizes, rowSizes, plainReply, scaledUReply, scaledVtReply, Filled};
 ghost use Rattle.spectra.specs.Density.{DensityValues};
 ghost use Rattle.density_recount.specs.Recount.{DensityFromCut};
-ghost use Rattle.pages.specs.Agree.{Says, pagesAnswer};
+ghost use Rattle.pages.specs.Agree.{Says, pagesAnswer, pagesSame};
 ghost use Rattle.pages.specs.declared.Agreement.{Agreement};
 ghost use Rattle.hermitian_eigen.specs.Hermitian.{Eigen};
 ghost use Rattle.cut_values.specs.Schmidt.{Schmidt};
@@ -257,7 +257,7 @@ pub extern "C" fn zg_pages_agree(
     place: &mut usize,
     yes: &mut bool,
 ) -> u32
-    ensures { λ r. ⌜ ExportedWith {R = Agreement} (λ k. k .answer) (λ k. k .yes) (λ k. Says (pagesAnswer (now (state .entry)) n (now (list .entry)) cap) k) r (now (place .exit)) (now (yes .exit)) ⌝ }
+    ensures { λ r. ⌜ ExportedWith {R = Agreement} (λ k. k .answer) (λ k. k .yes) (λ k. Says (pagesAnswer (now (state .entry)) n (now (list .entry)) cap) (pagesSame (now (state .entry)) n (now (list .entry))) k) r (now (place .exit)) (now (yes .exit)) ⌝ }
 {
     let k = pages::pages_agree(state, n, list, cap);
     *yes = k.yes;

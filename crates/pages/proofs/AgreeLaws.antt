@@ -17,7 +17,7 @@ use Rattle.answers.specs.declared.Answer.the-variants.{Done}
 use Rattle.answers.specs.Paper.{Reply, paper, andThen, ifDone}
 use Rattle.answers.proofs.PaperLaws.{andThen-done, stays, done-new, done-old}
 use Rattle.complex.specs.Cells.{written, components}
-use Rattle.cut_sides.specs.Sides.{cutRefusal}
+use Rattle.cut_sides.specs.Sides.{cutRefusal, Parted}
 use Rattle.cuts.specs.Cut.{cutCell, cutLengths, cutAnswer, CutMatrix}
 use Rattle.cuts.proofs.CutLaws.{lengths-done}
 use Rattle.densities.specs.Density.{densityAnswer, densityList, Density}
@@ -30,7 +30,7 @@ use Rattle.density_recount.specs.Recount.{recountSizes, recountAnswer, recounte
 use Rattle.density_recount.proofs.Pages.{front}
 use Rattle.pages.specs.declared.Agreement.{Agreement}
 use Rattle.pages.proofs.Both.{goes, adds-nothing, density-done, recount-done}
-use Rattle.pages.specs.Agree.{sameFloats, Again, comparedAnswer, Compared, bothAnswer, pagesAnswer, Says}
+use Rattle.pages.specs.Agree.{sameFloats, Again, comparedAnswer, Compared, bothAnswer, pagesAnswer, pagesSame, Says}
 
 -- ---- two lists
 
@@ -148,12 +148,23 @@ cut-lengths s n l cap o e =
     let p = andThen-done (cutRefusal l n cap) (andThen (cutLengths n (length s) o) (components 0 s)) e in
     lengths-done n (length s) o (andThen-done (cutLengths n (length s) o) (components 0 s) (p .1) .0)
 
+-- the density summed from the cut matrix alone is the state's
+same-densities : (s : List Float) (n : ℕ) (l : List ℕ) → Parted l n → (room : List Float)
+    → recounted n l (written (2 ^ n) (cutCell s n l) []) room ≡ densityList n l s room
+same-densities s n l p room =
+    written-same (2 ^ length l * 2 ^ length l) (cutDensityCell n l (written (2 ^ n) (cutCell s n l) [])) (densityCell n l s) room
+    (λ k h. same-density n l p s [] k)
+
+pub pages-same : (s : List Float) (n : ℕ) (l : List ℕ) → Parted l n → pagesSame s n l ≡ true
+unfolding pagesSame
+pages-same s n l p = ap (sameFloats (densityList n l s [])) (same-densities s n l p []) ∙ same-self (densityList n l s [])
+
 module _ (s : List Float) (n : ℕ) (l : List ℕ) (cap : ℕ) (o : List Float) (a : Answer) (m : List Float) (f : CutMatrix s n l cap o a m) (eo : length o ≡ 8192) where
   cut-said : paper a ≡ cutAnswer s n l cap 8192
   cut-said = f .answer ∙ ap (cutAnswer s n l cap) eo
 
-  pub both-refused : (paper a .0 ≡ 0 → ⊥) → Says (bothAnswer s n l cap) (record { answer = a; yes = false })
-  both-refused h = record { answer = stopped a _ _ cut-said h; agree = says-no a _ _ cut-said h true }
+  pub both-refused : (paper a .0 ≡ 0 → ⊥) → Says (bothAnswer s n l cap) (pagesSame s n l) (record { answer = a; yes = false })
+  both-refused h = record { answer = stopped a _ _ cut-said h; agree = says-no a _ _ cut-said h (pagesSame s n l) }
 
   module _ (e : a ≡ Done) where
     zero-said : paper a .0 ≡ 0
@@ -172,11 +183,9 @@ module _ (s : List Float) (n : ℕ) (l : List ℕ) (cap : ℕ) (o : List Float) 
 
     -- the two densities
     both-same : (room : List Float) → recounted n l (written (2 ^ n) (cutCell s n l) []) room ≡ densityList n l s room
-    both-same room =
-        written-same (2 ^ length l * 2 ^ length l) (cutDensityCell n l (written (2 ^ n) (cutCell s n l) [])) (densityCell n l s) room
-        (λ k h. same-density n l (cut-parted s n l cap o a m f zero-said) s [] k)
+    both-same room = same-densities s n l (cut-parted s n l cap o a m f zero-said) room
 
-    pub both-done : (r : Agreement) → Compared s (take (length s) m) n l cap r → Says (bothAnswer s n l cap) r
+    pub both-done : (r : Agreement) → Compared s (take (length s) m) n l cap r → Says (bothAnswer s n l cap) (pagesSame s n l) r
     both-done r g =
         let W = written (2 ^ n) (cutCell s n l) [] in
         let C = cutAnswer s n l cap 8192 in
@@ -191,16 +200,16 @@ module _ (s : List Float) (n : ℕ) (l : List ℕ) (cap : ℕ) (o : List Float) 
               g .same
               ∙ ap₂ (λ (x : Reply) (y : Bool). ifDone (x .0) y false) q
               (ap (sameFloats (densityList n l s (g .room))) (ap (λ (x : List Float). recounted n l x (g .room)) cut-matrix-is ∙ both-same (g .room))
-              ∙ same-self (densityList n l s (g .room)));
+              ∙ same-self (densityList n l s (g .room)) ∙ sym (pages-same s n l (cut-parted s n l cap o a m f zero-said)));
         }
 
 -- ---- the sizes first
 
 module _ (s : List Float) (n : ℕ) (l : List ℕ) (cap : ℕ) (a : Answer) (e : paper a ≡ recountSizes n (length l) cap) where
-  pub pages-refused : (paper a .0 ≡ 0 → ⊥) → Says (pagesAnswer s n l cap) (record { answer = a; yes = false })
-  pages-refused h = record { answer = stopped a _ _ e h; agree = says-no a _ _ e h true }
+  pub pages-refused : (paper a .0 ≡ 0 → ⊥) → Says (pagesAnswer s n l cap) (pagesSame s n l) (record { answer = a; yes = false })
+  pages-refused h = record { answer = stopped a _ _ e h; agree = says-no a _ _ e h (pagesSame s n l) }
 
-  pub pages-done : (r : Agreement) → a ≡ Done → Says (bothAnswer s n l cap) r → Says (pagesAnswer s n l cap) r
+  pub pages-done : (r : Agreement) → a ≡ Done → Says (bothAnswer s n l cap) (pagesSame s n l) r → Says (pagesAnswer s n l cap) (pagesSame s n l) r
   pages-done r d g =
       let q = goes (recountSizes n (length l) cap) (bothAnswer s n l cap) (number a _ e d) in
-      record { answer = g .answer ∙ q; agree = g .agree ∙ ap (λ (x : Reply). ifDone (x .0) true false) q }
+      record { answer = g .answer ∙ q; agree = g .agree ∙ ap (λ (x : Reply). ifDone (x .0) (pagesSame s n l) false) q }

@@ -5,13 +5,14 @@ use mathlib.Core.Path.{_≡_, refl, sym, ap, _∙_}
 use mathlib.Core.List.{List, [], _∷_, _++_, append-nil}
 use Prim.Native.Nat.{ℕ, zero, suc, _+_, _*_, _/_, _%_, _^_, _<_, min}
 use native.Mathlib.Omega.{arith}
-use borrow.Author.Tests.{eq-eqb, le-ltb, not-false}
+use borrow.Author.Tests.{eq-eqb, le-ltb}
 use lib.Bits.{or-lt}
 use lib.Dec.{ltb, eqb}
-use lib.Ieee.{Float, nan}
-use lib.ListN.{length, getD}
+use lib.Ieee.{Float}
+use lib.ListN.{length}
 use lib.Seq.{drop-nil}
 use Rattle.numbers.specs.Numbers.{allowed}
+use Rattle.finite_products.proofs.Allowed.{all-allowed}
 use Rattle.answers.specs.Paper.{Reply, done, refuse, after, andThen}
 use Rattle.answers.proofs.PaperLaws.{refuse-done, andThen-done}
 use Rattle.submasks.specs.Submasks.{submaskAt}
@@ -58,13 +59,6 @@ components-done i [] e = refl
 components-done i (x ∷ l) e =
     let p = refuse-done (not (allowed x)) 6 (i / 2) (components (suc i) l) e in
     ap (λ (t : Bool). refuse t (7, i / 2) (components (suc i) l)) (p .0) ∙ components-done (suc i) l (p .1)
-
-all-allowed : (i : ℕ) (l : List Float) (k : ℕ) → components i l .0 ≡ 0 → k < length l → allowed (getD l k nan) ≡ true
-unfolding components
-all-allowed i [] k e h = absurd (omega arith)
-all-allowed i (x ∷ l) zero e h = not-false (allowed x) (refuse-done (not (allowed x)) 6 (i / 2) (components (suc i) l) e .0)
-all-allowed i (x ∷ l) (suc k) e h =
-    all-allowed (suc i) l k (refuse-done (not (allowed x)) 6 (i / 2) (components (suc i) l) e .1) (omega arith)
 
 one-more : (i : ℕ) (x : Float) (l : List Float) → allowed x ≡ true → components (suc i) l .0 ≡ 0 → components i (x ∷ l) .0 ≡ 0
 unfolding components

@@ -2,12 +2,13 @@
 use mathlib.Core.Bool.{Bool, true, false, _&&_}
 use mathlib.Core.Path.{_≡_}
 use mathlib.Core.List.{List, [], _∷_}
-use Prim.Native.Nat.{ℕ}
+use Prim.Native.Nat.{ℕ, _^_}
 use lib.Dec.{eqb}
 use lib.Ieee.{Float, binary64, toBits}
 use lib.ListN.{length}
 use Rattle.answers.specs.Paper.{Reply, paper, andThen, ifDone}
-use Rattle.cuts.specs.Cut.{cutAnswer}
+use Rattle.complex.specs.Cells.{written}
+use Rattle.cuts.specs.Cut.{cutAnswer, cutCell}
 use Rattle.densities.specs.Density.{densityAnswer, densityList}
 use Rattle.density_recount.specs.Recount.{recountSizes, recountAnswer, recounted}
 use Rattle.pages.specs.declared.Agreement.{Agreement}
@@ -42,7 +43,12 @@ bothAnswer s n l cap = andThen (cutAnswer s n l cap 8192) (densityAnswer s n l c
 abbrev pub pagesAnswer : List Float → ℕ → List ℕ → ℕ → Reply
 pagesAnswer s n l cap = andThen (recountSizes n (length l) cap) (bothAnswer s n l cap)
 
--- what the check says where its answer is a: yes on answer 0, and no on any other
-pub record Says (a : Reply) (r : Agreement) : Type 0 where
+-- THE COMPARISON: the density of the state, and the one summed from its cut matrix alone, have the same bits throughout
+unfoldable pub pagesSame : List Float → ℕ → List ℕ → Bool
+unfolding sameFloats
+pagesSame s n l = sameFloats (densityList n l s []) (recounted n l (written (2 ^ n) (cutCell s n l) []) [])
+
+-- what the check says where its answer is a: the comparison on answer 0, and no on any other
+pub record Says (a : Reply) (same : Bool) (r : Agreement) : Type 0 where
   pub answer : paper (r .answer) ≡ a
-  pub agree : r .yes ≡ ifDone (a .0) true false
+  pub agree : r .yes ≡ ifDone (a .0) same false

@@ -1,7 +1,7 @@
 // The two pages of one state, worked out and held against each other.
 use answers::Answer;
 ghost use mathlib.Core.Path.{_≡_};
-ghost use Rattle.pages.specs.Agree.{sameFloats, Again, Compared, Says, bothAnswer, pagesAnswer};
+ghost use Rattle.pages.specs.Agree.{sameFloats, Again, Compared, Says, bothAnswer, pagesAnswer, pagesSame};
 
 // Whether two lists have the same length and the same bits throughout.
 fn same_floats(a: &[f64], b: &[f64]) -> bool
@@ -63,7 +63,7 @@ fn compare(state: &[f64], matrix: &[f64], n: usize, list: &[usize], cap: usize) 
 
 // The cut matrix, then the two densities: its own, and the one from the front of the array, which is the matrix.
 fn both_pages(state: &[f64], n: usize, list: &[usize], cap: usize) -> Agreement
-    ensures { λ r. ⌜ Says (bothAnswer (now (state .entry)) n (now (list .entry)) cap) r ⌝ }
+    ensures { λ r. ⌜ Says (bothAnswer (now (state .entry)) n (now (list .entry)) cap) (pagesSame (now (state .entry)) n (now (list .entry))) r ⌝ }
 {
     let mut matrix = [0.0; 8192];
     let answer = cuts::cut_matrix(state, n, list, cap, &mut matrix);
@@ -76,7 +76,7 @@ fn both_pages(state: &[f64], n: usize, list: &[usize], cap: usize) -> Agreement
 // Whether the two pages of a state agree: its density, and the density summed from its cut matrix alone. Refused as the cut and the density
 // are, with the sizes of both first; always yes where it is not.
 pub fn pages_agree(state: &[f64], n: usize, list: &[usize], cap: usize) -> Agreement
-    ensures { λ r. ⌜ Says (pagesAnswer (now (state .entry)) n (now (list .entry)) cap) r ⌝ }
+    ensures { λ r. ⌜ Says (pagesAnswer (now (state .entry)) n (now (list .entry)) cap) (pagesSame (now (state .entry)) n (now (list .entry))) r ⌝ }
 {
     let answer = density_recount::recount_size(n, list.len(), cap);
     let Answer::Done = answer else {

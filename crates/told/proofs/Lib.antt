@@ -1,2 +1,3 @@
--- The laws, and what the functions' proofs share.
+-- The theorems, and what the functions' proofs share.
 pub mod ToldLaws
+pub mod Theorems

@@ -1,0 +1,202 @@
+-- THE C FACE has one outcome for each call: its number, its place, each stored result, and every lent cell. From the theorem of the
+-- call behind it, by one law. Assumes nothing.
+use mathlib.Core.Path.{_≡_, ap}
+use mathlib.Core.Bool.{Bool}
+use mathlib.Core.List.{List}
+use Prim.Native.Nat.{ℕ}
+use lib.Ieee.{Float}
+use Rattle.answers.specs.Paper.{Reply, paper}
+use Rattle.complex.specs.declared.Complex.{Complex}
+use Rattle.told.specs.Told.{Exported, ExportedWith}
+use Rattle.told.proofs.Theorems.{exported-bare-one, exported-one, exported-with-one, exported-value-one}
+use Rattle.qubits.specs.Lists.{qubitSet, subsystem}
+use Rattle.qubits.proofs.Theorems.{validate-qubit-set-one, validate-subsystem-one}
+use Rattle.qubit_offsets.specs.declared.Traced.{Traced}
+use Rattle.qubit_offsets.specs.Calls.{RowOffsets, TracedBase}
+use Rattle.qubit_offsets.proofs.Theorems.{row-offsets-one, traced-base-one}
+use Rattle.cut_sides.specs.Sides.{SmallerSide}
+use Rattle.cut_sides.proofs.Theorems.{smaller-side-one}
+use Rattle.cuts.specs.Cut.{CutMatrix}
+use Rattle.cuts.proofs.Theorems.{cut-matrix-one}
+use Rattle.density_entries.specs.Squares.{mirrored}
+use Rattle.densities.specs.Square.{squareAnswer, InPlace}
+use Rattle.densities.specs.Density.{Density}
+use Rattle.densities.proofs.Theorems.{dense-reduced-density-one, mirror-lower-triangle-one}
+use Rattle.density_trace.specs.Trace.{normalizeAnswer, normalized}
+use Rattle.density_trace.proofs.Theorems.{normalize-trace-one}
+use Rattle.density_block.specs.Factor.{blockAnswer, multiplied}
+use Rattle.density_block.proofs.Theorems.{multiply-block-factor-one}
+use Rattle.density_recount.specs.Recount.{DensityFromCut}
+use Rattle.density_recount.proofs.Theorems.{density-from-cut-one}
+use Rattle.pages.specs.declared.Agreement.{Agreement}
+use Rattle.pages.specs.Agree.{Says, pagesAnswer, pagesSame}
+use Rattle.pages.proofs.Theorems.{pages-agree-one}
+use Rattle.qr.specs.declared.Factored.{Factored}
+use Rattle.qr.specs.Call.{Factorized}
+use Rattle.qr.proofs.Theorems.{factorize-gram-schmidt-one}
+use Rattle.svd.specs.Svd.{Svd}
+use Rattle.svd.proofs.Theorems.{svd-jacobi-one}
+use Rattle.finish.specs.declared.Kept.{Kept}
+use Rattle.finish.specs.Outcome.{Outcome}
+use Rattle.finish.proofs.Theorems.{finish-schmidt-values-one}
+use Rattle.spectra.specs.Outcomes.{Eigenvalues}
+use Rattle.spectra.specs.Density.{DensityValues}
+use Rattle.spectra.proofs.Theorems.{hermitian-eigenvalues-one, schmidt-values-from-density-one}
+use Rattle.hermitian_eigen.specs.Hermitian.{Eigen}
+use Rattle.hermitian_eigen.proofs.Theorems.{hermitian-eigen-one}
+use Rattle.cut_values.specs.Schmidt.{Schmidt}
+use Rattle.cut_values.proofs.Theorems.{dense-schmidt-values-one}
+use Rattle.site_ranks.specs.declared.CutRank.{CutRank}
+use Rattle.site_ranks.specs.Ranks.{Ranked}
+use Rattle.site_ranks.proofs.Theorems.{ranked-one}
+use Rattle.sites.specs.Calls.{Filled}
+use Rattle.sites.proofs.Theorems.{fill-one}
+
+-- Only one outcome meets the contract of `zg_validate_qubit_set`.
+pub zg-validate-qubit-set-one : (l : List ℕ) (n : ℕ) {number place number' place' : ℕ}
+    → Exported (λ x. paper x ≡ qubitSet n l) number place → Exported (λ x. paper x ≡ qubitSet n l) number' place'
+    → (number ≡ number') × (place ≡ place')
+zg-validate-qubit-set-one l n = exported-bare-one (λ x y c d. validate-qubit-set-one l n x y c d)
+
+-- Only one outcome meets the contract of `zg_validate_subsystem`.
+pub zg-validate-subsystem-one : (l : List ℕ) (n : ℕ) {number place number' place' : ℕ}
+    → Exported (λ x. paper x ≡ subsystem n l) number place → Exported (λ x. paper x ≡ subsystem n l) number' place'
+    → (number ≡ number') × (place ≡ place')
+zg-validate-subsystem-one l n = exported-bare-one (λ x y c d. validate-subsystem-one l n x y c d)
+
+-- Only one outcome meets the contract of `zg_row_offsets`.
+pub zg-row-offsets-one : (l : List ℕ) (n cap : ℕ) (out : List ℕ) (out' out″ : List ℕ) {number place number' place' : ℕ}
+    → Exported (λ x. RowOffsets l n cap out x out') number place → Exported (λ x. RowOffsets l n cap out x out″) number' place'
+    → (number ≡ number') × (place ≡ place') × (out' ≡ out″)
+zg-row-offsets-one l n cap out out' out″ =
+    exported-one (λ x y c d. let e = row-offsets-one l n cap out x y out' out″ c d in (e .0, e .1))
+
+-- Only one outcome meets the contract of `zg_traced_base`.
+pub zg-traced-base-one : (e : ℕ) (l : List ℕ) (n cap : ℕ) {number place number' place' : ℕ} {value value' : ℕ}
+    → ExportedWith {R = Traced} (λ k. k .answer) (λ k. k .base) (λ k. TracedBase e l n cap k) number place value
+    → ExportedWith {R = Traced} (λ k. k .answer) (λ k. k .base) (λ k. TracedBase e l n cap k) number' place' value'
+    → (number ≡ number') × (place ≡ place') × (value ≡ value')
+zg-traced-base-one e l n cap = exported-value-one (λ k l' c d. traced-base-one e l n cap k l' c d)
+
+-- Only one outcome meets the contract of `zg_smaller_side`.
+pub zg-smaller-side-one : (l : List ℕ) (n cap : ℕ) (others : List ℕ) (others' others″ : List ℕ) {number place number' place' : ℕ}
+    → Exported (λ x. SmallerSide l n cap others x others') number place → Exported (λ x. SmallerSide l n cap others x others″) number' place'
+    → (number ≡ number') × (place ≡ place') × (others' ≡ others″)
+zg-smaller-side-one l n cap others others' others″ =
+    exported-one (λ x y c d. let e = smaller-side-one l n cap others x y others' others″ c d in (e .0, e .1))
+
+-- Only one outcome meets the contract of `zg_cut_matrix`.
+pub zg-cut-matrix-one : (state : List Float) (n : ℕ) (l : List ℕ) (cap : ℕ) (out : List Float) (out' out″ : List Float) {number place number' place' : ℕ}
+    → Exported (λ x. CutMatrix state n l cap out x out') number place → Exported (λ x. CutMatrix state n l cap out x out″) number' place'
+    → (number ≡ number') × (place ≡ place') × (out' ≡ out″)
+zg-cut-matrix-one state n l cap out out' out″ =
+    exported-one (λ x y c d. let e = cut-matrix-one state n l cap out x y out' out″ c d in (e .0, e .1))
+
+-- Only one outcome meets the contract of `zg_mirror_lower_triangle`.
+pub zg-mirror-lower-triangle-one : (rho : List Float) (dim : ℕ) (rho' rho″ : List Float) {number place number' place' : ℕ}
+    → Exported (λ x. InPlace (squareAnswer rho dim) (mirrored rho dim) rho x rho') number place → Exported (λ x. InPlace (squareAnswer rho dim) (mirrored rho dim) rho x rho″) number' place'
+    → (number ≡ number') × (place ≡ place') × (rho' ≡ rho″)
+zg-mirror-lower-triangle-one rho dim rho' rho″ =
+    exported-one (λ x y c d. let e = mirror-lower-triangle-one rho dim x y rho' rho″ c d in (e .0, e .1))
+
+-- Only one outcome meets the contract of `zg_dense_reduced_density`.
+pub zg-dense-reduced-density-one : (state : List Float) (n : ℕ) (l : List ℕ) (cap : ℕ) (out scratch : List Float) (out' out″ : List Float) (scratch' scratch″ : List Float) {number place number' place' : ℕ}
+    → Exported (λ x. Density state n l cap out scratch x out' scratch') number place → Exported (λ x. Density state n l cap out scratch x out″ scratch″) number' place'
+    → (number ≡ number') × (place ≡ place') × ((out' ≡ out″) × (scratch' ≡ scratch″))
+zg-dense-reduced-density-one state n l cap out scratch out' out″ scratch' scratch″ =
+    exported-one (λ x y c d. let e = dense-reduced-density-one state n l cap out scratch x y out' out″ scratch' scratch″ c d in (e .0, (e .1, e .2)))
+
+-- Only one outcome meets the contract of `zg_normalize_trace`.
+pub zg-normalize-trace-one : (rho : List Float) (dim : ℕ) (rho' rho″ : List Float) {number place number' place' : ℕ}
+    → Exported (λ x. InPlace (normalizeAnswer rho dim) (normalized rho dim) rho x rho') number place → Exported (λ x. InPlace (normalizeAnswer rho dim) (normalized rho dim) rho x rho″) number' place'
+    → (number ≡ number') × (place ≡ place') × (rho' ≡ rho″)
+zg-normalize-trace-one rho dim rho' rho″ =
+    exported-one (λ x y c d. let e = normalize-trace-one rho dim x y rho' rho″ c d in (e .0, e .1))
+
+-- Only one outcome meets the contract of `zg_multiply_block_factor`.
+pub zg-multiply-block-factor-one : (rho : List Float) (dim : ℕ) (l : List ℕ) (factor : List Float) (side : ℕ) (rho' rho″ : List Float) {number place number' place' : ℕ}
+    → Exported (λ x. InPlace (blockAnswer rho dim l factor side) (multiplied rho dim l factor side) rho x rho') number place → Exported (λ x. InPlace (blockAnswer rho dim l factor side) (multiplied rho dim l factor side) rho x rho″) number' place'
+    → (number ≡ number') × (place ≡ place') × (rho' ≡ rho″)
+zg-multiply-block-factor-one rho dim l factor side rho' rho″ =
+    exported-one (λ x y c d. let e = multiply-block-factor-one rho dim l factor side x y rho' rho″ c d in (e .0, e .1))
+
+-- Only one outcome meets the contract of `zg_density_from_cut`.
+pub zg-density-from-cut-one : (matrix : List Float) (n : ℕ) (l : List ℕ) (cap : ℕ) (out : List Float) (out' out″ : List Float) {number place number' place' : ℕ}
+    → Exported (λ x. DensityFromCut matrix n l cap out x out') number place → Exported (λ x. DensityFromCut matrix n l cap out x out″) number' place'
+    → (number ≡ number') × (place ≡ place') × (out' ≡ out″)
+zg-density-from-cut-one matrix n l cap out out' out″ =
+    exported-one (λ x y c d. let e = density-from-cut-one matrix n l cap out x y out' out″ c d in (e .0, e .1))
+
+-- Only one outcome meets the contract of `zg_pages_agree`.
+pub zg-pages-agree-one : (state : List Float) (n : ℕ) (l : List ℕ) (cap : ℕ) {number place number' place' : ℕ} {value value' : Bool}
+    → ExportedWith {R = Agreement} (λ k. k .answer) (λ k. k .yes) (λ k. Says (pagesAnswer state n l cap) (pagesSame state n l) k) number place value
+    → ExportedWith {R = Agreement} (λ k. k .answer) (λ k. k .yes) (λ k. Says (pagesAnswer state n l cap) (pagesSame state n l) k) number' place' value'
+    → (number ≡ number') × (place ≡ place') × (value ≡ value')
+zg-pages-agree-one state n l cap = exported-value-one (λ k l' c d. let e = pages-agree-one state n l cap k l' c d in (ap (λ (x : Agreement). x .answer) e, ap (λ (x : Agreement). x .yes) e))
+
+-- Only one outcome meets the contract of `zg_factorize_gram_schmidt`.
+pub zg-factorize-gram-schmidt-one : (a : List Float) (rows cols : ℕ) (q r scratch : List Float) (q' q″ : List Float) (r' r″ : List Float) (scratch' scratch″ : List Float) {number place number' place' : ℕ} {value value' : ℕ}
+    → ExportedWith {R = Factored} (λ k. k .answer) (λ k. k .rank) (λ k. Factorized a rows cols q r scratch (k .answer) (k .rank) q' r' scratch') number place value
+    → ExportedWith {R = Factored} (λ k. k .answer) (λ k. k .rank) (λ k. Factorized a rows cols q r scratch (k .answer) (k .rank) q″ r″ scratch″) number' place' value'
+    → (number ≡ number') × (place ≡ place') × (value ≡ value') × ((q' ≡ q″) × (r' ≡ r″) × (scratch' ≡ scratch″))
+zg-factorize-gram-schmidt-one a rows cols q r scratch q' q″ r' r″ scratch' scratch″ =
+    exported-with-one (λ k l' c d. let e = factorize-gram-schmidt-one a rows cols q r scratch (k .answer) (l' .answer) (k .rank) (l' .rank) q' r' scratch' q″ r″ scratch″ c d in (e .0, e .1, (e .2, e .3, e .4)))
+
+-- Only one outcome meets the contract of `zg_svd_jacobi`.
+pub zg-svd-jacobi-one : (a : List Float) (m n : ℕ) (u s vt scratch : List Float) (u' u″ : List Float) (s' s″ : List Float) (vt' vt″ : List Float) (scratch' scratch″ : List Float) {number place number' place' : ℕ}
+    → Exported (λ x. Svd a m n u s vt scratch x u' s' vt' scratch') number place → Exported (λ x. Svd a m n u s vt scratch x u″ s″ vt″ scratch″) number' place'
+    → (number ≡ number') × (place ≡ place') × ((u' ≡ u″) × (s' ≡ s″) × (vt' ≡ vt″) × (scratch' ≡ scratch″))
+zg-svd-jacobi-one a m n u s vt scratch u' u″ s' s″ vt' vt″ scratch' scratch″ =
+    exported-one (λ x y c d. let e = svd-jacobi-one a m n u s vt scratch x y u' s' vt' scratch' u″ s″ vt″ scratch″ c d in (e .0, (e .1, e .2, e .3, e .4)))
+
+-- Only one outcome meets the contract of `zg_finish_schmidt_values`.
+pub zg-finish-schmidt-values-one : (values out : List Float) (out' out″ : List Float) {number place number' place' : ℕ} {value value' : ℕ}
+    → ExportedWith {R = Kept} (λ k. k .answer) (λ k. k .count) (λ k. Outcome values out k out') number place value
+    → ExportedWith {R = Kept} (λ k. k .answer) (λ k. k .count) (λ k. Outcome values out k out″) number' place' value'
+    → (number ≡ number') × (place ≡ place') × (value ≡ value') × (out' ≡ out″)
+zg-finish-schmidt-values-one values out out' out″ =
+    exported-with-one (λ k l' c d. let e = finish-schmidt-values-one values out k l' out' out″ c d in (ap (λ (x : Kept). x .answer) (e .0), ap (λ (x : Kept). x .count) (e .0), e .1))
+
+-- Only one outcome meets the contract of `zg_hermitian_eigenvalues`.
+pub zg-hermitian-eigenvalues-one : (a : List Float) (dim : ℕ) (out scratch : List Float) (out' out″ : List Float) (scratch' scratch″ : List Float) {number place number' place' : ℕ}
+    → Exported (λ x. Eigenvalues a dim out scratch x out' scratch') number place → Exported (λ x. Eigenvalues a dim out scratch x out″ scratch″) number' place'
+    → (number ≡ number') × (place ≡ place') × ((out' ≡ out″) × (scratch' ≡ scratch″))
+zg-hermitian-eigenvalues-one a dim out scratch out' out″ scratch' scratch″ =
+    exported-one (λ x y c d. let e = hermitian-eigenvalues-one a dim out scratch x y out' out″ scratch' scratch″ c d in (e .0, (e .1, e .2)))
+
+-- Only one outcome meets the contract of `zg_schmidt_values_from_density`.
+pub zg-schmidt-values-from-density-one : (rho : List Float) (dim : ℕ) (out scratch : List Float) (out' out″ : List Float) (scratch' scratch″ : List Float) {number place number' place' : ℕ} {value value' : ℕ}
+    → ExportedWith {R = Kept} (λ k. k .answer) (λ k. k .count) (λ k. DensityValues rho dim out scratch k out' scratch') number place value
+    → ExportedWith {R = Kept} (λ k. k .answer) (λ k. k .count) (λ k. DensityValues rho dim out scratch k out″ scratch″) number' place' value'
+    → (number ≡ number') × (place ≡ place') × (value ≡ value') × ((out' ≡ out″) × (scratch' ≡ scratch″))
+zg-schmidt-values-from-density-one rho dim out scratch out' out″ scratch' scratch″ =
+    exported-with-one (λ k l' c d. let e = schmidt-values-from-density-one rho dim out scratch k l' out' out″ scratch' scratch″ c d in (ap (λ (x : Kept). x .answer) (e .0), ap (λ (x : Kept). x .count) (e .0), (e .1, e .2)))
+
+-- Only one outcome meets the contract of `zg_hermitian_eigen`.
+pub zg-hermitian-eigen-one : (matrix : List Float) (dim : ℕ) (values vectors scratch : List Float) (values' values″ : List Float) (vectors' vectors″ : List Float) (scratch' scratch″ : List Float) {number place number' place' : ℕ}
+    → Exported (λ x. Eigen matrix dim values vectors scratch x values' vectors' scratch') number place → Exported (λ x. Eigen matrix dim values vectors scratch x values″ vectors″ scratch″) number' place'
+    → (number ≡ number') × (place ≡ place') × ((values' ≡ values″) × (vectors' ≡ vectors″) × (scratch' ≡ scratch″))
+zg-hermitian-eigen-one matrix dim values vectors scratch values' values″ vectors' vectors″ scratch' scratch″ =
+    exported-one (λ x y c d. let e = hermitian-eigen-one matrix dim values vectors scratch x y values' vectors' scratch' values″ vectors″ scratch″ c d in (e .0, (e .1, e .2, e .3)))
+
+-- Only one outcome meets the contract of `zg_dense_schmidt_values`.
+pub zg-dense-schmidt-values-one : (state : List Float) (n : ℕ) (l : List ℕ) (cap : ℕ) (out scratch : List Float) (out' out″ : List Float) (scratch' scratch″ : List Float) {number place number' place' : ℕ} {value value' : ℕ}
+    → ExportedWith {R = Kept} (λ k. k .answer) (λ k. k .count) (λ k. Schmidt state n l cap out scratch k out' scratch') number place value
+    → ExportedWith {R = Kept} (λ k. k .answer) (λ k. k .count) (λ k. Schmidt state n l cap out scratch k out″ scratch″) number' place' value'
+    → (number ≡ number') × (place ≡ place') × (value ≡ value') × ((out' ≡ out″) × (scratch' ≡ scratch″))
+zg-dense-schmidt-values-one state n l cap out scratch out' out″ scratch' scratch″ =
+    exported-with-one (λ k l' c d. let e = dense-schmidt-values-one state n l cap out scratch k l' out' scratch' out″ scratch″ c d in (ap (λ (x : Kept). x .answer) (e .0), ap (λ (x : Kept). x .count) (e .0), (e .1, e .2)))
+
+-- Only one outcome meets the contract of `zg_cut_rank` and of `zg_widest_block_cut`.
+pub zg-ranked-one : (reply : Reply) (v : ℕ) {number place number' place' : ℕ} {value value' : ℕ}
+    → ExportedWith {R = CutRank} (λ k. k .answer) (λ k. k .rank) (λ k. Ranked reply v (k .answer) (k .rank)) number place value
+    → ExportedWith {R = CutRank} (λ k. k .answer) (λ k. k .rank) (λ k. Ranked reply v (k .answer) (k .rank)) number' place' value'
+    → (number ≡ number') × (place ≡ place') × (value ≡ value')
+zg-ranked-one reply v = exported-value-one (λ k l' c d. ranked-one reply v (k .answer) (l' .answer) (k .rank) (l' .rank) c d)
+
+-- Only one outcome meets the contract of each of the four `zg_fill` calls.
+pub zg-fill-one : (reply : Reply) (cells : ℕ) (f : ℕ → Complex) (out : List Float) (out' out″ : List Float) {number place number' place' : ℕ}
+    → Exported (λ x. Filled reply cells f out x out') number place → Exported (λ x. Filled reply cells f out x out″) number' place'
+    → (number ≡ number') × (place ≡ place') × (out' ≡ out″)
+zg-fill-one reply cells f out out' out″ =
+    exported-one (λ x y c d. let e = fill-one reply cells f out x y out' out″ c d in (e .0, e .1))
