@@ -5,11 +5,11 @@ use mathlib.Core.Logic.{⊎-elim}
 use mathlib.Core.Bool.{Bool, true, false}
 use mathlib.Core.List.{List, [], _∷_, _++_, append-nil}
 use Prim.Native.Nat.{ℕ, zero, suc, _+_, _-_, _*_, _/_, _%_, _^_, _≤_, _<_}
-use native.Mathlib.Nat.{zero-mul, one-mul, pow-suc, add-mul, mul-assoc, mul-comm, div-eq-of-lt, mod-eq-of-lt, mod-lt}
+use native.Mathlib.Nat.{zero-mul, one-mul, pow-suc, add-mul, mul-assoc, mul-comm, div-eq-of-lt, mod-eq-of-lt}
 use native.Mathlib.Numerals.{add-one}
 use native.Mathlib.Omega.{arith}
-use lib.Bits.{bitAnd, bitOr, and-mask, or-shifted, or-zero-l, or-zero-r, or-lt, or-shifted-r}
-use lib.Pow.{pow-pos, pow-lt, pow-mono, shr-shr, shr-le, shl-exact, high, low}
+use lib.Bits.{bitAnd, bitOr, and-mask, or-zero-l, or-zero-r, or-lt, or-shifted-r}
+use lib.Pow.{pow-pos, pow-lt, pow-mono, shr-shr, shr-le, high, low}
 use lib.Arith.{digits-lt}
 use lib.ListN.{length, getD, drop, length-append, drop-of-length-le}
 use lib.Seq.{drop-cons}
@@ -104,13 +104,12 @@ pub insert-zero : (up down q : ℕ) → down < 2 ^ q → insertZeroBit (up * 2 ^
 unfolding insertZeroBit
 insert-zero up down q h = rw (high up q h, low up q h)
 
--- how `insert_zero_bit` computes it, in 64 bits
-pub insert-code : (x q b : ℕ) → x < 2 ^ 32 → q < 32 → b ≡ 2 ^ q → bitOr (x / 2 ^ q * 2 ^ (q + 1) % 2 ^ 64) (bitAnd x (b - 1)) ≡ insertZeroBit x q
+-- how `insert_zero_bit` computes it
+pub insert-code : (x q b : ℕ) → b ≡ 2 ^ q → x / b * (2 * b) + x % b ≡ insertZeroBit x q
 unfolding insertZeroBit
-insert-code x q b hx hq e =
-    let h : x / 2 ^ q < 2 ^ 32 = omega (arith, shr-le x q) in
-    let l : x % 2 ^ q < 2 ^ suc q = omega (arith, mod-lt x (pow-pos q), pow-suc 2 q) in
-    rw (e, and-mask x q, shl-exact {a = x / 2 ^ q} 32 (q + 1) 64 h (omega arith), add-one) (or-shifted (x / 2 ^ q) (suc q) (x % 2 ^ q) l)
+insert-code x q b e =
+    let p : 2 ^ suc q ≡ 2 * 2 ^ q = pow-suc 2 q ∙ mul-comm (2 ^ q) 2 in
+    rw (e, p)
 
 -- ---- the loop that inserts a zero bit at each listed qubit, rising: at q, the other qubits below q have their bits of e
 

@@ -92,12 +92,18 @@ pub fn row_offset(list: &[usize], n: usize, t: usize) -> usize
     offset
 }
 
-// Inner: bits at q and above move up one, bit q is zero. Its callers use the laws of `insertZeroBit` alone.
+// Inner: makes room for a zero at bit q. Divide x by 2^q: the remainder is what stands below bit q and stays there, the quotient is
+// what stands from bit q on and moves up one. So the result is quotient times 2^(q+1), twice the power, plus the remainder.
+// Example: x = 11 (binary 1011), q = 2. 11 = 2 * 4 + 3, so the result is 2 * 8 + 3 = 19 (binary 10011: 10, the new 0, 11).
+// Its callers use the laws of `insertZeroBit` alone.
 pub fn insert_zero_bit(x: usize, q: usize) -> usize
     requires { ⌜ (x < 2 ^ 32) × (q < 32) ⌝ }
     ensures { λ r. ⌜ r ≡ insertZeroBit x q ⌝ }
 {
-    ((x >> q) << (q + 1)) | (x & (submasks::bit(q) - 1))
+    let power = submasks::bit(q);
+    let quotient = x / power;
+    let remainder = x % power;
+    quotient * (2 * power) + remainder
 }
 
 // Inner: the bits of e spread over the qubits that the list does not name: a zero bit inserted at each that it names, rising.
