@@ -1,6 +1,7 @@
 #!/usr/bin/env python3
 """cuts.py [--check]: writes crates/cuts_cases/stdin and stdout: cases of qubit lists, row offsets, traced bases, the smaller side and
-the cut matrix, and what 01 says of each. It follows 01's text, by bits and sets, and no code of this repository.
+the cut matrix, and what 01 says of each. It follows 01's text, by bits and sets, and no code of this repository. Far-named copies of
+cuts have the text of the cut that they copy, at half size its transpose.
 With --check it compares with what the two files hold and writes nothing. The draws are fixed by SEED."""
 import itertools
 import os
@@ -228,7 +229,7 @@ class Cases:
         self.case(6, n, cap, qubits, [2 * 2 ** n, size, len(changes)] + flat, out)
 
     def __init__(self):
-        self.lines, self.answers = [], []
+        self.lines, self.answers, self.cuts = [], [], []
 
     def case(self, kind, n, cap, qubits, more, out):
         self.lines.append(' '.join('%X' % x for x in [kind, n, cap, len(qubits)] + list(qubits) + more))
@@ -256,6 +257,7 @@ class Cases:
         answer, held = cut_matrix(n, cap, qubits, long, room, list(changes))
         flat = [x for pair in changes for x in pair]
         self.case(5, n, cap, qubits, [long, room, len(changes)] + flat, words(answer) + matrix_words(held))
+        self.cuts.append((n, cap, qubits, long, room, changes, answer, held, self.answers[-1]))
 
 
 def page_cases(c):
@@ -357,12 +359,30 @@ def drawn(c):
         c.base(3, 13, [0, 1, 2, 0], 1)
 
 
+def far_named(c):
+    """The same cuts asked from the far end: the unnamed qubits, in an order that is drawn. Sides of different size: the same text. Half
+    size: the cells across the diagonal. A list that is refused has no far side. That 01's gather gives it is seen as well."""
+    draw = random.Random(SEED + 2)
+    asked = [cut for cut in c.cuts if not cut_refusal(cut[0], cut[1], cut[2])]
+    for n, cap, qubits, long, room, changes, answer, held, text in draw.sample(asked, 120):
+        far = rest_of(n, qubits)
+        draw.shuffle(far)
+        if answer == (0, 0) and 2 * len(qubits) == n:
+            side = 2 ** len(qubits)
+            across = [x for k in range(2 ** n) for at in [k % side * side + k // side] for x in held[2 * at:2 * at + 2]]
+            text = words(answer) + matrix_words(across + held[2 * 2 ** n:])
+        c.cut(n, cap, far, long, room, changes)
+        assert c.answers[-1] == text, (n, qubits, far)
+        c.answers[-1] = text
+
+
 def main():
     c = Cases()
     bench(c)
     small(c)
     drawn(c)
     page_cases(c)
+    far_named(c)
     head = ('# %d cases of qubit lists, row offsets, traced bases, the smaller side and the cut matrix.\n'
             '# Made by tools/vectors/cuts.py with seed %d, which follows 01 and no code of this repository.\n' % (len(c.lines), SEED))
     stdin, stdout = head + '\n'.join(c.lines) + '\n', '\n'.join(c.answers) + '\n'

@@ -3,7 +3,6 @@ pub mod AcrossLaws
 pub mod AgreementLaws
 pub mod Once
 pub mod RenumberedLaws
-pub mod ReorderedLaws
 pub mod SameDensity
 pub mod SignsLaws
 pub mod Theorems

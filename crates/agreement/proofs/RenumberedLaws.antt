@@ -30,8 +30,8 @@ use Rattle.agreement.specs.Signs.{same}
 use Rattle.agreement.proofs.SignsLaws.{back}
 use Rattle.agreement.specs.Across.{AlikeCells}
 use Rattle.agreement.proofs.AcrossLaws.{across}
-use Rattle.agreement.specs.Reordered.{Reordered}
-use Rattle.agreement.proofs.ReorderedLaws.{same-mask, same-length, set-kept}
+use Rattle.cut_naming.specs.Reordered.{Reordered}
+use Rattle.cut_naming.proofs.ReorderedLaws.{same-mask, same-length, set-kept}
 use Rattle.agreement.specs.Renumbered.{unspread, renumber}
 
 -- ---- the way back from a spread setting

@@ -28,8 +28,8 @@ use Rattle.agreement.proofs.SameDensity.{same-density}
 use Rattle.agreement.specs.Agreement.{HoldsOnce}
 use Rattle.agreement.proofs.AgreementLaws.{density-left, written-same}
 use Rattle.agreement.specs.Across.{AlikeCells}
-use Rattle.agreement.specs.Reordered.{Reordered}
-use Rattle.agreement.proofs.ReorderedLaws.{same-length, cut-kept, density-kept, pass, set-of-cut}
+use Rattle.cut_naming.specs.Reordered.{Reordered}
+use Rattle.cut_naming.proofs.ReorderedLaws.{same-length, cut-kept, density-kept, pass, set-of-cut}
 use Rattle.agreement.specs.Renumbered.{renumber, unspread}
 use Rattle.agreement.proofs.RenumberedLaws.{same-cut, same-entries}
 

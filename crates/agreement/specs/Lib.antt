@@ -2,5 +2,4 @@ pub mod FromCut
 pub mod Agreement
 pub mod Signs
 pub mod Across
-pub mod Reordered
 pub mod Renumbered

@@ -176,6 +176,22 @@ fn a_faint_product_state_shows_two_values() {
     assert_eq!(schmidt::dense_schmidt_values(&state, 2, &[0], 13).unwrap().len(), 2);
 }
 
+/// Of a cut of half size the two namings give matrices that are each other's transpose, and the sweeps work on columns: the
+/// last bits may differ, and of a faint state the values and their count.
+#[test]
+fn both_namings_of_a_half_cut() {
+    let state = real(&[0.0, 0.0, 2.0, 3.0]);
+    assert_eq!(published_schmidt::dense_schmidt_values(&state, 2, &[0], 13).unwrap(), [1.0]);
+    assert_eq!(published_schmidt::dense_schmidt_values(&state, 2, &[1], 13).unwrap(), [0.9999999999999999]);
+    assert_eq!(schmidt::dense_schmidt_values(&state, 2, &[0], 13).unwrap(), [1.0]);
+    assert_eq!(schmidt::dense_schmidt_values(&state, 2, &[1], 13).unwrap(), [0.9999999999999999]);
+    let faint = scaled(&[0.0, 0.0, 1.0, 1.0], -280);
+    assert_eq!(published_schmidt::dense_schmidt_values(&faint, 2, &[0], 13).unwrap().len(), 1);
+    assert_eq!(published_schmidt::dense_schmidt_values(&faint, 2, &[1], 13).unwrap().len(), 2);
+    assert_eq!(schmidt::dense_schmidt_values(&faint, 2, &[0], 13).unwrap().len(), 1);
+    assert_eq!(schmidt::dense_schmidt_values(&faint, 2, &[1], 13).unwrap().len(), 2);
+}
+
 /// Six equal columns of three ones: a pair still turns in the hundredth sweep.
 #[test]
 fn sweeps_that_never_grow_quiet() {

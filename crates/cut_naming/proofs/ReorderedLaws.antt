@@ -20,11 +20,11 @@ use Rattle.qubits.proofs.NamedLaws.{is-listed, not-empty, named-count, not-ther
 use Rattle.qubits.proofs.OtherLaws.{there, pow-same}
 use Rattle.qubit_offsets.specs.Calls.{densityRefusal}
 use Rattle.cut_sides.specs.Sides.{cutSizes, cutRefusal}
-use Rattle.agreement.specs.Reordered.{times, Reordered}
+use Rattle.cut_naming.specs.Reordered.{times, Reordered}
 
 -- ---- times and `stands`
 
-times-none : (q : ℕ) (l : List ℕ) → stands q l ≡ false → times q l ≡ 0
+pub times-none : (q : ℕ) (l : List ℕ) → stands q l ≡ false → times q l ≡ 0
 unfolding times stands
 times-none q [] h = refl
 times-none q (x ∷ l) h =
@@ -33,7 +33,7 @@ times-none q (x ∷ l) h =
       | false ↦ λ g. omega (arith, times-none q l g)
     ] h
 
-times-some : (q : ℕ) (l : List ℕ) → stands q l ≡ true → 1 ≤ times q l
+pub times-some : (q : ℕ) (l : List ℕ) → stands q l ≡ true → 1 ≤ times q l
 unfolding times stands
 times-some q [] h = let z : _≡_ {A = ℕ} 0 1 = cc in absurd (omega arith)
 times-some q (x ∷ l) h =
@@ -43,22 +43,22 @@ times-some q (x ∷ l) h =
     ] h
 
 -- a qubit that stands somewhere, and one that does not
-either : (q : ℕ) (l : List ℕ) → (stands q l ≡ true) ⊎ (stands q l ≡ false)
+pub either : (q : ℕ) (l : List ℕ) → (stands q l ≡ true) ⊎ (stands q l ≡ false)
 either q l = elim (stands q l) as (λ (b : Bool). (b ≡ true) ⊎ (b ≡ false)) [
   | true ↦ inl refl
   | false ↦ inr refl
 ]
 
-times-append : (q : ℕ) (a b : List ℕ) → times q (a ++ b) ≡ times q a + times q b
+pub times-append : (q : ℕ) (a b : List ℕ) → times q (a ++ b) ≡ times q a + times q b
 unfolding times
 times-append q [] b = omega arith
 times-append q (x ∷ a) b = rw (times-append q a b) (omega arith)
 
-times-self : (x : ℕ) (l : List ℕ) → times x (x ∷ l) ≡ 1 + times x l
+pub times-self : (x : ℕ) (l : List ℕ) → times x (x ∷ l) ≡ 1 + times x l
 unfolding times
 times-self x l = let e : eqb x x ≡ true = eq-eqb x x refl in rw e
 
-stands-at : (l : List ℕ) (k : ℕ) → k < length l → stands (getD l k 0) l ≡ true
+pub stands-at : (l : List ℕ) (k : ℕ) → k < length l → stands (getD l k 0) l ≡ true
 stands-at l k h =
     ⊎-elim (λ (e : stands (getD l k 0) l ≡ true). e)
     (λ (e : stands (getD l k 0) l ≡ false).
@@ -72,7 +72,7 @@ stands-at l k h =
     (either (getD l k 0) l)
 
 -- where a listed qubit stands
-stands-index : (q : ℕ) (l : List ℕ) → stands q l ≡ true → (n : ℕ) → ((k : ℕ) → k < length l → getD l k 0 < n) → q < n
+pub stands-index : (q : ℕ) (l : List ℕ) → stands q l ≡ true → (n : ℕ) → ((k : ℕ) → k < length l → getD l k 0 < n) → q < n
 unfolding stands
 stands-index q [] h n b = let z : _≡_ {A = ℕ} 0 1 = cc in absurd (omega arith)
 stands-index q (x ∷ l) h n b =
@@ -82,7 +82,7 @@ stands-index q (x ∷ l) h n b =
     ] refl h
 
 -- in an accepted list each qubit stands at most once
-at-most-once : (l : List ℕ) → ((k : ℕ) → k < length l → stands (getD l k 0) (take k l) ≡ false) → (q i : ℕ) → i ≤ length l → times q (take i l) ≤ 1
+pub at-most-once : (l : List ℕ) → ((k : ℕ) → k < length l → stands (getD l k 0) (take k l) ≡ false) → (q i : ℕ) → i ≤ length l → times q (take i l) ≤ 1
 unfolding times
 at-most-once l apart q zero h = omega arith
 at-most-once l apart q (suc i) h =
@@ -108,7 +108,7 @@ pub pass : (x b : Reply) → x .0 ≡ 0 → andThen x b ≡ b
 pass x b h = rw h
 
 -- a list with each of its qubits below n and nowhere before it is refused by neither 2 nor 3
-places-pass : (n : ℕ) (l : List ℕ) (i : ℕ) (rest : List ℕ)
+pub places-pass : (n : ℕ) (l : List ℕ) (i : ℕ) (rest : List ℕ)
     → ((k : ℕ) → k < length rest → (getD rest k 0 < n) × (stands (getD rest k 0) (take (i + k) l) ≡ false)) → placesFrom n l i rest ≡ done
 unfolding placesFrom
 places-pass n l i [] h = refl

@@ -1,4 +1,4 @@
--- DEMAND 3, c, the list: one list in another order of the other is accepted with it, and names the same mask. Assumes nothing.
+-- One list in another order of the other: the same qubits. Definitions only.
 use mathlib.Core.Path.{_≡_}
 use mathlib.Core.Bool.{cond}
 use mathlib.Core.List.{List, [], _∷_}

@@ -1,0 +1,2 @@
+-- What `cut_naming` states.
+pub mod Reordered

@@ -1,0 +1,2 @@
+-- What `far_end` states.
+pub mod FarEnd
