@@ -1,5 +1,6 @@
 #!/usr/bin/env python3
 """densities.py STDIN STDOUT: cases of the density, the mirror, trace scaling and the block factor, and what 01 says they give.
+Copies of density cases behind plates on the far side have the text of the case that they copy.
 
 Written from the paper alone: Python's floats are IEEE 754 doubles, and each operation below is one rounding."""
 import random, struct, sys
@@ -166,6 +167,7 @@ def block(dim, positions, side, rho, factor):
 # ---- the cases
 
 cases, results = [], []
+densities = []  # of each density case: its arguments, and its number among the cases
 
 
 def add(kind, arguments, answer, slices):
@@ -179,6 +181,7 @@ def add(kind, arguments, answer, slices):
 def add_density(n, cap, listed, state, o, w):
     out, scratch = [1.0] * o, [1.0] * w
     answer = density(n, cap, listed, state, out, scratch)
+    densities.append((n, cap, listed, state, o, w, len(cases)))
     add(1, [n, cap, listed, state, o, w], answer, [out, scratch])
 
 
@@ -284,10 +287,35 @@ def generated():
         add_block(2 ** width, positions, side, numbers(2 * 4 ** width), numbers(2 * side * side))
 
 
+# times 1, i, -1, -i: parts exchanged and negated
+plates = (lambda a, b: (a, b), lambda a, b: (-b, a), lambda a, b: (-a, -b), lambda a, b: (b, -a))
+
+
+def plated():
+    """Copies of density cases, refused ones too: before all amplitudes of a setting of the unnamed qubits stands a plate, drawn. What is
+    expected is the text of the case that is copied; that 01's sums give it is seen as well."""
+    choice = random.Random(seed + 1)
+    for n, cap, listed, state, o, w, at in list(densities):
+        if len(state) > 256:
+            continue
+        others = [q for q in range(n) if q not in listed]
+        chosen = [choice.choice(plates) for _ in range(2 ** len(others))]
+        behind = list(state)
+        for x in range(len(state) // 2):
+            setting = sum((x >> q & 1) << i for i, q in enumerate(others))
+            behind[2 * x:2 * x + 2] = chosen[setting](*state[2 * x:2 * x + 2])
+        add_density(n, cap, listed, behind, o, w)
+        assert results[-1] == results[at], (n, listed, state)
+        results[-1] = results[at]
+
+
 bench()
 made = len(cases)
 generated()
-head = '# %d cases, %d of them generated, of the density, the mirror, trace scaling and the block factor.\n' % (len(cases), len(cases) - made)
+drawn = len(cases) - made
+plated()
+head = '# %d cases, %d of them generated and %d copies behind plates, of the density, the mirror, trace scaling and the block factor.\n' % (
+    len(cases), drawn, len(cases) - made - drawn)
 head += '# Made by tools/vectors/densities.py with seed %d, the expected values from the paper by IEEE 754 doubles.\n' % seed
 open(sys.argv[1], 'w').write(head + '\n'.join(cases) + '\n')
 open(sys.argv[2], 'w').write('\n'.join(results) + '\n')

@@ -1,0 +1,3 @@
+-- What `plates` states.
+pub mod Plates
+pub mod Behind
