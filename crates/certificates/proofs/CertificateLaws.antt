@@ -1,52 +1,50 @@
--- Laws of the certificate. Assumes nothing.
+-- Laws of the certificate: what is printed of a file's result. Assumes nothing.
 use mathlib.Core.Path.{_≡_, sym, ap, ap₂, _∙_}
 use mathlib.Core.List.{List}
-use Prim.Native.Nat.{ℕ, _-_, _*_, _^_}
+use Prim.Native.Nat.{ℕ, _≤_}
+use native.Mathlib.Omega.{arith}
 use lib.Ieee.{Float}
 use lib.ListN.{take}
 use Rattle.answers.specs.Paper.{Reply, paper}
 use Rattle.answers.proofs.PaperLaws.{done-new, done-old}
 use Rattle.cutfile.specs.Bytes.{word32}
-use Rattle.cutfile.specs.Layout.{headerAnswer, LongEnough, Header·is, fileEntry, componentAt}
-use Rattle.cutfile.proofs.LayoutLaws.{accepted}
-use Rattle.cutfile.specs.declared.Header.{Header}
-use Rattle.decode.specs.Tables.{filled}
-use Rattle.decode.proofs.TablesLaws.{take-filled}
+use Rattle.cutfile_result.specs.declared.CutResult.{CutResult}
+use Rattle.cutfile_result.specs.Result.{fileReply, fileList, fileValues, Result}
+use Rattle.cutfile_result.proofs.Few.{n-word, k-word, fits, count-is, count-few, list-front, values-front, taken}
 use Rattle.lines.specs.Lines.{refusedLine}
-use Rattle.certificates.specs.Certificate.{cutText, fileText, certificateOf}
+use Rattle.certificates.specs.Accepted.{Printable, acceptedText}
+use Rattle.certificates.specs.Certificate.{certificateOf}
 
--- ---- the header
-
-module _ (file : List ℕ) (h : Header) (is : Header·is file h) where
-  pub header-refused : (paper (h .answer) .0 ≡ 0 → ⊥) → refusedLine (paper (h .answer)) ≡ certificateOf file
+module _ (file list : List ℕ) (values : List Float) (r : CutResult) (list' : List ℕ) (values' : List Float) (is : Result file list values r list' values') where
+  pub file-refused : (paper (r .answer) .0 ≡ 0 → ⊥) → refusedLine (paper (r .answer)) ≡ certificateOf file
   unfolding certificateOf
-  header-refused f =
-      ap refusedLine (is .answer-is)
-      ∙ done-old (headerAnswer file .0) (fileText file (word32 file 4) (word32 file 8)) (refusedLine (headerAnswer file)) (λ e. f (ap (λ (r : Reply). r .0) (is .answer-is) ∙ e))
+  file-refused f =
+      ap refusedLine (is .answer)
+      ∙ done-old (fileReply file .0) (acceptedText (word32 file 4) (fileList file) (fileValues file)) (refusedLine (fileReply file))
+      (λ e. f (ap (λ (a : Reply). a .0) (is .answer) ∙ e))
 
-  module _ (e : headerAnswer file .0 ≡ 0) where
-    n-word : h .n ≡ word32 file 4
-    n-word = is .n-is ∙ sym (done-new (headerAnswer file .0) (word32 file 4) 0 e)
+  module _ (d : paper (r .answer) .0 ≡ 0) where
+    done-is : fileReply file .0 ≡ 0
+    done-is = sym (ap (λ (a : Reply). a .0) (is .answer)) ∙ d
 
-    k-word : h .k ≡ word32 file 8
-    k-word = is .k-is ∙ sym (done-new (headerAnswer file .0) (word32 file 8) 0 e)
-
-    pub header-fits : LongEnough file (h .n) (h .k)
-    header-fits = rw (n-word, k-word) (accepted file e .0)
-
-    pub header-done : fileText file (h .n) (h .k) ≡ certificateOf file
+    pub file-done : acceptedText (r .n) (take (r .k) list') (take (r .count) values') ≡ certificateOf file
     unfolding certificateOf
-    header-done = ap₂ (fileText file) n-word k-word ∙ done-new (headerAnswer file .0) (fileText file (word32 file 4) (word32 file 8)) (refusedLine (headerAnswer file)) e
+    file-done =
+        ap (λ (n : ℕ). acceptedText n (take (r .k) list') (take (r .count) values')) (n-word file list values r list' values' is done-is)
+        ∙ ap₂ (acceptedText (word32 file 4)) (list-front file list values r list' values' is done-is) (values-front file list values r list' values' is done-is)
+        ∙ done-new (fileReply file .0) (acceptedText (word32 file 4) (fileList file) (fileValues file)) (refusedLine (fileReply file)) done-is
 
--- ---- the list and the state that were decoded
+    pub file-printable : Printable (take (r .k) list') (r .n) (take (r .count) values')
+    file-printable =
+        rw (n-word file list values r list' values' is done-is, list-front file list values r list' values' is done-is, values-front file list values r list' values' is done-is)
+        (record {
+          small = fits file list values r list' values' is done-is .n-small;
+          taken = taken file list values r list' values' is done-is;
+          few = omega (arith, count-is file list values r list' values' is done-is, count-few file list values r list' values' is done-is);
+        })
 
-pub decoded : (file : List ℕ) (n k m : ℕ) (old list : List ℕ) (before state : List Float) → m ≡ 2 * 2 ^ n
-    → list ≡ filled k (fileEntry file) old → state ≡ filled (2 * 2 ^ n) (componentAt file k) before
-    → cutText (take m state) n (take k list) ≡ fileText file n k
-unfolding fileText
-decoded file n k m old list before state l e f =
-    ap₂ (λ (s : List Float) (l : List ℕ). cutText s n l)
-    (ap₂ (λ (m : ℕ) (s : List Float). take m s) l f ∙ take-filled (componentAt file k) (2 * 2 ^ n) before)
-    (ap (take k) e ∙ take-filled (fileEntry file) k old)
+    pub few-listed : r .k ≤ 64
+    few-listed = omega (arith, k-word file list values r list' values' is done-is, fits file list values r list' values' is done-is .k-small)
 
--- ---- a file longer than any valid one: the front that is read has the same certificate
+    pub few-kept : r .count ≤ 16
+    few-kept = count-few file list values r list' values' is done-is

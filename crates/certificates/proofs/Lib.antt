@@ -1,5 +1,4 @@
 -- The laws, and what the functions' proofs share.
 pub mod AcceptedLaws
-pub mod Answered
 pub mod CertificateLaws
 pub mod Theorems

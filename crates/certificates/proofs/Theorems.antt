@@ -1,32 +1,18 @@
--- What a reader may want to know of this crate's definitions and calls. Assumes nothing.
-use mathlib.Core.Path.{_≡_, sym, ap, _∙_, refl}
-use mathlib.Core.List.{List, [], _∷_}
-use Prim.Native.Nat.{ℕ, _-_, _≤_, _<_, zero, suc, _+_, _*_, _/_, _^_, min}
+-- What a reader may want to know of the certificate. Assumes nothing.
+use mathlib.Core.Path.{_≡_, sym, ap, _∙_}
+use mathlib.Core.List.{List}
+use Prim.Native.Nat.{ℕ, _≤_, _<_}
 use native.Mathlib.Omega.{arith}
 use lib.ListN.{length, take}
-use Rattle.answers.specs.Paper.{Reply, done, refuse, after}
-use Rattle.answers.proofs.PaperLaws.{done-old}
-use Rattle.cutfile.specs.Layout.{headerAnswer, LongEnough, componentAt}
+use Rattle.answers.specs.Paper.{Reply}
+use Rattle.answers.proofs.PaperLaws.{stays, done-old}
+use Rattle.cutfile.specs.Layout.{headerAnswer}
 use Rattle.cutfile.proofs.Longer.{longest, longer-same, longer-refused}
+use Rattle.cutfile_result.specs.Result.{fileReply}
 use Rattle.texts.proofs.TextLaws.{puts-one}
 use Rattle.lines.specs.Lines.{refusedLine}
-use mathlib.Core.Bool.{Bool, true, false, not}
-use lib.Dec.{leb, ltb, eqb}
-use lib.Ieee.{Float}
-use lib.Pow.{pow-mono}
-use Rattle.numbers.specs.Numbers.{allowed}
-use Rattle.complex.specs.Cells.{components}
-use Rattle.qubits.specs.Lists.{stands, placesFrom, places, qubitSet, subsystem}
-use Rattle.cut_sides.specs.Sides.{cutSizes, cutRefusal}
-use Rattle.values.specs.Lists.{allFinite}
-use Rattle.values.specs.Sort.{sortedDown}
-use Rattle.finish.specs.Finish.{keptValues, finishSorted, sortedReply, finishReply}
-use Rattle.decode.proofs.TablesLaws.{length-table}
-use Rattle.cut_values.specs.Schmidt.{cutRows, singularValues, cutValuesLengths, cutValuesRest, cutValuesTests, valuesReply, cutValuesAnswer}
-use Rattle.cut_values.proofs.SchmidtLaws.{lengths-good}
-use Rattle.certificates.specs.Certificate.{certificateOf, listOf, stateOf, cutReply}
+use Rattle.certificates.specs.Certificate.{certificateOf}
 use Rattle.certificates.specs.Accepted.{Printed}
-use Rattle.certificates.proofs.Answered.{few-rows}
 
 -- Only one outcome meets the contract of `certificate`.
 pub certificate-one : (file old : List ℕ) (r s : ℕ) (new other : List ℕ) → Printed (certificateOf file) old r new → Printed (certificateOf file) old s other → (r ≡ s) × (new ≡ other)
@@ -34,75 +20,14 @@ certificate-one file old r s new other p q = puts-one 0 (certificateOf file) old
 
 -- What stands past the 8,480 bytes that the program reads changes nothing.
 pub longer-certificate : (m : ℕ) (file : List ℕ) → longest < m → m ≤ length file → certificateOf (take m file) ≡ certificateOf file
-unfolding certificateOf
+unfolding certificateOf fileReply
 longer-certificate m file h l =
     let same = longer-same m file h l in
     let none : headerAnswer file .0 ≡ 0 → ⊥ = longer-refused file (omega arith) in
-    sym (done-old (headerAnswer (take m file) .0) _ (refusedLine (headerAnswer (take m file))) (λ e. none (sym (ap (λ (r : Reply). r .0) same) ∙ e)))
-    ∙ ap refusedLine same
-    ∙ done-old (headerAnswer file .0) _ (refusedLine (headerAnswer file)) none
-
--- a number other than 6
-abbrev Other : Reply → Type 0
-Other a = a .0 ≡ 6 → ⊥
-
-refuse-other : (t : Bool) (k p : ℕ) (b : Reply) → (k ≡ 6 → ⊥) → Other b → Other (refuse t (k, p) b)
-refuse-other true k p b h i = h
-refuse-other false k p b h i = i
-
-after-other : (k : ℕ) (x b : Reply) → Other x → Other b → Other (after k x b)
-after-other zero x b h i = i
-after-other (suc k) x b h i = h
-
-done-other : Other done
-done-other e = omega arith
-
-components-other : (i : ℕ) (l : List Float) → Other (components i l)
-unfolding components
-components-other i [] = done-other
-components-other i (x ∷ l) = refuse-other (not (allowed x)) 7 (i / 2) (components (suc i) l) (λ e. omega arith) (components-other (suc i) l)
-
-places-other : (n : ℕ) (l : List ℕ) (i : ℕ) (m : List ℕ) → Other (placesFrom n l i m)
-unfolding placesFrom
-places-other n l i [] = done-other
-places-other n l i (q ∷ m) =
-    refuse-other (leb n q) 2 i _ (λ e. omega arith) (refuse-other (stands q (take i l)) 3 i _ (λ e. omega arith) (places-other n l (suc i) m))
-
-register-other : (n : ℕ) (b : Reply) → Other b → Other (refuse (ltb n 1) (1, 0) (refuse (ltb 12 n) (1, 0) b))
-register-other n b h = refuse-other (ltb n 1) 1 0 _ (λ e. omega arith) (refuse-other (ltb 12 n) 1 0 b (λ e. omega arith) h)
-
-cut-other : (l : List ℕ) (n cap : ℕ) → Other (cutRefusal l n cap)
-cut-other l n cap =
-    after-other (cutSizes n cap .0) (cutSizes n cap) (subsystem n l)
-    (register-other n _ (refuse-other (ltb (min cap 13) (n + 1)) 1 0 done (λ e. omega arith) done-other))
-    (after-other (qubitSet n l .0) (qubitSet n l) (refuse (eqb (length l) n) (5, 0) done)
-    (register-other n (places n l)
-    (after-other (placesFrom n l 0 l .0) (placesFrom n l 0 l) (refuse (eqb (length l) 0) (4, 0) done) (places-other n l 0 l)
-    (refuse-other (eqb (length l) 0) 4 0 done (λ e. omega arith) done-other)))
-    (refuse-other (eqb (length l) n) 5 0 done (λ e. omega arith) done-other))
-
-values-other : (values : List Float) → Other (valuesReply values)
-unfolding valuesReply sortedReply
-values-other values =
-    let s = sortedDown values in
-    refuse-other (not (allFinite values)) 9 0 (finishReply values) (λ e. omega arith)
-    (refuse-other (eqb (length (keptValues s)) 0) 8 0 (refuse (not (allFinite (finishSorted s))) (9, 0) done) (λ e. omega arith)
-    (refuse-other (not (allFinite (finishSorted s))) 9 0 done (λ e. omega arith) done-other))
-
--- A cut of a state that has its 2·2^n numbers is never refused by 6.
-pub never-length : (state : List Float) (n : ℕ) (list : List ℕ) → n ≤ 9 → length state ≡ 2 * 2 ^ n → cutReply state n list .0 ≡ 6 → ⊥
-unfolding cutReply cutValuesAnswer cutValuesTests cutValuesRest
-never-length state n list h l =
-    let cells : 2 ^ n ≤ 2 ^ 9 = pow-mono h in
-    let rows = few-rows n list h in
-    let fits : cutValuesLengths n (cutRows n list) (length state) 16 4128 ≡ done = sym (lengths-good n (cutRows n list) (length state) 16 4128 refl l rows (omega arith)) in
-    let t = cutValuesLengths n (cutRows n list) (length state) 16 4128 in
-    let none : Other t = λ e. omega (arith, ap (λ (x : Reply). x .0) fits) in
-    after-other (cutValuesTests state n list 10 16 4128 .0) (cutValuesTests state n list 10 16 4128) (valuesReply (singularValues state n list))
-    (after-other (cutRefusal list n 10 .0) (cutRefusal list n 10) (cutValuesRest state n (cutRows n list) 16 4128) (cut-other list n 10)
-    (after-other (t .0) t (components 0 state) none (components-other 0 state)))
-    (values-other (singularValues state n list))
-
--- No file is refused by 6.
-pub file-never-length : (file : List ℕ) (n k : ℕ) → LongEnough file n k → cutReply (stateOf file n k) n (listOf file k) .0 ≡ 6 → ⊥
-file-never-length file n k h = never-length (stateOf file n k) n (listOf file k) (h .n-small) (length-table (componentAt file k) (2 * 2 ^ n))
+    let a : headerAnswer (take m file) ≡ fileReply (take m file) = stays (headerAnswer (take m file)) _ (λ e. none (sym (ap (λ (r : Reply). r .0) same) ∙ e)) in
+    let b : headerAnswer file ≡ fileReply file = stays (headerAnswer file) _ none in
+    let q : fileReply (take m file) ≡ fileReply file = sym a ∙ same ∙ b in
+    let stop : fileReply file .0 ≡ 0 → ⊥ = λ e. none (ap (λ (r : Reply). r .0) b ∙ e) in
+    sym (done-old (fileReply (take m file) .0) _ (refusedLine (fileReply (take m file))) (λ e. stop (sym (ap (λ (r : Reply). r .0) q) ∙ e)))
+    ∙ ap refusedLine q
+    ∙ done-old (fileReply file .0) _ (refusedLine (fileReply file)) stop

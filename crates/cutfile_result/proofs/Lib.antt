@@ -1,0 +1,4 @@
+-- The theorems, and what the functions' proofs share.
+pub mod ResultLaws
+pub mod Few
+pub mod Theorems

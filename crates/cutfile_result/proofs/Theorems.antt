@@ -1,0 +1,105 @@
+-- What a reader may want to know of the result of a file. Assumes nothing.
+use mathlib.Core.Path.{_≡_, sym, ap, _∙_, refl}
+use mathlib.Core.List.{List, [], _∷_}
+use Prim.Native.Nat.{ℕ, _-_, _≤_, zero, suc, _+_, _*_, _/_, _^_, min}
+use lib.Ieee.{Float}
+use Rattle.answers.specs.declared.Answer.{Answer}
+use Rattle.answers.proofs.Theorems.{paper-one}
+use Rattle.cutfile_result.specs.declared.CutResult.{CutResult}
+use Rattle.cutfile_result.specs.Result.{listOf, stateOf, cutReply, Result}
+use native.Mathlib.Omega.{arith}
+use lib.ListN.{length, take}
+use Rattle.answers.specs.Paper.{Reply, done, refuse, after}
+use Rattle.cutfile.specs.Layout.{LongEnough, componentAt}
+use mathlib.Core.Bool.{Bool, true, false, not}
+use lib.Dec.{leb, ltb, eqb}
+use lib.Pow.{pow-mono}
+use Rattle.numbers.specs.Numbers.{allowed}
+use Rattle.complex.specs.Cells.{components}
+use Rattle.qubits.specs.Lists.{stands, placesFrom, places, qubitSet, subsystem}
+use Rattle.cut_sides.specs.Sides.{cutSizes, cutRefusal}
+use Rattle.values.specs.Lists.{allFinite}
+use Rattle.values.specs.Sort.{sortedDown}
+use Rattle.finish.specs.Finish.{keptValues, finishSorted, sortedReply, finishReply}
+use Rattle.decode.proofs.TablesLaws.{length-table}
+use Rattle.cut_values.specs.Schmidt.{cutRows, singularValues, cutValuesLengths, cutValuesRest, cutValuesTests, valuesReply, cutValuesAnswer}
+use Rattle.cut_values.proofs.SchmidtLaws.{lengths-good}
+use Rattle.cutfile_result.proofs.Few.{few-rows}
+
+same-result : {a a' : Answer} {n n' k k' c c' : ℕ} → a ≡ a' → n ≡ n' → k ≡ k' → c ≡ c'
+    → _≡_ {A = CutResult} (record { answer = a; n = n; k = k; count = c }) (record { answer = a'; n = n'; k = k'; count = c' })
+same-result e f g h = cc
+
+-- Only one outcome meets the contract of `cut_result`: its answer, n, k and count, and every cell of the list and the values.
+pub cut-result-one : (file list : List ℕ) (values : List Float) (r s : CutResult) (list' list″ : List ℕ) (values' values″ : List Float)
+    → Result file list values r list' values' → Result file list values s list″ values″ → (r ≡ s) × (list' ≡ list″) × (values' ≡ values″)
+cut-result-one file list values r s list' list″ values' values″ x y = (
+  same-result (paper-one (r .answer) (s .answer) (x .answer ∙ sym (y .answer))) (x .n-is ∙ sym (y .n-is)) (x .k-is ∙ sym (y .k-is)) (x .count ∙ sym (y .count)),
+  x .list-is ∙ sym (y .list-is),
+  x .values-are ∙ sym (y .values-are),
+)
+
+-- a number other than 6
+abbrev Other : Reply → Type 0
+Other a = a .0 ≡ 6 → ⊥
+
+refuse-other : (t : Bool) (k p : ℕ) (b : Reply) → (k ≡ 6 → ⊥) → Other b → Other (refuse t (k, p) b)
+refuse-other true k p b h i = h
+refuse-other false k p b h i = i
+
+after-other : (k : ℕ) (x b : Reply) → Other x → Other b → Other (after k x b)
+after-other zero x b h i = i
+after-other (suc k) x b h i = h
+
+done-other : Other done
+done-other e = omega arith
+
+components-other : (i : ℕ) (l : List Float) → Other (components i l)
+unfolding components
+components-other i [] = done-other
+components-other i (x ∷ l) = refuse-other (not (allowed x)) 7 (i / 2) (components (suc i) l) (λ e. omega arith) (components-other (suc i) l)
+
+places-other : (n : ℕ) (l : List ℕ) (i : ℕ) (m : List ℕ) → Other (placesFrom n l i m)
+unfolding placesFrom
+places-other n l i [] = done-other
+places-other n l i (q ∷ m) =
+    refuse-other (leb n q) 2 i _ (λ e. omega arith) (refuse-other (stands q (take i l)) 3 i _ (λ e. omega arith) (places-other n l (suc i) m))
+
+register-other : (n : ℕ) (b : Reply) → Other b → Other (refuse (ltb n 1) (1, 0) (refuse (ltb 12 n) (1, 0) b))
+register-other n b h = refuse-other (ltb n 1) 1 0 _ (λ e. omega arith) (refuse-other (ltb 12 n) 1 0 b (λ e. omega arith) h)
+
+cut-other : (l : List ℕ) (n cap : ℕ) → Other (cutRefusal l n cap)
+cut-other l n cap =
+    after-other (cutSizes n cap .0) (cutSizes n cap) (subsystem n l)
+    (register-other n _ (refuse-other (ltb (min cap 13) (n + 1)) 1 0 done (λ e. omega arith) done-other))
+    (after-other (qubitSet n l .0) (qubitSet n l) (refuse (eqb (length l) n) (5, 0) done)
+    (register-other n (places n l)
+    (after-other (placesFrom n l 0 l .0) (placesFrom n l 0 l) (refuse (eqb (length l) 0) (4, 0) done) (places-other n l 0 l)
+    (refuse-other (eqb (length l) 0) 4 0 done (λ e. omega arith) done-other)))
+    (refuse-other (eqb (length l) n) 5 0 done (λ e. omega arith) done-other))
+
+values-other : (values : List Float) → Other (valuesReply values)
+unfolding valuesReply sortedReply
+values-other values =
+    let s = sortedDown values in
+    refuse-other (not (allFinite values)) 9 0 (finishReply values) (λ e. omega arith)
+    (refuse-other (eqb (length (keptValues s)) 0) 8 0 (refuse (not (allFinite (finishSorted s))) (9, 0) done) (λ e. omega arith)
+    (refuse-other (not (allFinite (finishSorted s))) 9 0 done (λ e. omega arith) done-other))
+
+-- A cut of a state that has its 2·2^n numbers is never refused by 6.
+pub never-length : (state : List Float) (n : ℕ) (list : List ℕ) → n ≤ 9 → length state ≡ 2 * 2 ^ n → cutReply state n list .0 ≡ 6 → ⊥
+unfolding cutReply cutValuesAnswer cutValuesTests cutValuesRest
+never-length state n list h l =
+    let cells : 2 ^ n ≤ 2 ^ 9 = pow-mono h in
+    let rows = few-rows n list h in
+    let fits : cutValuesLengths n (cutRows n list) (length state) 16 4128 ≡ done = sym (lengths-good n (cutRows n list) (length state) 16 4128 refl l rows (omega arith)) in
+    let t = cutValuesLengths n (cutRows n list) (length state) 16 4128 in
+    let none : Other t = λ e. omega (arith, ap (λ (x : Reply). x .0) fits) in
+    after-other (cutValuesTests state n list 10 16 4128 .0) (cutValuesTests state n list 10 16 4128) (valuesReply (singularValues state n list))
+    (after-other (cutRefusal list n 10 .0) (cutRefusal list n 10) (cutValuesRest state n (cutRows n list) 16 4128) (cut-other list n 10)
+    (after-other (t .0) t (components 0 state) none (components-other 0 state)))
+    (values-other (singularValues state n list))
+
+-- No file is refused by 6.
+pub file-never-length : (file : List ℕ) (n k : ℕ) → LongEnough file n k → cutReply (stateOf file n k) n (listOf file k) .0 ≡ 6 → ⊥
+file-never-length file n k h = never-length (stateOf file n k) n (listOf file k) (h .n-small) (length-table (componentAt file k) (2 * 2 ^ n))

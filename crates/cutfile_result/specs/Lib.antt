@@ -1,0 +1,2 @@
+-- What the contracts of `cutfile_result` cite.
+pub mod Result
