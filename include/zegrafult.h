@@ -18,7 +18,10 @@
  * the need. On any refusal a returned count, rank or base is 0 and a returned yes or no is no.
  *
  * n is 1 to 12. The cap used is the smaller of cap and 13: a cut needs n + 1 at most the cap, a density over k
- * qubits 2k at most the cap. side is the smaller of k and n - k. */
+ * qubits 2k at most the cap. side is the smaller of k and n - k.
+ *
+ * Qubit q is bit q of a state's index. That and the rest of what all calls share (rows and columns, NULL, overlap, threads, stack,
+ * the floating-point environment and the test of it in zegrafult_environment.h) is in docs/CONVENTIONS.md. */
 #ifndef ZEGRAFULT_H
 #define ZEGRAFULT_H
 

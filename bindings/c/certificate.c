@@ -1,6 +1,7 @@
 /* A certificate's numbers from C: the Schmidt values of a state, its density matrix, and three refusals.
  * Build: cc -I include bindings/c/certificate.c target/staticlib/libexports.a -o certificate */
 #include "zegrafult.h"
+#include "zegrafult_environment.h"
 
 #include <math.h>
 #include <stdio.h>
@@ -31,6 +32,10 @@ int main(void) {
     const size_t twice[] = {2, 2};
     size_t place, count;
 
+    if (!zg_environment()) {
+        fputs("the floating-point environment is not the one that the promises are about\n", stderr);
+        return 1;
+    }
     state[2 * 0] = state[2 * 5] = state[2 * 10] = state[2 * 15] = 1.0;
     printf("answer %u,", values_of(state, 2 * AMPLITUDES, named, 2, values, &place, &count));
     printf(" %zu values, the first %g\n", count, values[0]);

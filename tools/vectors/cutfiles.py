@@ -2,7 +2,7 @@
 """Cut files and what `cutprint` must print of them, worked out here from the paper and the published Rust and not by the code
 that is tested. Python's floats are binary64 and its square root is rounded once, so the bits must agree.
 
-    cutfiles.py examples DIR     the examples: NAME.cut, and NAME.txt beside it
+    cutfiles.py examples DIR     the examples: NAME.cut, its printout NAME.txt beside it, and of some the state NAME.state.txt
     cutfiles.py cases FILE OUT   the table that the program `certificate_cases` runs, and the printouts that it must write
 """
 import math, os, random, struct, sys
@@ -295,6 +295,17 @@ def cases():
     yield 'longer, the mark decides', b'CUT3' + PAPER[4:] + b'\0' * 8200
 
 
+def state_text(name, file):
+    """The state of a file as a text that tools/pack takes, with the same bytes as its result."""
+    n, k = struct.unpack('<2I', file[4:12])
+    named = struct.unpack('<%dI' % k, file[24:24 + 4 * k])
+    numbers = struct.unpack('<%dd' % (2 * 2 ** n), file[offset(k):])
+    lines = ['# The state of examples/%s.cut, amplitude by amplitude: real part, imaginary part. Qubit q is bit q of the index.' % name,
+             '# tools/pack examples/%s.state.txt -q %s' % (name, ','.join(map(str, named)))]
+    lines += ['%r %r' % numbers[i:i + 2] + '   # %s' % format(i // 2, '0%db' % n) for i in range(0, len(numbers), 2)]
+    return '\n'.join(lines) + '\n'
+
+
 def main():
     kind = sys.argv[1]
     if kind == 'examples':
@@ -303,6 +314,9 @@ def main():
                 f.write(file)
             with open(os.path.join(sys.argv[2], name + '.txt'), 'w') as f:
                 f.write(printout(file))
+        for name in ('paper', 'ghz', 'product'):
+            with open(os.path.join(sys.argv[2], name + '.state.txt'), 'w') as f:
+                f.write(state_text(name, EXAMPLES[name]))
     elif kind == 'cases':
         with open(sys.argv[2], 'wb') as table, open(sys.argv[3], 'w') as out:
             for name, file in cases():

@@ -1,6 +1,6 @@
 //! Prints every step from a cut file's bytes to its Schmidt values, each number with its bits:
 //! cargo run --example steps -- FILE. For reading along with docs/AUDIT.md; `./certify FILE` is what counts.
-use zegrafult::{cut_matrix, finish_schmidt_values, sqrt, svd_jacobi, Complex, Refusal};
+use zegrafult::{cut_matrix, environment, finish_schmidt_values, sqrt, svd_jacobi, Complex, Refusal};
 
 fn word(bytes: &[u8], at: usize) -> Option<usize> {
     Some(u32::from_le_bytes(bytes.get(at..at + 4)?.try_into().ok()?) as usize)
@@ -50,6 +50,7 @@ fn steps(n: usize, named: &[usize], state: &[Complex]) -> Result<(), Refusal> {
 }
 
 fn main() {
+    assert!(environment(), "the floating-point environment is not the one that the promises are about");
     let path = std::env::args().nth(1).expect("usage: steps FILE");
     let bytes = std::fs::read(&path).expect("the file can be read");
     match parts(&bytes) {

@@ -17,11 +17,15 @@
 //! println!("{refusal}");
 //! # Ok::<(), zegrafult::Refusal>(())
 //! ```
+//!
+//! Qubit q is bit q of a state's index. That and the rest of what all calls share (rows and columns, threads, stack, the
+//! floating-point environment, which [`environment`] tells) is in `docs/CONVENTIONS.md`.
 
 mod ffi;
 mod refusal;
 
 mod densities;
+mod environment;
 mod factors;
 mod lists;
 mod numbers;
@@ -29,6 +33,7 @@ mod sites;
 mod spectra;
 
 pub use densities::*;
+pub use environment::environment;
 pub use factors::*;
 pub use lists::*;
 pub use numbers::*;

@@ -1,0 +1,150 @@
+/* The stack that each call needs, measured: a thread's stack is painted, the call works on its largest input there, and the depth
+ * that is no longer painted is held to what docs/CONVENTIONS.md promises. Prints each call's need; status 1 where one needs more.
+ * Build: cc -I include bindings/c/stack.c target/staticlib/libexports.a -lm -lpthread -o stack */
+#define _GNU_SOURCE
+#include "zegrafult.h"
+
+#include <pthread.h>
+#include <stdio.h>
+#include <stdlib.h>
+#include <string.h>
+
+enum { STACK = 4 << 20, PAINT = 0xA5, CELLS = 4096, KB = 1024 };
+
+static double state[2 * CELLS], matrix[2 * CELLS], square[2 * CELLS], out[2 * CELLS], more[2 * CELLS], third[2 * CELLS];
+static double scratch[8 * CELLS + 128], factor[2 * CELLS];
+static const size_t six[] = {0, 2, 4, 6, 8, 10}, low[] = {0, 1, 2, 3, 4, 5};
+static const size_t eleven[] = {0, 1, 2, 3, 4, 5, 6, 7, 8, 9, 10};
+static size_t offsets[CELLS], place, count;
+static uint64_t wide;
+static uint32_t answer;
+static volatile double number;
+static volatile uint64_t bits;
+static bool yes;
+
+static void nothing(void) {}
+static void numbers(void) {
+    number = zg_sqrt(2.0) + zg_modulus(3.0, 4.0) + zg_magnitude(-1.0) + zg_sign(-0.0);
+    bits = zg_sqrt_bits(0x4000000000000000u) + zg_is_finite(1.0) + zg_component_allowed(1.0) + zg_total_less(0.0, 1.0) + zg_total_order(0.0, 1.0);
+    answer = 0;
+}
+static void qubit_set(void) { answer = zg_validate_qubit_set(eleven, 11, 12, &place); }
+static void subsystem(void) { answer = zg_validate_subsystem(eleven, 11, 12, &place); }
+static void row_offsets(void) { answer = zg_row_offsets(six, 6, 12, 13, offsets, CELLS, &place); }
+static void traced_base(void) { answer = zg_traced_base(63, six, 6, 12, 13, &place, &count); }
+static void smaller_side(void) { answer = zg_smaller_side(eleven, 11, 12, 13, offsets, CELLS, &place); }
+static void cut_matrix(void) { answer = zg_cut_matrix(state, 2 * CELLS, 12, six, 6, 13, out, 2 * CELLS, &place); }
+static void density(void) {
+    answer = zg_dense_reduced_density(state, 2 * CELLS, 12, six, 6, 13, out, 2 * CELLS, scratch, 128, &place);
+}
+static void from_cut(void) { answer = zg_density_from_cut(state, 2 * CELLS, 12, six, 6, 13, out, 2 * CELLS, &place); }
+static void pages(void) { answer = zg_pages_agree(state, 2 * CELLS, 12, six, 6, 13, &place, &yes); }
+static void mirror(void) { answer = zg_mirror_lower_triangle(matrix, 2 * CELLS, 64, &place); }
+static void trace(void) { answer = zg_normalize_trace(matrix, 2 * CELLS, 64, &place); }
+static void block(void) { answer = zg_multiply_block_factor(matrix, 2 * CELLS, 64, low, 6, factor, 2 * CELLS, 64, &place); }
+static void svd(void) {
+    answer = zg_svd_jacobi(square, 2 * CELLS, 64, 64, out, 2 * CELLS, more, 64, third, 2 * CELLS, scratch, 6 * CELLS + 128, &place);
+}
+static void qr(void) {
+    answer = zg_factorize_gram_schmidt(square, 2 * CELLS, 64, 64, out, 2 * CELLS, third, 2 * CELLS, scratch, 128, &place, &count);
+}
+static void tall_qr(void) {
+    answer = zg_factorize_gram_schmidt(square, 2 * CELLS, 4096, 1, out, 2 * CELLS, third, 2 * CELLS, scratch, 2 * CELLS, &place, &count);
+}
+static void finish(void) { answer = zg_finish_schmidt_values(factor, 64, out, 64, &place, &count); }
+static void eigenvalues(void) { answer = zg_hermitian_eigenvalues(matrix, 2 * CELLS, 64, out, 64, scratch, 2 * CELLS, &place); }
+static void from_density(void) {
+    answer = zg_schmidt_values_from_density(matrix, 2 * CELLS, 64, out, 64, scratch, 2 * CELLS, &place, &count);
+}
+static void eigen(void) {
+    answer = zg_hermitian_eigen(matrix, 2 * CELLS, 64, more, 64, out, 2 * CELLS, scratch, 6 * CELLS + 128, &place);
+}
+static void cut_values(void) {
+    answer = zg_dense_schmidt_values(state, 2 * CELLS, 12, six, 6, 13, out, 64, scratch, 8 * CELLS + 128, &place, &count);
+}
+static void ranks(void) {
+    answer = zg_truncated_svd_rank(factor, 64, 1e-3, 8, &place, &count) + zg_discards_resolvable_weight(factor, 64, 8, &place, &yes) +
+             zg_cut_rank(4096, 4096, 4096, &place, &wide) + zg_widest_block_cut(4096, 4096, 16, &place, &wide);
+}
+static void fills(void) {
+    answer = zg_fill_isometry_site_data(state, 2 * CELLS, 64, 32, 64, out, 2 * CELLS, &place) +
+             zg_fill_scaled_u_site_data(state, 2 * CELLS, factor, 64, 64, 32, 64, out, 2 * CELLS, &place) +
+             zg_fill_vt_site_data(state, 2 * CELLS, 64, 64, 2, 32, out, 2 * CELLS, &place) +
+             zg_fill_scaled_vt_data(factor, 64, state, 2 * CELLS, 64, 64, 2, 32, out, 2 * CELLS, &place);
+}
+
+static const struct {
+    const char *name;
+    void (*call)(void);
+    size_t most;
+} CALLS[] = {{"zg_pages_agree", pages, 320 * KB},
+             {"zg_dense_reduced_density", density, 96 * KB},
+             {"numbers", numbers, 16 * KB},
+             {"zg_validate_qubit_set", qubit_set, 16 * KB},
+             {"zg_validate_subsystem", subsystem, 16 * KB},
+             {"zg_row_offsets", row_offsets, 16 * KB},
+             {"zg_traced_base", traced_base, 16 * KB},
+             {"zg_smaller_side", smaller_side, 16 * KB},
+             {"zg_cut_matrix", cut_matrix, 16 * KB},
+             {"zg_density_from_cut", from_cut, 16 * KB},
+             {"zg_mirror_lower_triangle", mirror, 16 * KB},
+             {"zg_normalize_trace", trace, 16 * KB},
+             {"zg_multiply_block_factor", block, 16 * KB},
+             {"zg_svd_jacobi", svd, 16 * KB},
+             {"zg_factorize_gram_schmidt", qr, 16 * KB},
+             {"the same, 4096 by 1", tall_qr, 16 * KB},
+             {"zg_finish_schmidt_values", finish, 16 * KB},
+             {"zg_hermitian_eigenvalues", eigenvalues, 16 * KB},
+             {"zg_schmidt_values_from_density", from_density, 16 * KB},
+             {"zg_hermitian_eigen", eigen, 16 * KB},
+             {"zg_dense_schmidt_values", cut_values, 16 * KB},
+             {"ranks", ranks, 16 * KB},
+             {"the four fills", fills, 16 * KB}};
+
+static void *run(void *call) {
+    (*(void (**)(void))call)();
+    return NULL;
+}
+
+/* How deep a thread went that made the call. */
+static size_t depth(unsigned char *stack, void (*call)(void)) {
+    pthread_attr_t attributes;
+    pthread_t thread;
+    size_t i = 0;
+
+    memset(stack, PAINT, STACK);
+    pthread_attr_init(&attributes);
+    if (pthread_attr_setstack(&attributes, stack, STACK) != 0 || pthread_create(&thread, &attributes, run, &call) != 0)
+        exit(2);
+    pthread_join(thread, NULL);
+    while (i < STACK && stack[i] == PAINT)
+        i++;
+    return STACK - i;
+}
+
+int main(void) {
+    unsigned char *stack = aligned_alloc(4096, STACK);
+    size_t i, empty, failed = 0;
+
+    if (stack == NULL)
+        return 2;
+    for (i = 0; i < CELLS; i++) {
+        size_t row = i / 64, column = i % 64;
+        state[2 * i] = 1.0 / (double)(1 + i % 97), state[2 * i + 1] = 1.0 / (double)(1 + i % 89);
+        square[2 * i] = state[2 * i], square[2 * i + 1] = state[2 * i + 1];
+        matrix[2 * i] = 1.0 / (double)(1 + row + column) + (row == column), factor[2 * i] = factor[2 * i + 1] = 1.0;
+    }
+    empty = depth(stack, nothing);
+    for (i = 0; i < sizeof CALLS / sizeof CALLS[0]; i++) {
+        size_t need;
+        answer = 99;
+        need = depth(stack, CALLS[i].call) - empty;
+        printf("%-32s answer %u, %zu bytes\n", CALLS[i].name, (unsigned)answer, need);
+        if (answer != 0 || need > CALLS[i].most) {
+            printf("%s: more than the %zu bytes promised, or refused\n", CALLS[i].name, CALLS[i].most);
+            failed = 1;
+        }
+    }
+    free(stack);
+    return (int)failed;
+}
