@@ -1,12 +1,12 @@
 -- Laws of what `specs/Renumbered.antt` defines. Assumes nothing.
 use mathlib.Core.Path.{_≡_, refl, sym, ap, ap₂, subst, _∙_}
 use mathlib.Core.Logic.{_⊎_, ⊎-elim, inl, inr}
-use mathlib.Core.Bool.{Bool, true, false, _||_, cond}
+use mathlib.Core.Bool.{Bool, true, false, _||_, cond, false≢true}
 use mathlib.Core.List.{List, [], _∷_}
-use Prim.Native.Nat.{ℕ, zero, suc, _-_, _*_, _/_, _%_, _^_, _<_, min}
+use Prim.Native.Nat.{ℕ, zero, suc, _-_, _*_, _/_, _%_, _^_, _≤_, _<_, min}
 use native.Mathlib.Omega.{arith}
-use native.Mathlib.Nat.{zero-div, zero-mul, one-mul}
-use borrow.Author.Tests.{eqb-true, eqb-false}
+use native.Mathlib.Nat.{pow-suc, zero-div, zero-mul, one-mul}
+use borrow.Author.Tests.{eq-eqb, eqb-true, eqb-false}
 use lib.Bits.{bitOr}
 use lib.Dec.{eqb, leb}
 use lib.Ieee.{Float}
@@ -30,8 +30,8 @@ use Rattle.agreement.specs.Signs.{same}
 use Rattle.agreement.proofs.SignsLaws.{back}
 use Rattle.agreement.specs.Across.{AlikeCells}
 use Rattle.agreement.proofs.AcrossLaws.{across}
-use Rattle.cut_naming.specs.Reordered.{Reordered}
-use Rattle.cut_naming.proofs.ReorderedLaws.{same-mask, same-length, set-kept}
+use Rattle.cut_naming.specs.Reordered.{times, Reordered}
+use Rattle.cut_naming.proofs.ReorderedLaws.{times-some, either, times-append, times-self, same-mask, same-length, set-kept}
 use Rattle.agreement.specs.Renumbered.{unspread, renumber}
 
 -- ---- the way back from a spread setting
@@ -136,3 +136,50 @@ module _ (n : ℕ) (l l' : List ℕ) (order : Reordered l l') (e : qubitSet n l 
         (ap₂ (λ (x y : Complex). cond (leb (renumber l l' u) (renumber l l' t)) x (conjugate y)) (same-sums t u) (same-sums u t))
         (either-half (leb u t) (leb (renumber l l' u) (renumber l l' t)) (lowerEntry n l s t u) (conjugate (lowerEntry n l s u t))
         (across (2 ^ (n - length l)) (settingAmplitude n l s) t u))
+
+-- ---- a setting that is spread over distinct qubits spells itself
+
+or-there : (b : Bool) {c : Bool} → c ≡ true → (b || c) ≡ true
+or-there true h = refl
+or-there false h = h
+
+unspread-same : (l : List ℕ) (x y : ℕ) → ((p : ℕ) → stands p l ≡ true → x / 2 ^ p % 2 ≡ y / 2 ^ p % 2) → unspread l x ≡ unspread l y
+unfolding unspread stands
+unspread-same [] x y h = refl
+unspread-same (q ∷ l) x y h =
+    let a : x / 2 ^ q % 2 ≡ y / 2 ^ q % 2 = h q (ap (λ (b : Bool). b || stands q l) (eq-eqb q q refl)) in
+    let r : unspread l x ≡ unspread l y = unspread-same l x y (λ p s. h p (or-there (eqb q p) s)) in
+    rw (a, r)
+
+other-digit : (d q p y : ℕ) → (p ≡ q → ⊥) → d < 2 → bitOr (d * 2 ^ q) y / 2 ^ p % 2 ≡ y / 2 ^ p % 2
+other-digit d q p y n h =
+    ⊎-elim
+    (λ (e : y / 2 ^ p % 2 ≡ 0). or-digit (d * 2 ^ q) y p (term-digit d q p (inr n) h) e ∙ sym e)
+    (λ (e : y / 2 ^ p % 2 ≡ 1). or-digit-r (d * 2 ^ q) y p e ∙ sym e)
+    (digit (y / 2 ^ p))
+
+own-digit : (d q y : ℕ) → d < 2 → y / 2 ^ q % 2 ≡ 0 → bitOr (d * 2 ^ q) y / 2 ^ q % 2 ≡ d
+own-digit zero q y h e = or-digit (0 * 2 ^ q) y q (term-digit 0 q q (inl refl) (omega arith)) e
+own-digit (suc zero) q y h e = or-digit-l (1 * 2 ^ q) y q (rw one-mul (power-self q))
+own-digit (suc (suc d)) q y h e = absurd (omega arith)
+
+pub spread-again : (l : List ℕ) (t : ℕ) → ((q : ℕ) → times q l ≤ 1) → t < 2 ^ length l → unspread l (spread l t) ≡ t
+unfolding unspread
+spread-again [] t h lt = omega arith
+spread-again (q ∷ l) t h lt =
+    let out : stands q l ≡ false
+    = ⊎-elim (λ (e : stands q l ≡ true). absurd (omega (arith, times-some q l e, h q, times-self q l))) (λ (e : stands q l ≡ false). e) (either q l) in
+    let y = spread l (t / 2) in
+    let x = spread (q ∷ l) t in
+    let e : x ≡ bitOr (t % 2 * 2 ^ q) y = spread-cons q l t in
+    let named-zero : named l / 2 ^ q % 2 ≡ 0 = not-there 0 l q out (rw zero-div) in
+    let m : y / 2 ^ q % 2 ≡ min (y / 2 ^ q % 2) (named l / 2 ^ q % 2) = ap (λ (v : ℕ). v / 2 ^ q % 2) (sym (spread-submask 0 l (t / 2))) ∙ and-digit y (named l) q in
+    let z : y / 2 ^ q % 2 ≡ 0 = omega arith in
+    let low : x / 2 ^ q % 2 ≡ t % 2 = ap (λ (v : ℕ). v / 2 ^ q % 2) e ∙ own-digit (t % 2) q y (omega arith) z in
+    let rest : unspread l x ≡ unspread l y
+    = unspread-same l x y
+    (λ p s. ap (λ (v : ℕ). v / 2 ^ p % 2) e
+    ∙ other-digit (t % 2) q p y (λ d. false≢true (sym out ∙ subst (λ (r : ℕ). stands r l ≡ true) d s)) (omega arith)) in
+    let once : (p : ℕ) → times p l ≤ 1 = λ p. omega (arith, h p, times-append p (q ∷ []) l) in
+    let back : unspread l y ≡ t / 2 = spread-again l (t / 2) once (omega (arith, lt, pow-suc 2 (length l))) in
+    omega (arith, low, rest, back)

@@ -1,9 +1,10 @@
 -- What a reader may want to know of this crate's definitions and calls. Assumes nothing.
 use mathlib.Core.Path.{_≡_, sym, ap, _∙_}
 use mathlib.Core.List.{List, [], _∷_}
-use Prim.Native.Nat.{ℕ, _*_, _^_, _+_, _<_}
+use Prim.Native.Nat.{ℕ, _*_, _^_, _+_, _≤_, _<_}
 use lib.Ieee.{Float}
 use lib.ListN.{length}
+use lib.Seq.{take-length}
 use Rattle.answers.specs.declared.Answer.{Answer}
 use Rattle.answers.specs.Paper.{Reply, paper, andThen}
 use Rattle.answers.proofs.PaperLaws.{andThen-done, done-new}
@@ -20,6 +21,7 @@ use Rattle.complex.specs.declared.Complex.{Complex}
 use Rattle.complex.proofs.CellLaws.{cell-written}
 use Rattle.qubits.specs.Lists.{qubitSet, densitySizes}
 use Rattle.qubits.specs.Spread.{spread}
+use Rattle.qubits.proofs.NamedLaws.{is-listed}
 use Rattle.qubit_offsets.specs.Calls.{densityRefusal}
 use Rattle.density_entries.specs.Squares.{mirroredEntry, entryAt}
 use Rattle.agreement.specs.FromCut.{cutDensityCell}
@@ -28,10 +30,10 @@ use Rattle.agreement.proofs.SameDensity.{same-density}
 use Rattle.agreement.specs.Agreement.{HoldsOnce}
 use Rattle.agreement.proofs.AgreementLaws.{density-left, written-same}
 use Rattle.agreement.specs.Across.{AlikeCells}
-use Rattle.cut_naming.specs.Reordered.{Reordered}
-use Rattle.cut_naming.proofs.ReorderedLaws.{same-length, cut-kept, density-kept, pass, set-of-cut}
+use Rattle.cut_naming.specs.Reordered.{times, Reordered}
+use Rattle.cut_naming.proofs.ReorderedLaws.{at-most-once, same-length, cut-kept, density-kept, pass, set-of-cut}
 use Rattle.agreement.specs.Renumbered.{renumber, unspread}
-use Rattle.agreement.proofs.RenumberedLaws.{same-cut, same-entries}
+use Rattle.agreement.proofs.RenumberedLaws.{same-cut, renumbered, spread-again, same-entries}
 
 -- a cut that was answered 0: its list, and the matrix that it left
 module _ (s : List Float) (n : ℕ) (l : List ℕ) (cap : ℕ) (o : List Float) (r : Answer) (m : List Float) (c : CutMatrix s n l cap o r m) (z : paper r .0 ≡ 0) where
@@ -121,3 +123,13 @@ module _ (s : List Float) (n : ℕ) (l l' : List ℕ) (order : Reordered l l') (
         = ap (λ (x : List Float). entryAt x (2 ^ length l') (renumber l l' t) (renumber l l' u)) (density-left s n l' cap o w r' d' w2 c' density-again)
         ∙ entry-left s n l' o (renumber l l' t) (renumber l l' u) (unspread-lt l' (spread l t)) (unspread-lt l' (spread l u)) in
         rw (e, e') (same-entries n l l' order set s t u)
+
+-- The renumbering of c: row t of the one density and row `renumber l l' t` of the other name the same setting of the qubits; that row lies in
+-- the matrix; and the way back gives t. So it is a permutation.
+pub renumber-permutes : (n : ℕ) (l l' : List ℕ) → Reordered l l' → qubitSet n l .0 ≡ 0 → (t : ℕ) → t < 2 ^ length l
+    → (spread l' (renumber l l' t) ≡ spread l t) × (renumber l l' t < 2 ^ length l') × (renumber l' l (renumber l l' t) ≡ t)
+renumber-permutes n l l' order e t h =
+    let r = renumbered n l l' order e t in
+    let p = is-listed n l e in
+    let once : (q : ℕ) → times q l ≤ 1 = λ q. rw (take-length l) at (at-most-once l (p .apart) q (length l) (omega arith)) in
+    (r, unspread-lt l' (spread l t), ap (unspread l) r ∙ spread-again l t once h)

@@ -11,8 +11,11 @@ use Rattle.site_ranks.specs.Ranks.{rankOf}
 use Rattle.answers.specs.Paper.{Reply}
 use Rattle.qubits.specs.Lists.{subsystem}
 use Rattle.qubits.specs.Spread.{rowOffsets, tracedBase}
-use Rattle.cuts.specs.Cut.{sourceOf}
-use Rattle.eigen_pair.specs.Decide.{thetaOf, eigenTangent}
+use Rattle.complex.specs.Arithmetic.{complexOf}
+use Rattle.complex.specs.Cells.{cellAt}
+use Rattle.cuts.specs.Cut.{sourceOf, cutCell}
+use Rattle.svd_pair.specs.Decisions.{verdict}
+use Rattle.eigen_pair.specs.Decide.{thetaOf, eigenTangent, eigenDecision}
 
 abbrev to8 : List ℕ
 to8 = 0 ∷ 1 ∷ 2 ∷ 3 ∷ 4 ∷ 5 ∷ 6 ∷ 7 ∷ []
@@ -37,6 +40,10 @@ float4 = ofBits binary64 0x4010_0000_0000_0000
 abbrev twoColumns : List Float
 twoColumns = float2 ∷ float0 ∷ float0 ∷ float0 ∷ float4 ∷ float0 ∷ float0 ∷ float0 ∷ []
 
+-- 1 / √2, rounded
+abbrev rootHalf : Float
+rootHalf = ofBits binary64 0x3fe6_a09e_667f_3bcc
+
 -- 0.3
 abbrev threshold : Float
 threshold = ofBits binary64 0x3fd3_3333_3333_3333
@@ -47,6 +54,9 @@ pub record Starred : Type 0 where
   pub list-01 : gathered (0 ∷ 1 ∷ []) ≡ 0 ∷ 4 ∷ 1 ∷ 5 ∷ 2 ∷ 6 ∷ 3 ∷ 7 ∷ []
   -- n=3, list {0,2}: columns (0,2),(1,3),(4,6),(5,7)
   pub list-02 : gathered (0 ∷ 2 ∷ []) ≡ 0 ∷ 2 ∷ 1 ∷ 3 ∷ 4 ∷ 6 ∷ 5 ∷ 7 ∷ []
+  -- so of the definition that the cut's contract cites: the cells of any state
+  pub cells-2 : (s : List Float) → map (cutCell s 3 (2 ∷ [])) to8 ≡ map (cellAt s) (0 ∷ 4 ∷ 1 ∷ 5 ∷ 2 ∷ 6 ∷ 3 ∷ 7 ∷ [])
+  pub cells-02 : (s : List Float) → map (cutCell s 3 (0 ∷ 2 ∷ [])) to8 ≡ map (cellAt s) (0 ∷ 2 ∷ 1 ∷ 3 ∷ 4 ∷ 6 ∷ 5 ∷ 7 ∷ [])
   -- n=3, list 2,0: row offsets 0,4,1,5; traced bases 0,2
   pub offsets : rowOffsets (2 ∷ 0 ∷ []) ≡ 0 ∷ 4 ∷ 1 ∷ 5 ∷ []
   pub bases : map (tracedBase 3 (2 ∷ 0 ∷ [])) (0 ∷ 1 ∷ []) ≡ 0 ∷ 2 ∷ []
@@ -69,3 +79,6 @@ pub record Starred : Type 0 where
   -- eigen pair with diagonal +0.0, -0.0 and off-diagonal 1: theta -0.0, t = -1
   pub eigen-theta : thetaOf float0 (Ieee.neg float0) float1 ≡ Ieee.neg float0
   pub eigen-tangent : eigenTangent (Ieee.neg float0) ≡ Ieee.neg float1
+  -- and through the decision, from the off-diagonal 1: the cosine √½, the sine its negative, the phase 1
+  pub eigen-turn : verdict (eigenDecision (complexOf float1 float0) float0 (Ieee.neg float0) float0)
+      ≡ record { number = 1; values = rootHalf ∷ Ieee.neg rootHalf ∷ float1 ∷ float0 ∷ [] }
