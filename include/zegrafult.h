@@ -123,6 +123,17 @@ uint32_t zg_factorize_gram_schmidt(const double *a, size_t a_len, size_t rows, s
                                    double *r, size_t r_len, double *scratch, size_t scratch_len, size_t *place,
                                    size_t *rank);
 
+/* Slices: a 0 (m by n, column-major, exactly 2*m*n numbers), u 1 (m by k, column-major, exactly 2*m*k), s 2 (exactly
+ * k), vt 3 (k by n, row-major, exactly 2*k*n); k = min(m, n), at most 16, m*n at most 4096. Every number is a whole
+ * number of 2^-18 of magnitude at most 1, else 11. tolerance is in whole numbers of 2^-54. Refused by 1, 6, 7, 11 in
+ * this order; the place of 7 and of 11 is the cell within its own argument, a value of s being one cell. On answer 0:
+ * *yes, or no with *test 1 product (cell of a), 2 U (cell of U-dagger U, k by k), 3 V-dagger (cell of V-dagger V, k
+ * by k), 4 S (its index), and the test's first failing *cell. Where yes or refused, *test and *cell are 0; refused,
+ * *yes is no. All sums are exact. Nothing is lent for writing. */
+uint32_t zg_countersign(const double *a, size_t a_len, size_t m, size_t n, const double *u, size_t u_len,
+                        const double *s, size_t s_len, const double *vt, size_t vt_len, uint64_t tolerance,
+                        size_t *place, bool *yes, size_t *test, size_t *cell);
+
 /* ---- spectra */
 
 /* Slices: values 0 (0 to 64, read only), out 1 (at least as long). Sorted downward, cut at the first value at or

@@ -90,3 +90,74 @@ pub fn factorize_gram_schmidt(a: &[Complex], rows: usize, cols: usize) -> Result
     };
     answered(number, place, ThinQr { rank, q, r })
 }
+
+/// What [`countersign`] found: that all holds, or the first test that fails, with its first failing cell.
+#[derive(Clone, Copy, Debug, PartialEq, Eq, Hash)]
+pub enum Finding {
+    Yes,
+    /// The product misses this cell of A, column-major.
+    Product(usize),
+    /// U†U misses the identity at this cell, k by k.
+    Left(usize),
+    /// V†V misses the identity at this cell, k by k.
+    Right(usize),
+    /// This value of S is below zero or above the one before it.
+    Values(usize),
+}
+
+/// Whether a is U·S·V† within the tolerance in each part, both sets of vectors are orthonormal within it, and S
+/// never rises and never goes below zero. a is m by n, column-major; u m by k, column-major; vt k by n, row-major;
+/// k = min(m, n), at most 16. Every number is a whole number of 2^-18 of magnitude at most 1. The tolerance is a
+/// whole number of 2^-54. All sums are exact.
+///
+/// ```
+/// use zegrafult::{countersign, Complex, Finding};
+///
+/// let a = [0.5, 0.0, 0.0, 0.25].map(Complex::real);
+/// let unit = [1.0, 0.0, 0.0, 1.0].map(Complex::real);
+/// assert_eq!(countersign(&a, 2, 2, &unit, &[0.5, 0.25], &unit, 0)?, Finding::Yes);
+/// assert_eq!(countersign(&a, 2, 2, &unit, &[0.5, 0.5], &unit, 1)?, Finding::Product(3));
+/// assert_eq!(countersign(&a, 2, 2, &unit, &[0.5, 0.1], &unit, 0).unwrap_err().number, 11);
+/// # Ok::<(), zegrafult::Refusal>(())
+/// ```
+pub fn countersign(
+    a: &[Complex],
+    m: usize,
+    n: usize,
+    u: &[Complex],
+    s: &[f64],
+    vt: &[Complex],
+    tolerance: u64,
+) -> Result<Finding, Refusal> {
+    let (mut place, mut yes, mut test, mut cell) = (0, false, 0, 0);
+    let (a, a_len) = numbers_of(a);
+    let (u, u_len) = numbers_of(u);
+    let (vt, vt_len) = numbers_of(vt);
+    let number = unsafe {
+        ffi::zg_countersign(
+            a,
+            a_len,
+            m,
+            n,
+            u,
+            u_len,
+            s.as_ptr(),
+            s.len(),
+            vt,
+            vt_len,
+            tolerance,
+            &mut place,
+            &mut yes,
+            &mut test,
+            &mut cell,
+        )
+    };
+    let finding = match (yes, test) {
+        (true, _) => Finding::Yes,
+        (false, 1) => Finding::Product(cell),
+        (false, 2) => Finding::Left(cell),
+        (false, 3) => Finding::Right(cell),
+        (false, _) => Finding::Values(cell),
+    };
+    answered(number, place, finding)
+}

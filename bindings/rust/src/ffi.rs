@@ -256,4 +256,21 @@ extern "C" {
         out_len: usize,
         place: &mut usize,
     ) -> u32;
+    pub fn zg_countersign(
+        a: *const f64,
+        a_len: usize,
+        m: usize,
+        n: usize,
+        u: *const f64,
+        u_len: usize,
+        s: *const f64,
+        s_len: usize,
+        vt: *const f64,
+        vt_len: usize,
+        tolerance: u64,
+        place: &mut usize,
+        yes: &mut bool,
+        test: &mut usize,
+        cell: &mut usize,
+    ) -> u32;
 }

@@ -51,6 +51,9 @@ use Rattle.site_ranks.specs.Ranks.{Ranked}
 use Rattle.site_ranks.proofs.Theorems.{ranked-one}
 use Rattle.sites.specs.Calls.{Filled}
 use Rattle.sites.proofs.Theorems.{fill-one}
+use Rattle.countersign.specs.declared.Countersigned.{Countersigned}
+use Rattle.countersign.specs.Verdict.{Says as Verdict, says, Countersign}
+use Rattle.countersign.proofs.Theorems.{countersign-one}
 
 -- Only one outcome meets the contract of `zg_validate_qubit_set`.
 pub zg-validate-qubit-set-one : (l : List ℕ) (n : ℕ) {number place number' place' : ℕ}
@@ -200,3 +203,11 @@ pub zg-fill-one : (reply : Reply) (cells : ℕ) (f : ℕ → Complex) (out : Lis
     → (number ≡ number') × (place ≡ place') × (out' ≡ out″)
 zg-fill-one reply cells f out out' out″ =
     exported-one (λ x y c d. let e = fill-one reply cells f out x y out' out″ c d in (e .0, e .1))
+
+-- Only one outcome meets the contract of `zg_countersign`.
+pub zg-countersign-one : (a : List Float) (m n : ℕ) (u s vt : List Float) (tolerance : ℕ) {number place number' place' : ℕ} {value value' : Verdict}
+    → ExportedWith {R = Countersigned} (λ k. k .answer) (λ k. says (k .finding)) (λ k. Countersign a m n u s vt tolerance k) number place value
+    → ExportedWith {R = Countersigned} (λ k. k .answer) (λ k. says (k .finding)) (λ k. Countersign a m n u s vt tolerance k) number' place' value'
+    → (number ≡ number') × (place ≡ place') × (value ≡ value')
+zg-countersign-one a m n u s vt tolerance =
+    exported-value-one (λ k l' c d. let e = countersign-one a m n u s vt tolerance k l' c d in (e .0, ap says (e .1)))

@@ -36,6 +36,8 @@ ghost use Rattle.spectra.specs.Density.{DensityValues};
 ghost use Rattle.density_recount.specs.Recount.{DensityFromCut};
 ghost use Rattle.pages.specs.Agree.{Says, pagesAnswer, pagesSame};
 ghost use Rattle.pages.specs.declared.Agreement.{Agreement};
+ghost use Rattle.countersign.specs.Verdict.{says, Countersign};
+ghost use Rattle.countersign.specs.declared.Countersigned.{Countersigned};
 ghost use Rattle.hermitian_eigen.specs.Hermitian.{Eigen};
 ghost use Rattle.cut_values.specs.Schmidt.{Schmidt};
 
@@ -301,6 +303,33 @@ pub extern "C" fn zg_svd_jacobi(
         (now (u .exit)) (now (s .exit)) (now (vt .exit)) (now (scratch .exit))) r (now (place .exit)) ⌝ }
 {
     told::told(svd::svd_jacobi(a, m, n, u, s, vt, scratch), place)
+}
+
+// Whether the factors are A's within the tolerance: yes, or the first test that fails and its first failing cell.
+#[no_mangle]
+pub extern "C" fn zg_countersign(
+    a: &[f64],
+    m: usize,
+    n: usize,
+    u: &[f64],
+    s: &[f64],
+    vt: &[f64],
+    tolerance: u64,
+    place: &mut usize,
+    yes: &mut bool,
+    test: &mut usize,
+    cell: &mut usize,
+) -> u32
+    ensures { λ r. ⌜ ExportedWith {R = Countersigned} (λ k. k .answer) (λ k. says (k .finding)) (λ k. Countersign (now (a .entry)) m n (now (u .entry)) (now (s .entry)) (now (vt .entry)) tolerance k) r (now (place .exit)) (now (yes .exit), now (test .exit), now (cell .exit)) ⌝ }
+{
+    let k = countersign::countersign(a, m, n, u, s, vt, tolerance);
+    let finding = k.finding;
+    let verdict = countersign::verdict_of(finding);
+    *yes = verdict.yes;
+    *test = verdict.test;
+    *cell = verdict.cell;
+    let answer = k.answer;
+    told::told(answer, place)
 }
 
 // ---- spectra

@@ -1,0 +1,3 @@
+-- What the contracts of `countersign` cite.
+pub mod Verdict
+pub mod Reader

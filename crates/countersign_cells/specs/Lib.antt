@@ -1,0 +1,2 @@
+-- What the contracts of `countersign_cells` cite.
+pub mod Cells

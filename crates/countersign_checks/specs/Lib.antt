@@ -1,0 +1,2 @@
+-- What the contracts of `countersign_checks` cite.
+pub mod Checks

@@ -1,0 +1,2 @@
+-- What the contracts of `countersign_grams` cite.
+pub mod Grams

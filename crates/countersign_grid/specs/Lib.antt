@@ -1,0 +1,2 @@
+-- What the contracts of `countersign_grid` cite.
+pub mod Grid

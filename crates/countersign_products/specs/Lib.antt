@@ -1,0 +1,2 @@
+-- What the contracts of `countersign_products` cite.
+pub mod Products

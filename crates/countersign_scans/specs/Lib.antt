@@ -1,0 +1,2 @@
+-- What the contracts of `countersign_scans` cite.
+pub mod Scans

@@ -1,0 +1,4 @@
+-- What the contracts of `countersign_sums` cite.
+pub mod Wholes
+pub mod Gaussians
+pub mod Integers
