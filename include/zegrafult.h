@@ -194,6 +194,25 @@ uint32_t zg_fill_scaled_vt_data(const double *s, size_t s_len, const double *vt,
                                 size_t chi, size_t physical_dim, size_t bond_right, double *out, size_t out_len,
                                 size_t *place);
 
+/* ---- sites in one slab */
+
+/* A slab is 8,192 numbers (4,096 cells) and an index of 193 numbers: how many sites are held, then three for each: site
+ * number, first cell, count of cells. All zero is the empty slab. Entries behind the count are not looked at. Numbers of
+ * cells are read and moved as their 64 bits, so any bits are kept; a free cell is +0.0. Refused by 1 for a slab with more
+ * than 64 sites, with two sites that share a number or a cell, with a site that is empty or leaves the slab, or with a free
+ * cell that is not +0.0, then by 1 for data of no cells, of an odd count of numbers or above 4,096 cells, then by 13, 14,
+ * 15. A refused call changes nothing. The place is 0. */
+/* The data stand in the lowest run of free cells that fits; the site is the index's last. 13 the site number is held, 14 no
+ * run of that length is free, 15 sixty-four sites are held. */
+uint32_t zg_slab_put(double cells[8192], uint32_t index[193], uint32_t site, const double *data, size_t data_len,
+                     size_t *place);
+/* The site's cells turn to +0.0, the entries behind its own move down, and the last is zeros. 13 it is not held. */
+uint32_t zg_slab_drop(double cells[8192], uint32_t index[193], uint32_t site, size_t *place);
+/* The site has new data, judged and placed as if its old cells were free, and keeps its entry; old cells that the data do not
+ * take turn to +0.0. 13 it is not held, 14. */
+uint32_t zg_slab_replace(double cells[8192], uint32_t index[193], uint32_t site, const double *data, size_t data_len,
+                         size_t *place);
+
 #ifdef __cplusplus
 }
 #endif

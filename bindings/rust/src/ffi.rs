@@ -273,4 +273,22 @@ extern "C" {
         test: &mut usize,
         cell: &mut usize,
     ) -> u32;
+
+    pub fn zg_slab_put(
+        cells: *mut f64,
+        index: *mut u32,
+        site: u32,
+        data: *const f64,
+        data_len: usize,
+        place: &mut usize,
+    ) -> u32;
+    pub fn zg_slab_drop(cells: *mut f64, index: *mut u32, site: u32, place: &mut usize) -> u32;
+    pub fn zg_slab_replace(
+        cells: *mut f64,
+        index: *mut u32,
+        site: u32,
+        data: *const f64,
+        data_len: usize,
+        place: &mut usize,
+    ) -> u32;
 }

@@ -30,6 +30,7 @@ mod factors;
 mod lists;
 mod numbers;
 mod sites;
+mod slab;
 mod spectra;
 
 pub use densities::*;
@@ -39,6 +40,7 @@ pub use lists::*;
 pub use numbers::*;
 pub use refusal::Refusal;
 pub use sites::*;
+pub use slab::*;
 pub use spectra::*;
 
 /// A complex number: one cell of a state or a matrix.

@@ -51,6 +51,8 @@ use Rattle.site_ranks.specs.Ranks.{Ranked}
 use Rattle.site_ranks.proofs.Theorems.{ranked-one}
 use Rattle.sites.specs.Calls.{Filled}
 use Rattle.sites.proofs.Theorems.{fill-one}
+use Rattle.slabs.specs.Slab.{Put, Dropped, Replaced}
+use Rattle.slabs.proofs.Theorems.{put-one, drop-one, replace-one}
 use Rattle.countersign.specs.declared.Countersigned.{Countersigned}
 use Rattle.countersign.specs.Verdict.{Says as Verdict, says, Countersign}
 use Rattle.countersign.proofs.Theorems.{countersign-one}
@@ -211,3 +213,24 @@ pub zg-countersign-one : (a : List Float) (m n : ℕ) (u s vt : List Float) (tol
     → (number ≡ number') × (place ≡ place') × (value ≡ value')
 zg-countersign-one a m n u s vt tolerance =
     exported-value-one (λ k l' c d. let e = countersign-one a m n u s vt tolerance k l' c d in (e .0, ap says (e .1)))
+
+-- Only one outcome meets the contract of `zg_slab_put`.
+pub zg-slab-put-one : (cells index : List ℕ) (site : ℕ) (given : List ℕ) (cells' cells″ index' index″ : List ℕ) {number place number' place' : ℕ}
+    → Exported (λ x. Put cells index site given x cells' index') number place → Exported (λ x. Put cells index site given x cells″ index″) number' place'
+    → (number ≡ number') × (place ≡ place') × ((cells' ≡ cells″) × (index' ≡ index″))
+zg-slab-put-one cells index site given cells' cells″ index' index″ =
+    exported-one (λ x y c d. let e = put-one cells index site given c d in (e .0, (e .1, e .2)))
+
+-- Only one outcome meets the contract of `zg_slab_drop`.
+pub zg-slab-drop-one : (cells index : List ℕ) (site : ℕ) (cells' cells″ index' index″ : List ℕ) {number place number' place' : ℕ}
+    → Exported (λ x. Dropped cells index site x cells' index') number place → Exported (λ x. Dropped cells index site x cells″ index″) number' place'
+    → (number ≡ number') × (place ≡ place') × ((cells' ≡ cells″) × (index' ≡ index″))
+zg-slab-drop-one cells index site cells' cells″ index' index″ =
+    exported-one (λ x y c d. let e = drop-one cells index site c d in (e .0, (e .1, e .2)))
+
+-- Only one outcome meets the contract of `zg_slab_replace`.
+pub zg-slab-replace-one : (cells index : List ℕ) (site : ℕ) (given : List ℕ) (cells' cells″ index' index″ : List ℕ) {number place number' place' : ℕ}
+    → Exported (λ x. Replaced cells index site given x cells' index') number place → Exported (λ x. Replaced cells index site given x cells″ index″) number' place'
+    → (number ≡ number') × (place ≡ place') × ((cells' ≡ cells″) × (index' ≡ index″))
+zg-slab-replace-one cells index site given cells' cells″ index' index″ =
+    exported-one (λ x y c d. let e = replace-one cells index site given c d in (e .0, (e .1, e .2)))

@@ -38,6 +38,7 @@ ghost use Rattle.pages.specs.Agree.{Says, pagesAnswer, pagesSame};
 ghost use Rattle.pages.specs.declared.Agreement.{Agreement};
 ghost use Rattle.countersign.specs.Verdict.{says, Countersign};
 ghost use Rattle.countersign.specs.declared.Countersigned.{Countersigned};
+ghost use Rattle.slabs.specs.Slab.{Put, Dropped, Replaced};
 ghost use Rattle.hermitian_eigen.specs.Hermitian.{Eigen};
 ghost use Rattle.cut_values.specs.Schmidt.{Schmidt};
 
@@ -559,4 +560,44 @@ pub extern "C" fn zg_fill_scaled_vt_data(
         sites::fill_scaled_vt_data(s, vt, row_len, chi, physical_dim, bond_right, out),
         place,
     )
+}
+
+// ---- sites in one slab: the cells are doubles to C, and here their 64-bit patterns
+
+#[no_mangle]
+pub extern "C" fn zg_slab_put(
+    cells: &mut [u64; 8192],
+    index: &mut [u32; 193],
+    site: u32,
+    data: &[u64],
+    place: &mut usize,
+) -> u32
+    ensures { λ r. ⌜ Exported (λ a. Put (now (cells .entry)) (now (index .entry)) site (now («data» .entry)) a (now (cells .exit)) (now (index .exit))) r (now (place .exit)) ⌝ }
+{
+    told::told(slabs::put(cells, index, site, data), place)
+}
+
+#[no_mangle]
+pub extern "C" fn zg_slab_drop(
+    cells: &mut [u64; 8192],
+    index: &mut [u32; 193],
+    site: u32,
+    place: &mut usize,
+) -> u32
+    ensures { λ r. ⌜ Exported (λ a. Dropped (now (cells .entry)) (now (index .entry)) site a (now (cells .exit)) (now (index .exit))) r (now (place .exit)) ⌝ }
+{
+    told::told(slabs::drop(cells, index, site), place)
+}
+
+#[no_mangle]
+pub extern "C" fn zg_slab_replace(
+    cells: &mut [u64; 8192],
+    index: &mut [u32; 193],
+    site: u32,
+    data: &[u64],
+    place: &mut usize,
+) -> u32
+    ensures { λ r. ⌜ Exported (λ a. Replaced (now (cells .entry)) (now (index .entry)) site (now («data» .entry)) a (now (cells .exit)) (now (index .exit))) r (now (place .exit)) ⌝ }
+{
+    told::told(slabs::replace(cells, index, site, data), place)
 }

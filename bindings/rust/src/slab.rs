@@ -1,0 +1,103 @@
+//! Up to 64 sites in one slab of 4,096 cells.
+use crate::{ffi, numbers_of, refusal::answered, Complex, Refusal};
+
+/// The cells of a slab.
+pub const SLAB_CELLS: usize = 4096;
+/// The numbers of a slab's index: how many sites are held, then three for each of 64.
+pub const SLAB_INDEX: usize = 193;
+
+/// A site that a slab holds: its number and its run of cells.
+#[derive(Clone, Copy, Debug, PartialEq, Eq)]
+pub struct Held {
+    pub number: u32,
+    pub start: usize,
+    pub cells: usize,
+}
+
+/// A slab that owns its cells and its index. Data take any bits, and are handed back bit for bit; a free cell is +0.0.
+///
+/// ```
+/// use zegrafult::{Complex, Slab};
+///
+/// let mut slab = Slab::new();
+/// slab.put(7, &[Complex::real(1.0), Complex::real(2.0)])?;
+/// slab.put(9, &[Complex::real(3.0)])?;
+/// slab.drop(7)?;
+/// slab.put(11, &[Complex::real(4.0)])?; // the lowest run that fits: cell 0 again
+/// assert_eq!(slab.sites().map(|s| (s.number, s.start)).collect::<Vec<_>>(), [(9, 2), (11, 0)]);
+/// assert_eq!(slab.get(9), Some(&[Complex::real(3.0)][..]));
+/// assert_eq!(slab.drop(7).unwrap_err().number, 13);
+/// # Ok::<(), zegrafult::Refusal>(())
+/// ```
+#[derive(Clone, Debug)]
+pub struct Slab {
+    cells: Box<[Complex]>,
+    index: [u32; SLAB_INDEX],
+}
+
+impl Default for Slab {
+    fn default() -> Self {
+        Slab::new()
+    }
+}
+
+impl Slab {
+    /// No site is held and every cell is free.
+    pub fn new() -> Self {
+        Slab { cells: vec![Complex::default(); SLAB_CELLS].into(), index: [0; SLAB_INDEX] }
+    }
+
+    /// A slab as it was kept elsewhere. Each call looks at it first and refuses by 1 where it is broken.
+    pub fn from_parts(cells: &[Complex; SLAB_CELLS], index: [u32; SLAB_INDEX]) -> Self {
+        Slab { cells: cells[..].into(), index }
+    }
+
+    /// The cells and the index, for keeping them elsewhere.
+    pub fn parts(&self) -> (&[Complex], &[u32; SLAB_INDEX]) {
+        (&self.cells, &self.index)
+    }
+
+    /// Puts a new site into the lowest run of free cells that fits. Refused by 1, 13 (held already), 14, 15.
+    pub fn put(&mut self, number: u32, data: &[Complex]) -> Result<(), Refusal> {
+        let (d, d_len) = numbers_of(data);
+        let mut place = 0;
+        let answer = unsafe {
+            ffi::zg_slab_put(self.cells.as_mut_ptr().cast(), self.index.as_mut_ptr(), number, d, d_len, &mut place)
+        };
+        answered(answer, place, ())
+    }
+
+    /// Takes a site out; its cells turn to +0.0. Refused by 1, 13.
+    pub fn drop(&mut self, number: u32) -> Result<(), Refusal> {
+        let mut place = 0;
+        let answer = unsafe {
+            ffi::zg_slab_drop(self.cells.as_mut_ptr().cast(), self.index.as_mut_ptr(), number, &mut place)
+        };
+        answered(answer, place, ())
+    }
+
+    /// Gives a site new data, in the lowest run that fits where its old cells are free. Refused by 1, 13, 14.
+    pub fn replace(&mut self, number: u32, data: &[Complex]) -> Result<(), Refusal> {
+        let (d, d_len) = numbers_of(data);
+        let mut place = 0;
+        let answer = unsafe {
+            ffi::zg_slab_replace(self.cells.as_mut_ptr().cast(), self.index.as_mut_ptr(), number, d, d_len, &mut place)
+        };
+        answered(answer, place, ())
+    }
+
+    /// The sites that are held, in the index's order.
+    pub fn sites(&self) -> impl Iterator<Item = Held> + '_ {
+        self.index[1..].chunks_exact(3).take(self.index[0] as usize).map(|entry| Held {
+            number: entry[0],
+            start: entry[1] as usize,
+            cells: entry[2] as usize,
+        })
+    }
+
+    /// The cells of a site, where it is held.
+    pub fn get(&self, number: u32) -> Option<&[Complex]> {
+        let site = self.sites().find(|site| site.number == number)?;
+        self.cells.get(site.start..site.start.checked_add(site.cells)?)
+    }
+}

@@ -1,0 +1,2 @@
+-- What the contracts of `slab_cells` cite.
+pub mod Cells

@@ -1,0 +1,2 @@
+-- What the contracts of `slab_changes` cite.
+pub mod Changes

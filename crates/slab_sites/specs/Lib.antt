@@ -1,0 +1,3 @@
+-- What the contracts of `slab_sites` cite.
+pub mod Every
+pub mod Sites

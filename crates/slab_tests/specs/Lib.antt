@@ -1,0 +1,2 @@
+-- What the contracts of `slab_tests` cite.
+pub mod Tests
