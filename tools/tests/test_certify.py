@@ -174,7 +174,7 @@ class Use(Case):
         ended = os.times()
         took = (ended.children_user + ended.children_system - began.children_user - began.children_system) / files
         print('certify: %.1f ms of processor time a file' % (1000 * took))
-        self.assertEqual((done.returncode, done.stdout.count(b'end 4\n')), (0, files))
+        self.assertEqual((done.returncode, done.stdout.count(PRINTED)), (0, files))
         self.assertLess(took, 0.02)
 
 

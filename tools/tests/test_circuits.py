@@ -47,33 +47,35 @@ def expected(state, n, named):
 
 
 def printed(folder, state, n, named):
-    """The values that the program prints of the state's cut file."""
+    """The values that the program prints of the state's cut file, and whether the sweeps grew quiet."""
     k = len(named)
     start = (24 + 4 * k + 7) // 8 * 8
     head = struct.pack('<4s5I%dI' % k, b'CUT1', n, k, 24, start, start + 16 * 2 ** n, *named)
     (folder / 'state.bin').write_bytes(head.ljust(start, b'\0') + state.astype('<c16').tobytes())
     lines = subprocess.run([PROGRAM], cwd=folder, capture_output=True, text=True, check=True).stdout.splitlines()
     values = [struct.unpack('>d', bytes.fromhex(line.split()[2]))[0] for line in lines if line.startswith('value ')]
-    assert lines[-1].split()[:2] == ['end', str(len(values))], lines
-    return values
+    end, count, sweeps, quiet = lines[-1].split(' ')
+    assert (end, count) == ('end', str(len(values))) and quiet in ('yes', 'no') and (quiet == 'yes' or sweeps == '100'), lines
+    return values, quiet == 'yes'
 
 
 class Circuits(unittest.TestCase):
     def test_half_cuts(self):
         rng = random.Random(SEED)
-        far, most = {}, 0.0
+        far, most, gave_up = {}, 0.0, 0
         with tempfile.TemporaryDirectory() as folder:
             for n in range(4, 10):
                 for _ in range(CIRCUITS):
                     state = circuit(rng, n)
                     named = rng.sample(range(n), rng.choice([n // 2, n - n // 2]))
                     want = expected(state, n, named)
-                    got = printed(pathlib.Path(folder), state, n, named)
+                    got, quiet = printed(pathlib.Path(folder), state, n, named)
+                    gave_up += not quiet
                     apart = abs(numpy.pad(got, (0, len(want) - len(got))) - want).max()
                     most = max(most, apart)
                     if not apart <= NEAR:
                         far[n] = far.get(n, 0) + 1
-        print('circuits: %d of 4 to 9 qubits cut in half, seed %d, at most %.1e from numpy' % (6 * CIRCUITS, SEED, most))
+        print('circuits: %d of 4 to 9 qubits cut in half, seed %d, %d gave up, at most %.1e from numpy' % (6 * CIRCUITS, SEED, gave_up, most))
         self.assertEqual(far, {}, 'circuits by count of qubits with a value more than %g off' % NEAR)
 
 

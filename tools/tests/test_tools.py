@@ -9,7 +9,7 @@ import unittest
 import xml.etree.ElementTree as xml
 
 TOOLS = pathlib.Path(__file__).resolve().parents[1]
-PAPER = 'cut 4 2 4 4\nside 0 1\n' + ''.join(f'value {i} 3FE0000000000000\n' for i in range(4)) + 'end 4\n'
+PAPER = 'cut 4 2 4 4\nside 0 1\n' + ''.join(f'value {i} 3FE0000000000000\n' for i in range(4)) + 'end 4 1 yes\n'
 
 
 def run(tool, *words, text=None):
@@ -157,6 +157,24 @@ class Read(Case):
         self.assertEqual(done.returncode, 0, done.stderr)
         self.assertIn('   0  0.5                     0.25                    ##########\n', done.stdout)
         self.assertIn('Rank 4, effective rank 4.0000, weights sum to 1.0', done.stdout)
+        self.assertIn('Sweeps: 1, the last one quiet: it turned no pair', done.stdout)
+
+    def test_sweeps_given_up(self):
+        done = run('read', '--svg', self.path / 'a.svg', text=PAPER.replace('1 yes', '100 no'))
+        self.assertEqual(done.returncode, 0, done.stderr)
+        for shown in [done.stdout, (self.path / 'a.svg').read_text()]:
+            self.assertIn('Sweeps: 100, the last one not quiet: it still turned a pair, so the work was given up at its cap.', shown)
+            self.assertIn('docs/AUDIT.md, question 6', shown)
+        xml.parse(self.path / 'a.svg')
+
+    def test_a_count_alone(self):
+        done = run('read', text=PAPER.replace('end 4 1 yes', 'end 4'))
+        self.assertEqual(done.returncode, 0, done.stderr)
+        self.assertIn('Rank 4', done.stdout)
+        self.assertNotIn('Sweeps', done.stdout)
+
+    def test_question_6_is_there(self):
+        self.assertTrue('\n## 6. ' in (TOOLS.parent / 'docs' / 'AUDIT.md').read_text())
 
     def test_refusals_have_a_sentence(self):
         for number in range(1, 11):
@@ -167,7 +185,7 @@ class Read(Case):
     def test_page(self):
         state = self.file('a.txt', '1\n0\n0\n1\n')
         run('pack', state, '-q', '0')
-        text = 'cut 2 1 2 2\nside 0\nvalue 0 3FE6A09E667F3BCC\nvalue 1 3FE6A09E667F3BCC\nend 2\n'
+        text = 'cut 2 1 2 2\nside 0\nvalue 0 3FE6A09E667F3BCC\nvalue 1 3FE6A09E667F3BCC\nend 2 1 yes\n'
         done = run('read', '--cut', self.path / 'a.cut', '--svg', self.path / 'a.svg', text=text)
         self.assertEqual(done.returncode, 0, done.stderr)
         drawn = xml.parse(self.path / 'a.svg').getroot()
@@ -232,7 +250,8 @@ class Read(Case):
 
     def test_not_a_certificate(self):
         for text in ['', 'refused 7\n', 'cut 4 2 4 4\nside 0 1\nend 1\n', PAPER.replace('value 2', 'value 3'), PAPER.replace('3FE0', 'XYZ0'),
-                     PAPER.replace('end 4', 'end 3'), PAPER + 'more\n']:
+                     PAPER.replace('end 4', 'end 3'), PAPER + 'more\n', PAPER.replace('yes', 'maybe'), PAPER.replace(' yes', ''),
+                     PAPER.replace('1 yes', '-1 yes'), PAPER.replace('yes', 'yes 0')]:
             done = run('read', text=text)
             self.assertEqual(done.returncode, 1, text)
             self.assertTrue(done.stderr.startswith('read: '))

@@ -41,9 +41,12 @@ def turn(x, y, c, s, phase):
 
 
 def singular_values(columns):
-    """One-sided Jacobi on columns that are at least as long as they are many; unsorted."""
+    """One-sided Jacobi on columns that are at least as long as they are many: the values, unsorted, how many sweeps were begun,
+    and whether the last one turned no pair."""
     tolerance = 1e-15 * 1e-15
+    begun = 0
     for sweep in range(100):
+        begun += 1
         turned = False
         for p in range(len(columns)):
             for q in range(p + 1, len(columns)):
@@ -72,7 +75,7 @@ def singular_values(columns):
         for x in column:
             total += norm_sqr(x)
         values.append(math.sqrt(total))
-    return values
+    return values, begun, not turned
 
 
 def submasks(mask):
@@ -85,7 +88,7 @@ def submasks(mask):
 
 
 def cut_values(state, n, named):
-    """The answer with its place and the values, for a list that was validated."""
+    """The answer with its place, the values, the sweeps begun and whether the last was quiet, for a list that was validated."""
     k = len(named)
     side = min(k, n - k)
     inside = sum(1 << q for q in named)
@@ -96,9 +99,9 @@ def cut_values(state, n, named):
         columns = [[conjugate(state[row | col]) for col in submasks(cols)] for row in submasks(rows)]
     else:
         columns = [[state[row | col] for row in submasks(rows)] for col in submasks(cols)]
-    values = singular_values(columns)
+    values, begun, quiet = singular_values(columns)
     if not all(math.isfinite(v) for v in values):
-        return (9, 0), []
+        return (9, 0), [], 0, False
     values.sort(reverse=True)
     floor = values[0] * 1e-14
     kept = []
@@ -107,12 +110,12 @@ def cut_values(state, n, named):
             break
         kept.append(v)
     if not kept:
-        return (8, 0), []
+        return (8, 0), [], 0, False
     total = 0.0
     for v in kept:
         total += v * v
     scale = 1.0 / math.sqrt(total)
-    return (0, 0), [v * scale for v in kept]
+    return (0, 0), [v * scale for v in kept], begun, quiet
 
 
 def answer_list(named, n):
@@ -160,14 +163,14 @@ def printout(file):
         if not abs(x) <= 2.0 ** 200:
             return refused % (7, i // 2)
     state = list(zip(numbers[::2], numbers[1::2]))
-    answer, values = cut_values(state, n, named)
+    answer, values, begun, quiet = cut_values(state, n, named)
     if answer[0]:
         return refused % answer
     side = min(k, n - k)
     smaller = named if k == side else [q for q in range(n) if q not in named]
     lines = ['cut %d %d %d %d' % (n, k, 2 ** side, 2 ** (n - side)), ' '.join(['side'] + [str(q) for q in smaller])]
     lines += ['value %d %016X' % (i, struct.unpack('<Q', struct.pack('<d', v))[0]) for i, v in enumerate(values)]
-    return '\n'.join(lines + ['end %d' % len(values)]) + '\n'
+    return '\n'.join(lines + ['end %d %d %s' % (len(values), begun, 'yes' if quiet else 'no')]) + '\n'
 
 
 # ---- files
@@ -203,6 +206,9 @@ def product_state(n):
         cells = [product(x, (0.6, 0.0)) for x in cells] + [product(x, (0.0, 0.8)) for x in cells]
     return cells
 
+
+# all 100 sweeps turn a pair
+GIVES_UP = cut_file(4, [0, 1], set_at(4, {0: 1.0, 1: 1.0, 4: 1.0, 8: 1.0}))
 
 EXAMPLES = {
     'paper': PAPER,
@@ -283,6 +289,7 @@ def cases():
     yield 'half of it', cut_file(2, [0], set_at(2, {0: 2.0 ** -538}))
     for name, file in EXAMPLES.items():
         yield name, file
+    yield 'gives up', GIVES_UP
     for n in range(2, 6):
         for k in range(1, n):
             named = rng.sample(range(n), k)

@@ -35,8 +35,9 @@ fn steps(n: usize, named: &[usize], state: &[Complex]) -> Result<(), Refusal> {
         show(&format!("row {}, column {}, real", i % cut.rows, i / cut.rows), z.re);
         show(&format!("row {}, column {}, imaginary", i % cut.rows, i / cut.rows), z.im);
     }
-    let s = svd_jacobi(&cut.cells, cut.rows, cut.columns)?.s;
-    println!("3. svd_jacobi: singular values, falling");
+    let svd = svd_jacobi(&cut.cells, cut.rows, cut.columns)?;
+    let s = svd.s;
+    println!("3. svd_jacobi: sweeps {}, the last quiet: {}; singular values, falling", svd.sweeps, svd.quiet);
     s.iter().enumerate().for_each(|(i, &x)| show(&format!("s {i}"), x));
     let values = finish_schmidt_values(&s)?;
     let total = s[..values.len()].iter().fold(-0.0, |sum, x| sum + x * x);

@@ -1,12 +1,16 @@
 //! Factors of a matrix: column after column in, as the Rust original has them out.
 use crate::{area, ffi, numbers_of, numbers_of_mut, refusal::answered, Complex, Refusal};
 
-/// A = U S V†, with k = min(m, n): U m by k, column-major; S falling; V† k by n, row-major.
+/// A = U S V†, with k = min(m, n): U m by k, column-major; S falling; V† k by n, row-major. `sweeps` were begun, the quiet one
+/// included; `quiet` says whether the last turned no pair. Where it is false the work was given up after 100 sweeps, and the
+/// factors are what these left.
 #[derive(Clone, Debug, PartialEq)]
 pub struct Svd {
     pub u: Vec<Complex>,
     pub s: Vec<f64>,
     pub vt: Vec<Complex>,
+    pub sweeps: usize,
+    pub quiet: bool,
 }
 
 /// ```
@@ -14,6 +18,7 @@ pub struct Svd {
 ///
 /// let svd = svd_jacobi(&[3.0, 0.0, 0.0, 4.0].map(Complex::real), 2, 2)?;
 /// assert_eq!(svd.s, [4.0, 3.0]);
+/// assert_eq!((svd.sweeps, svd.quiet), (1, true));
 /// # Ok::<(), zegrafult::Refusal>(())
 /// ```
 pub fn svd_jacobi(a: &[Complex], m: usize, n: usize) -> Result<Svd, Refusal> {
@@ -23,7 +28,7 @@ pub fn svd_jacobi(a: &[Complex], m: usize, n: usize) -> Result<Svd, Refusal> {
     let mut s = vec![0.0; k];
     let mut vt = vec![Complex::default(); k * if k == 0 { 0 } else { n }];
     let mut scratch = vec![0.0; 6 * cells + 2 * k];
-    let mut place = 0;
+    let (mut place, mut sweeps, mut quiet) = (0, 0, false);
     let (a, a_len) = numbers_of(a);
     let (up, u_len) = numbers_of_mut(&mut u);
     let (vp, v_len) = numbers_of_mut(&mut vt);
@@ -42,9 +47,11 @@ pub fn svd_jacobi(a: &[Complex], m: usize, n: usize) -> Result<Svd, Refusal> {
             scratch.as_mut_ptr(),
             scratch.len(),
             &mut place,
+            &mut sweeps,
+            &mut quiet,
         )
     };
-    answered(number, place, Svd { u, s, vt })
+    answered(number, place, Svd { u, s, vt, sweeps, quiet })
 }
 
 /// A = Q R with orthonormal columns of Q, as many as the rank.

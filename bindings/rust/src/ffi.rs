@@ -111,6 +111,8 @@ extern "C" {
         scratch: *mut f64,
         scratch_len: usize,
         place: &mut usize,
+        sweeps: &mut usize,
+        quiet: &mut bool,
     ) -> u32;
     pub fn zg_factorize_gram_schmidt(
         a: *const f64,
@@ -135,6 +137,8 @@ extern "C" {
         scratch: *mut f64,
         scratch_len: usize,
         place: &mut usize,
+        sweeps: &mut usize,
+        quiet: &mut bool,
     ) -> u32;
     pub fn zg_hermitian_eigen(
         matrix: *const f64,
@@ -147,6 +151,8 @@ extern "C" {
         scratch: *mut f64,
         scratch_len: usize,
         place: &mut usize,
+        sweeps: &mut usize,
+        quiet: &mut bool,
     ) -> u32;
     pub fn zg_finish_schmidt_values(
         values: *const f64,
@@ -166,6 +172,8 @@ extern "C" {
         scratch_len: usize,
         place: &mut usize,
         count: &mut usize,
+        sweeps: &mut usize,
+        quiet: &mut bool,
     ) -> u32;
     pub fn zg_dense_schmidt_values(
         state: *const f64,
@@ -180,6 +188,8 @@ extern "C" {
         scratch_len: usize,
         place: &mut usize,
         count: &mut usize,
+        sweeps: &mut usize,
+        quiet: &mut bool,
     ) -> u32;
     pub fn zg_truncated_svd_rank(
         values: *const f64,

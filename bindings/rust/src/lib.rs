@@ -8,9 +8,10 @@
 //!
 //! // two qubits, both 0 or both 1
 //! let state: Vec<Complex> = [1.0, 0.0, 0.0, 1.0].map(Complex::real).into();
-//! let values = dense_schmidt_values(&state, 2, &[0], 13)?;
-//! assert_eq!(values.len(), 2);
-//! assert_eq!(values[0], values[1]);
+//! let found = dense_schmidt_values(&state, 2, &[0], 13)?;
+//! assert_eq!(found.values.len(), 2);
+//! assert_eq!(found.values[0], found.values[1]);
+//! assert_eq!((found.sweeps, found.quiet), (1, true));
 //!
 //! let refusal = dense_schmidt_values(&state, 2, &[0, 0], 13).unwrap_err();
 //! assert_eq!((refusal.number, refusal.place), (3, 1));

@@ -1,13 +1,22 @@
 //! Schmidt values and spectra.
 use crate::{area, ffi, numbers_of, numbers_of_mut, power, refusal::answered, Complex, Refusal};
 
+/// Values and the sweeps that gave them: `sweeps` were begun, the quiet one included; `quiet` says whether the last turned no
+/// pair. Where it is false the work was given up at its cap, and the values are what the sweeps left.
+#[derive(Clone, Debug, PartialEq)]
+pub struct Swept {
+    pub values: Vec<f64>,
+    pub sweeps: usize,
+    pub quiet: bool,
+}
+
 /// The Schmidt values of the cut between the listed qubits and the rest, falling, their squares summing to 1: the
-/// singular values of [`crate::cut_matrix`], finished as by [`finish_schmidt_values`].
-pub fn dense_schmidt_values(state: &[Complex], n: usize, list: &[usize], cap: usize) -> Result<Vec<f64>, Refusal> {
+/// singular values of [`crate::cut_matrix`], finished as by [`finish_schmidt_values`]. At most 100 sweeps.
+pub fn dense_schmidt_values(state: &[Complex], n: usize, list: &[usize], cap: usize) -> Result<Swept, Refusal> {
     let side = list.len().min(n.saturating_sub(list.len()));
     let mut out = vec![0.0; power(side)];
     let mut scratch = vec![0.0; 8 * power(n) + 2 * power(side)];
-    let (mut place, mut count) = (0, 0);
+    let (mut place, mut count, mut sweeps, mut quiet) = (0, 0, 0, false);
     let (s, s_len) = numbers_of(state);
     let number = unsafe {
         ffi::zg_dense_schmidt_values(
@@ -23,10 +32,12 @@ pub fn dense_schmidt_values(state: &[Complex], n: usize, list: &[usize], cap: us
             scratch.len(),
             &mut place,
             &mut count,
+            &mut sweeps,
+            &mut quiet,
         )
     };
     out.truncate(count);
-    answered(number, place, out)
+    answered(number, place, Swept { values: out, sweeps, quiet })
 }
 
 /// Sorted downward, cut at the floor, scaled to unit length.
@@ -52,19 +63,21 @@ pub fn finish_schmidt_values(values: &[f64]) -> Result<Vec<f64>, Refusal> {
     answered(number, place, out)
 }
 
-/// The eigenvalues of a Hermitian matrix of side 1 to 64, as the sweeps leave them on the diagonal.
+/// The eigenvalues of a Hermitian matrix of side 1 to 64, as the sweeps, at most 60, leave them on the diagonal.
 ///
 /// ```
 /// use zegrafult::{hermitian_eigenvalues, Complex};
 ///
-/// assert_eq!(hermitian_eigenvalues(&[2.0, 0.0, 0.0, 5.0].map(Complex::real), 2)?.len(), 2);
+/// let found = hermitian_eigenvalues(&[2.0, 0.0, 0.0, 5.0].map(Complex::real), 2)?;
+/// assert_eq!(found.values, [2.0, 5.0]);
+/// assert_eq!((found.sweeps, found.quiet), (1, true));
 /// # Ok::<(), zegrafult::Refusal>(())
 /// ```
-pub fn hermitian_eigenvalues(a: &[Complex], dim: usize) -> Result<Vec<f64>, Refusal> {
+pub fn hermitian_eigenvalues(a: &[Complex], dim: usize) -> Result<Swept, Refusal> {
     let cells = area(dim, dim);
     let mut out = vec![0.0; if cells == 0 { 0 } else { dim }];
     let mut scratch = vec![0.0; 2 * cells];
-    let mut place = 0;
+    let (mut place, mut sweeps, mut quiet) = (0, 0, false);
     let (a, a_len) = numbers_of(a);
     let number = unsafe {
         ffi::zg_hermitian_eigenvalues(
@@ -76,16 +89,21 @@ pub fn hermitian_eigenvalues(a: &[Complex], dim: usize) -> Result<Vec<f64>, Refu
             scratch.as_mut_ptr(),
             scratch.len(),
             &mut place,
+            &mut sweeps,
+            &mut quiet,
         )
     };
-    answered(number, place, out)
+    answered(number, place, Swept { values: out, sweeps, quiet })
 }
 
-/// A's eigenvalues, rising, and its eigenvectors, one to a column of `dim` cells, column after column.
+/// A's eigenvalues, rising, and its eigenvectors, one to a column of `dim` cells, column after column; the sweeps as in
+/// [`crate::Svd`].
 #[derive(Clone, Debug, PartialEq)]
 pub struct Eigen {
     pub values: Vec<f64>,
     pub vectors: Vec<Complex>,
+    pub sweeps: usize,
+    pub quiet: bool,
 }
 
 /// The eigenvalues and eigenvectors of a Hermitian matrix of side 1 to 64, column-major.
@@ -103,7 +121,7 @@ pub fn hermitian_eigen(matrix: &[Complex], dim: usize) -> Result<Eigen, Refusal>
     let mut values = vec![0.0; if cells == 0 { 0 } else { dim }];
     let mut vectors = vec![Complex::default(); cells];
     let mut scratch = vec![0.0; 6 * cells + 2 * values.len()];
-    let mut place = 0;
+    let (mut place, mut sweeps, mut quiet) = (0, 0, false);
     let (m, m_len) = numbers_of(matrix);
     let (v, v_len) = numbers_of_mut(&mut vectors);
     let number = unsafe {
@@ -118,17 +136,19 @@ pub fn hermitian_eigen(matrix: &[Complex], dim: usize) -> Result<Eigen, Refusal>
             scratch.as_mut_ptr(),
             scratch.len(),
             &mut place,
+            &mut sweeps,
+            &mut quiet,
         )
     };
-    answered(number, place, Eigen { values, vectors })
+    answered(number, place, Eigen { values, vectors, sweeps, quiet })
 }
 
-/// The Schmidt values that a density matrix gives.
-pub fn schmidt_values_from_density(rho: &[Complex], dim: usize) -> Result<Vec<f64>, Refusal> {
+/// The Schmidt values that a density matrix gives. At most 60 sweeps.
+pub fn schmidt_values_from_density(rho: &[Complex], dim: usize) -> Result<Swept, Refusal> {
     let cells = area(dim, dim);
     let mut out = vec![0.0; if cells == 0 { 0 } else { dim }];
     let mut scratch = vec![0.0; 2 * cells];
-    let (mut place, mut count) = (0, 0);
+    let (mut place, mut count, mut sweeps, mut quiet) = (0, 0, 0, false);
     let (r, r_len) = numbers_of(rho);
     let number = unsafe {
         ffi::zg_schmidt_values_from_density(
@@ -141,8 +161,10 @@ pub fn schmidt_values_from_density(rho: &[Complex], dim: usize) -> Result<Vec<f6
             scratch.len(),
             &mut place,
             &mut count,
+            &mut sweeps,
+            &mut quiet,
         )
     };
     out.truncate(count);
-    answered(number, place, out)
+    answered(number, place, Swept { values: out, sweeps, quiet })
 }

@@ -8,7 +8,7 @@ fn cells(cut: &Cut) -> Vec<[u64; 2]> {
 }
 
 fn values(state: &[Complex], n: usize, list: &[usize]) -> Result<Vec<u64>, Refusal> {
-    dense_schmidt_values(state, n, list, 13).map(|v| v.iter().map(|x| x.to_bits()).collect())
+    dense_schmidt_values(state, n, list, 13).map(|v| v.values.iter().map(|x| x.to_bits()).collect())
 }
 
 /// 20,000 pairs of sides of different size: the same matrix and the same values, bit for bit.

@@ -47,17 +47,19 @@ side-short l n p = go (namedRows l n)
     go true = p .listed .short
     go false = omega (arith, others-length n l (p .listed))
 
-pub accepted-is : (n : ℕ) (list : List ℕ) (values : List Float) (cut : Sides) (part : List ℕ) → cut ≡ sidesOf list n → part ≡ sideList list n
-    → listing n (length list) (cut .rows) (cut .columns) part values ≡ acceptedText n list values
+pub accepted-is : (n : ℕ) (list : List ℕ) (values : List Float) (sweeps : ℕ) (quiet : Bool) (cut : Sides) (part : List ℕ) → cut ≡ sidesOf list n → part ≡ sideList list n
+    → listing n (length list) (cut .rows) (cut .columns) part values sweeps quiet ≡ acceptedText n list values sweeps quiet
 unfolding acceptedText
-accepted-is n list values cut part e f = ap₂ (λ (c : Sides) (p : List ℕ). listing n (length list) (c .rows) (c .columns) p values) e f
+accepted-is n list values sweeps quiet cut part e f =
+    ap₂ (λ (c : Sides) (p : List ℕ). listing n (length list) (c .rows) (c .columns) p values sweeps quiet) e f
 
-pub accepted-short : (n : ℕ) (list : List ℕ) (values : List Float) → Printable list n values → length (acceptedText n list values) ≤ 2048
+pub accepted-short : (n : ℕ) (list : List ℕ) (values : List Float) (sweeps : ℕ) (quiet : Bool) → Printable list n values
+    → length (acceptedText n list values sweeps quiet) ≤ 2048
 unfolding acceptedText
-accepted-short n list values a =
+accepted-short n list values sweeps quiet a =
     omega (
       arith,
-      length-listing n (length list) (2 ^ side list n) (2 ^ (n - side list n)) (sideList list n) values,
+      length-listing n (length list) (2 ^ side list n) (2 ^ (n - side list n)) (sideList list n) values sweeps quiet,
       side-short list n (is-parted list n 10 (a .taken)),
       a .small,
       a .few,

@@ -1,5 +1,6 @@
 -- What is printed of a cut that the library accepts. Assumes nothing.
 use mathlib.Core.Path.{_≡_}
+use mathlib.Core.Bool.{Bool}
 use mathlib.Core.List.{List}
 use Prim.Native.Nat.{ℕ, _-_, _^_, _≤_}
 use lib.Ieee.{Float}
@@ -8,9 +9,9 @@ use Rattle.cut_sides.specs.Sides.{cutRefusal, side, sideList}
 use Rattle.texts.specs.Text.{Puts}
 use Rattle.lines.specs.Lines.{listing}
 
--- n, k, rows and columns; the smaller side's list; the values; how many they are
-unfoldable pub acceptedText : ℕ → List ℕ → List Float → List ℕ
-acceptedText n list values = listing n (length list) (2 ^ side list n) (2 ^ (n - side list n)) (sideList list n) values
+-- n, k, rows and columns; the smaller side's list; the values; how many they are, how many sweeps were begun, whether the last was quiet
+unfoldable pub acceptedText : ℕ → List ℕ → List Float → ℕ → Bool → List ℕ
+acceptedText n list values sweeps quiet = listing n (length list) (2 ^ side list n) (2 ^ (n - side list n)) (sideList list n) values sweeps quiet
 
 -- what these lines ask: a cut that is not refused by 1 to 5, and the values that a cut of 9 qubits can have
 pub record Printable (list : List ℕ) (n : ℕ) (values : List Float) : Type 0 where

@@ -8,15 +8,32 @@ ghost use Rattle.certificates.specs.Accepted.{Printable, acceptedText, P
 ghost use Rattle.certificates.specs.Certificate.{certificateOf};
 
 // Inner: puts the lines of a cut that the library accepts.
-pub fn put_accepted(list: &[usize], n: usize, values: &[f64], out: &mut [u8]) -> usize
+pub fn put_accepted(
+    list: &[usize],
+    n: usize,
+    values: &[f64],
+    sweeps: usize,
+    quiet: bool,
+    out: &mut [u8],
+) -> usize
     requires { ⌜ Printable (now list) n (now values) × (2048 ≤ length (now out)) ⌝ }
-    ensures { λ r. ⌜ Printed (acceptedText n (now (list .entry)) (now (values .entry))) (now (out .entry)) r (now (out .exit)) ⌝ }
+    ensures { λ r. ⌜ Printed (acceptedText n (now (list .entry)) (now (values .entry)) sweeps quiet) (now (out .entry)) r (now (out .exit)) ⌝ }
 {
     let mut others = [0usize; 9];
     cut_sides::smaller_side(list, n, 10, &mut others);
     let cut = cut_sides::sides_of(list, n);
     let side = cut_sides::side_part(list, n, 10, &others);
-    lines::put_listing(out, n, list.len(), cut.rows, cut.columns, side, values)
+    lines::put_listing(
+        out,
+        n,
+        list.len(),
+        cut.rows,
+        cut.columns,
+        side,
+        values,
+        sweeps,
+        quiet,
+    )
 }
 
 // Inner: puts the certificate of a file, or `refused N P`, at the front of out, which the program lends with room for any;
@@ -33,8 +50,16 @@ pub fn certificate(file: &[u8], out: &mut [u8]) -> usize
     let n = result.n;
     let k = result.k;
     let count = result.count;
+    let sweeps = result.sweeps;
     let Answer::Done = answer else {
         return lines::put_refused(out, answer);
     };
-    put_accepted(&list[..k], n, &values[..count], out)
+    put_accepted(
+        &list[..k],
+        n,
+        &values[..count],
+        sweeps.begun,
+        sweeps.quiet,
+        out,
+    )
 }

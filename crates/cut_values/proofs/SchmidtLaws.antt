@@ -33,15 +33,19 @@ use Rattle.stable_order.specs.Order.{orderTo}
 use Rattle.svd_columns.specs.Columns.{normsOf, sortedOf}
 use Rattle.values.specs.Lists.{allFinite}
 use Rattle.values.specs.Sort.{sortedDown}
+use Rattle.svd_sweeps.specs.Sweeping.{noSweeps}
+use Rattle.factored.specs.declared.Counted.{Counted}
+use Rattle.factored.specs.Factored.{keptSweeps}
+use Rattle.factored.proofs.Laws.{kept-none, kept-by}
 use Rattle.finish.specs.declared.Kept.{Kept}
 use Rattle.finish.specs.Finish.{finishOf, finishReply, padded}
 use Rattle.finish.specs.Outcome.{FinishedOutcome}
 use Rattle.finish.proofs.OutcomeLaws.{reply-worked}
 use Rattle.svd_thin.specs.Thin.{swept, orderOf, valuesOf}
-use Rattle.svd.specs.Svd.{sideOf, workOf, sOf}
+use Rattle.svd.specs.Svd.{sideOf, workOf, sOf, svdSweeps}
 use Rattle.svd.specs.Svd as svd
 use Rattle.svd.proofs.SvdLaws.{side-wide, side-tall}
-use Rattle.cut_values.specs.Schmidt.{cutRows, singularValues, cutValuesScratch, cutValuesLengths, cutValuesRest, cutValuesTests, valuesReply, cutValuesAnswer, Schmidt, CutValuesSized, sidesMatrix, normsAfter, singularOf, CutValuesFinished, CutValuesWorked}
+use Rattle.cut_values.specs.Schmidt.{cutRows, singularValues, cutSweeps, cutValuesScratch, cutValuesLengths, cutValuesRest, cutValuesTests, valuesReply, cutValuesAnswer, Schmidt, CutValuesSized, sidesMatrix, normsAfter, singularOf, sweepsOf, CutValuesFinished, CutValuesWorked}
 
 -- ---- the lengths
 
@@ -173,6 +177,19 @@ sizes m k h =
     (λ (l : m < k). side-wide m k l)
     (eq-or-lt-of-le h)
 
+-- no V is any part of the counts
+pub sweeps-made : (s : List Float) (n : ℕ) (z : Sides) {w x : List Float} (r : Sweeps) → CutValuesSized n z s → w ≡ workOf (sidesMatrix s n z) (z .rows) (z .columns)
+    → state x [] r ≡ settled (z .columns) (z .rows) w [] → r ≡ sweepsOf s n z
+unfolding sweepsOf svdSweeps swept
+sweeps-made s n z {w} r p e h =
+    let k = sizes (z .rows) (z .columns) (p .wide) in
+    let a = workOf (sidesMatrix s n z) (z .rows) (z .columns) in
+    ap (λ (t : State). t .sweeps) h
+    ∙ settled-alike (z .columns) (z .rows) w [] (unitPlanes (z .rows)) .sweeps
+    ∙ ap (λ (y : List Float). swept (z .columns) (z .rows) y .sweeps) e
+    ∙ ap (λ (y : ℕ). swept y (z .rows) a .sweeps) (sym (k .1))
+    ∙ ap (λ (y : ℕ). swept (svd.rowsOf (z .rows) (z .columns)) y a .sweeps) (sym (k .0))
+
 pub values-made : (s : List Float) (n : ℕ) (z : Sides) {norms values : List Float} → CutValuesSized n z s → norms ≡ normsAfter s n z
     → values ≡ sortedOf norms (orderTo norms (z .rows)) (z .rows) → values ≡ singularOf s n z
 unfolding singularOf sOf valuesOf orderOf normsAfter
@@ -204,17 +221,19 @@ values-number values = nine-ended (allFinite values) (finishReply values) (reply
 
 -- ---- the work
 
-pub worked : (s : List Float) (n : ℕ) (z : Sides) (old values mid : List Float) (r : Kept) {out scratch : List Float} (k : ℕ)
-    → values ≡ singularOf s n z → length values ≡ z .rows → CutValuesFinished values old r out → length mid ≡ cutValuesScratch n (z .rows) → k ≡ cutValuesScratch n (z .rows)
-    → scratch ≡ zeroed k mid → CutValuesWorked s n z old r out scratch
+pub worked : (s : List Float) (n : ℕ) (z : Sides) (old values mid : List Float) (r : Kept) (q : Counted) {out scratch : List Float} {sweeps : Sweeps} (k : ℕ)
+    → values ≡ singularOf s n z → length values ≡ z .rows → sweeps ≡ sweepsOf s n z → CutValuesFinished values old r out
+    → length mid ≡ cutValuesScratch n (z .rows) → k ≡ cutValuesScratch n (z .rows) → scratch ≡ zeroed k mid
+    → (q .answer ≡ r .answer) × (q .count ≡ r .count) × (q .sweeps ≡ keptSweeps (r .answer) sweeps) → CutValuesWorked s n z old q out scratch
 unfolding zeroed
-worked s n z old values mid r k e l f lm ek h =
+worked s n z old values mid r q k e l g f lm ek h i =
     let m : length mid ≤ k = omega arith in
     record {
-      answer = f .answer ∙ ap valuesReply e;
-      count = f .count ∙ ap (λ (x : List Float). ifDone (paper (r .answer) .0) (length (finishOf x)) 0) e;
-      out-is = f .out-is ∙ ap₂ (λ (x : ℕ) (y : List Float). ifDone (paper (r .answer) .0) (padded x (finishOf y) old) (zeroed x old)) l e;
+      answer = rw (i .0) (f .answer ∙ ap valuesReply e);
+      count = i .1 ∙ rw (i .0) (f .count ∙ ap (λ (x : List Float). ifDone (paper (r .answer) .0) (length (finishOf x)) 0) e);
+      out-is = rw (i .0) (f .out-is ∙ ap₂ (λ (x : ℕ) (y : List Float). ifDone (paper (r .answer) .0) (padded x (finishOf y) old) (zeroed x old)) l e);
       scratch-is = h ∙ rw (drop-of-length-le mid m, append-nil, ek);
+      sweeps-are = kept-by (i .0) g (i .2);
     }
 
 -- ---- the call
@@ -252,17 +271,19 @@ tests-small s n l cap out scratch =
     after-small (cutRefusal l n cap .0) (cutRefusal l n cap) (cutValuesRest s n (cutRows n l) out scratch) (cut-small l n cap) (rest-small s n (cutRows n l) out scratch)
 
 -- refused: nothing lent changes
-pub schmidt-refused : (s : List Float) (n : ℕ) (l : List ℕ) (cap : ℕ) (out scratch : List Float) (r : Answer)
+pub schmidt-refused : (s : List Float) (n : ℕ) (l : List ℕ) (cap : ℕ) (out scratch : List Float) (r : Answer) (q : Counted)
+    → (q .answer ≡ r) × (q .count ≡ 0) × (q .sweeps ≡ noSweeps)
     → paper r ≡ cutValuesTests s n l cap (length out) (length scratch) → (paper r .0 ≡ 0 → ⊥)
-    → Schmidt s n l cap out scratch (record { answer = r; count = 0 }) out scratch
+    → Schmidt s n l cap out scratch q out scratch
 unfolding cutValuesAnswer
-schmidt-refused s n l cap out scratch r e h =
+schmidt-refused s n l cap out scratch r q i e h =
     let b : paper r .0 < 8 = rw e (tests-small s n l cap (length out) (length scratch)) in
     record {
-      answer = stays (paper r) (valuesReply (singularValues s n l)) h ∙ ap (λ (x : Reply). andThen x (valuesReply (singularValues s n l))) e;
-      count = done-old (paper r .0) _ 0 h;
-      out-is = end-old (paper r .0) _ _ out h b;
-      scratch-is = worked-old (paper r .0) _ scratch h b;
+      answer = rw (i .0) (stays (paper r) (valuesReply (singularValues s n l)) h ∙ ap (λ (x : Reply). andThen x (valuesReply (singularValues s n l))) e);
+      count = i .1 ∙ rw (i .0) (done-old (paper r .0) _ 0 h);
+      out-is = rw (i .0) (end-old (paper r .0) _ _ out h b);
+      scratch-is = rw (i .0) (worked-old (paper r .0) _ scratch h b);
+      sweeps-are = rw (i .0) (kept-none r (cutSweeps s n l) h (i .2));
     }
 
 -- 1 to 5 do not refuse: 6 and 7 decide, and past them the work on the needed part of scratch
@@ -277,7 +298,11 @@ module _ (s : List Float) (n : ℕ) (l : List ℕ) (cap : ℕ) (out scratch : Li
   unfolding singularOf singularValues
   singular-sides = rw e
 
-  pub schmidt-worked : (r : Kept) {out' scratch' : List Float} (k : ℕ) → k ≡ cutValuesScratch n (z .rows)
+  sweeps-sides : sweepsOf s n z ≡ cutSweeps s n l
+  unfolding sweepsOf cutSweeps
+  sweeps-sides = ap (λ (y : Sides). svdSweeps (sidesMatrix s n y) (y .rows) (y .columns)) e
+
+  pub schmidt-worked : (r : Counted) {out' scratch' : List Float} (k : ℕ) → k ≡ cutValuesScratch n (z .rows)
       → cutValuesRest s n (z .rows) (length out) (length scratch) .0 ≡ 0
       → CutValuesWorked s n z out r out' scratch' → Schmidt s n l cap out scratch r out' (scratch' ++ drop k scratch)
   unfolding cutValuesAnswer zeroed
@@ -300,6 +325,5 @@ module _ (s : List Float) (n : ℕ) (l : List ℕ) (cap : ℕ) (out scratch : Li
             ap₂ (λ (y : List Float) (v : ℕ). y ++ drop v scratch) (w .scratch-is) ek
             ∙ ap (λ (y : ℕ). zeros (cutValuesScratch n y) ++ drop (cutValuesScratch n y) scratch) m
             ∙ worked-new x _ scratch p;
+        sweeps-are = w .sweeps-are ∙ ap (keptSweeps (r .answer)) sweeps-sides;
       }
-
--- ---- only one outcome

@@ -17,7 +17,10 @@ use Rattle.values.specs.Lists.{allFinite}
 use Rattle.finish.specs.declared.Kept.{Kept}
 use Rattle.finish.specs.Finish.{finishOf, finishReply, padded}
 use Rattle.svd_thin.specs.Thin.{swept}
-use Rattle.svd.specs.Svd.{workOf, sOf}
+use Rattle.svd_sweeps.specs.declared.Sweeps.{Sweeps}
+use Rattle.factored.specs.declared.Counted.{Counted}
+use Rattle.factored.specs.Factored.{keptSweeps}
+use Rattle.svd.specs.Svd.{workOf, sOf, svdSweeps}
 
 -- ---- the values
 
@@ -31,6 +34,10 @@ cutColumns n l = 2 ^ (n - side l n)
 -- the SVD's values of the cut matrix
 unfoldable pub singularValues : List Float → ℕ → List ℕ → List Float
 singularValues s n l = sOf (cellsOf (2 ^ n) (cutCell s n l)) (cutRows n l) (cutColumns n l)
+
+-- how the SVD's sweeps on it went
+unfoldable pub cutSweeps : List Float → ℕ → List ℕ → Sweeps
+cutSweeps s n l = svdSweeps (cellsOf (2 ^ n) (cutCell s n l)) (cutRows n l) (cutColumns n l)
 
 -- ---- the answer
 
@@ -57,12 +64,13 @@ valuesReply values = refuse (not (allFinite values)) (9, 0) (finishReply values)
 unfoldable pub cutValuesAnswer : List Float → ℕ → List ℕ → ℕ → ℕ → ℕ → Reply
 cutValuesAnswer s n l cap out scratch = andThen (cutValuesTests s n l cap out scratch) (valuesReply (singularValues s n l))
 
--- the answer, the count, and what out and scratch hold at the end
-pub record Schmidt (s : List Float) (n : ℕ) (l : List ℕ) (cap : ℕ) (out scratch : List Float) (r : Kept) (out' scratch' : List Float) : Type 0 where
+-- the answer, the count, the sweeps, and what out and scratch hold at the end
+pub record Schmidt (s : List Float) (n : ℕ) (l : List ℕ) (cap : ℕ) (out scratch : List Float) (r : Counted) (out' scratch' : List Float) : Type 0 where
   pub answer : paper (r .answer) ≡ cutValuesAnswer s n l cap (length out) (length scratch)
   pub count : r .count ≡ ifDone (paper (r .answer) .0) (length (finishOf (singularValues s n l))) 0
   pub out-is : out' ≡ atEnd (paper (r .answer) .0) (padded (cutRows n l) (finishOf (singularValues s n l)) out) (zeroed (cutRows n l) out) out
   pub scratch-is : scratch' ≡ ifWorked (paper (r .answer) .0) (zeroed (cutValuesScratch n (cutRows n l)) scratch) scratch
+  pub sweeps-are : r .sweeps ≡ keptSweeps (r .answer) (cutSweeps s n l)
 
 -- ---- the steps, over the sides of an accepted cut
 
@@ -87,14 +95,18 @@ normsAfter s n z = normsOf (swept (z .columns) (z .rows) (workOf (sidesMatrix s 
 unfoldable pub singularOf : List Float → ℕ → Sides → List Float
 singularOf s n z = sOf (sidesMatrix s n z) (z .rows) (z .columns)
 
+unfoldable pub sweepsOf : List Float → ℕ → Sides → Sweeps
+sweepsOf s n z = svdSweeps (sidesMatrix s n z) (z .rows) (z .columns)
+
 -- the values finished, or 9
 pub record CutValuesFinished (values old : List Float) (r : Kept) (end : List Float) : Type 0 where
   pub answer : paper (r .answer) ≡ valuesReply values
   pub count : r .count ≡ ifDone (paper (r .answer) .0) (length (finishOf values)) 0
   pub out-is : end ≡ ifDone (paper (r .answer) .0) (padded (length values) (finishOf values) old) (zeroed (length values) old)
 
-pub record CutValuesWorked (s : List Float) (n : ℕ) (z : Sides) (old : List Float) (r : Kept) (out scratch : List Float) : Type 0 where
+pub record CutValuesWorked (s : List Float) (n : ℕ) (z : Sides) (old : List Float) (r : Counted) (out scratch : List Float) : Type 0 where
   pub answer : paper (r .answer) ≡ valuesReply (singularOf s n z)
   pub count : r .count ≡ ifDone (paper (r .answer) .0) (length (finishOf (singularOf s n z))) 0
   pub out-is : out ≡ ifDone (paper (r .answer) .0) (padded (z .rows) (finishOf (singularOf s n z)) old) (zeroed (z .rows) old)
   pub scratch-is : scratch ≡ zeros (cutValuesScratch n (z .rows))
+  pub sweeps-are : r .sweeps ≡ keptSweeps (r .answer) (sweepsOf s n z)

@@ -1,12 +1,14 @@
 // The Schmidt values of a cut of a state: the singular values of its cut matrix, and then the finish.
 use answers::Answer;
 use cut_sides::Sides;
+use factored::Counted;
 use finish::Kept;
+use svd_sweeps::Sweeps;
 ghost use mathlib.Core.Path.{_≡_};
 ghost use Prim.Native.Nat.{_+_, _*_, _^_, _≤_};
 ghost use lib.ListN.{length};
 ghost use Rattle.answers.specs.Paper.{paper};
-ghost use Rattle.cut_values.specs.Schmidt.{cutValuesLengths, cutValuesRest, normsAfter, singularOf, CutValuesSized, CutValuesFinished, CutValuesWorked, Schmidt};
+ghost use Rattle.cut_values.specs.Schmidt.{cutValuesLengths, cutValuesRest, normsAfter, singularOf, sweepsOf, CutValuesSized, CutValuesFinished, CutValuesWorked, Schmidt};
 
 // The first slice of a wrong length, or too short: 6.
 fn check_lengths(n: usize, rows: usize, state: usize, out: usize, scratch: usize) -> Answer
@@ -38,26 +40,34 @@ fn check(state: &[f64], n: usize, rows: usize, out: usize, scratch: usize) -> An
     components::check_components(state)
 }
 
-// The norms of the work matrix's columns after the sweeps, which need no V.
-fn sweep(state: &[f64], n: usize, cut: Sides, work: &mut [f64], norms: &mut [f64])
+// The norms of the work matrix's columns after the sweeps, which need no V, and how the sweeps went.
+fn sweep(state: &[f64], n: usize, cut: Sides, work: &mut [f64], norms: &mut [f64]) -> Sweeps
     requires { ⌜ CutValuesSized n cut (now state) × (length (now work) ≡ 2 * 2 ^ n) × (length (now norms) ≡ cut .rows) ⌝ }
-    ensures { λ _. ⌜ now (norms .exit) ≡ normsAfter (now (state .entry)) n cut ⌝ }
+    ensures { λ r. ⌜ (now (norms .exit) ≡ normsAfter (now (state .entry)) n cut) × (r ≡ sweepsOf (now (state .entry)) n cut) ⌝ }
 {
     cut_planes::gather_work(state, n, cut, work);
-    svd_sweeps::settle_alone(work, cut.columns, cut.rows);
+    let sweeps = svd_sweeps::settle_alone(work, cut.columns, cut.rows);
     svd_columns::norms(work, cut.columns, cut.rows, norms);
+    sweeps
 }
 
 // The singular values of the cut matrix, falling. Scratch holds the work matrix, and after it the order.
-fn singular_values(state: &[f64], n: usize, cut: Sides, values: &mut [f64], scratch: &mut [f64])
+fn singular_values(
+    state: &[f64],
+    n: usize,
+    cut: Sides,
+    values: &mut [f64],
+    scratch: &mut [f64],
+) -> Sweeps
     requires { ⌜ CutValuesSized n cut (now state) × (length (now values) ≡ cut .rows) × (2 * 2 ^ n ≤ length (now scratch)) ⌝ }
-    ensures { λ _. ⌜ now (values .exit) ≡ singularOf (now (state .entry)) n cut ⌝ }
+    ensures { λ r. ⌜ (now (values .exit) ≡ singularOf (now (state .entry)) n cut) × (r ≡ sweepsOf (now (state .entry)) n cut) ⌝ }
 {
     let rows = cut.rows;
     let all = 2 * submasks::bit(n);
     let mut norms = [0.0f64; 64];
-    sweep(state, n, cut, &mut scratch[..all], &mut norms[..rows]);
+    let sweeps = sweep(state, n, cut, &mut scratch[..all], &mut norms[..rows]);
     svd_thin::sort(&norms[..rows], rows, values, &mut scratch[..rows]);
+    sweeps
 }
 
 // 9 where a singular value is not finite, before any floor is taken; else the finish decides.
@@ -76,18 +86,20 @@ fn finish_finite(values: &[f64], out: &mut [f64]) -> Kept
 }
 
 // The work of an accepted call, over scratch of exactly the needed length: 0, 8 or 9.
-fn work(state: &[f64], n: usize, cut: Sides, out: &mut [f64], scratch: &mut [f64]) -> Kept
+fn work(state: &[f64], n: usize, cut: Sides, out: &mut [f64], scratch: &mut [f64]) -> Counted
     requires { ⌜ CutValuesSized n cut (now state) × (cut .rows ≤ length (now out)) × (length (now scratch) ≡ 8 * 2 ^ n + 2 * cut .rows) ⌝ }
     ensures { λ r. ⌜ CutValuesWorked (now (state .entry)) n cut (now (out .entry)) r (now (out .exit)) (now (scratch .exit)) ⌝ }
 {
     let rows = cut.rows;
     let mut values = [0.0f64; 64];
-    singular_values(state, n, cut, &mut values[..rows], scratch);
+    let sweeps = singular_values(state, n, cut, &mut values[..rows], scratch);
     complex::zero_first(scratch, scratch.len());
-    finish_finite(&values[..rows], out)
+    let kept = finish_finite(&values[..rows], out);
+    let answer = kept.answer;
+    factored::answered_count(answer, kept.count, sweeps)
 }
 
-// The Schmidt values of the cut at the front of out, and how many they are.
+// The Schmidt values of the cut at the front of out, how many they are, and how the sweeps went.
 pub fn dense_schmidt_values(
     state: &[f64],
     n: usize,
@@ -95,24 +107,18 @@ pub fn dense_schmidt_values(
     cap: usize,
     out: &mut [f64],
     scratch: &mut [f64],
-) -> Kept
+) -> Counted
     ensures { λ r. ⌜ Schmidt (now (state .entry)) n (now (list .entry)) cap (now (out .entry)) (now (scratch .entry)) r
         (now (out .exit)) (now (scratch .exit)) ⌝ }
 {
     let first = cut_sides::cut_refusal(list, n, cap);
     let Answer::Done = first else {
-        return Kept {
-            answer: first,
-            count: 0,
-        };
+        return factored::refused_count(first);
     };
     let cut = cut_sides::sides_of(list, n);
     let second = check(state, n, cut.rows, out.len(), scratch.len());
     let Answer::Done = second else {
-        return Kept {
-            answer: second,
-            count: 0,
-        };
+        return factored::refused_count(second);
     };
     let need = 8 * submasks::bit(n) + 2 * cut.rows;
     work(state, n, cut, out, &mut scratch[..need])

@@ -26,13 +26,14 @@ use Rattle.cutfile.proofs.LayoutLaws.{accepted}
 use Rattle.decode.specs.Tables.{filled}
 use Rattle.decode.proofs.TablesLaws.{take-filled}
 use Rattle.finish.specs.Finish.{floorOf, normalised, keptValues, finishSorted, finishOf, padded}
+use Rattle.svd_sweeps.specs.Sweeping.{noSweeps}
 use Rattle.svd_thin.specs.Thin.{valuesOf}
 use Rattle.svd.specs.Svd.{sideOf, sOf}
 use Rattle.svd.proofs.SvdLaws.{side-wide, side-tall}
 use Rattle.cut_values.specs.Schmidt.{cutRows, cutColumns, singularValues, cutValuesRest, cutValuesTests, valuesReply, cutValuesAnswer}
 use Rattle.cut_values.proofs.SchmidtLaws.{same-le}
 use Rattle.cutfile_result.specs.declared.CutResult.{CutResult}
-use Rattle.cutfile_result.specs.Result.{stateOf, cutReply, valuesAt, libraryReply, fileReply, fileList, fileValues, Result}
+use Rattle.cutfile_result.specs.Result.{stateOf, cutReply, valuesAt, libraryReply, fileReply, fileList, fileValues, fileSweeps, Result}
 
 length-of-scaled : (l : List Float) → length (normalised l) ≡ length l
 unfolding normalised
@@ -94,6 +95,9 @@ module _ (file list : List ℕ) (values : List Float) (r : CutResult) (list' : L
 
   pub count-is : r .count ≡ length (fileValues file)
   count-is = is .count ∙ sym (done-new (fileReply file .0) (length (fileValues file)) 0 e)
+
+  pub sweeps-is : r .sweeps ≡ fileSweeps file
+  sweeps-is = is .sweeps-are ∙ sym (done-new (fileReply file .0) (fileSweeps file) noSweeps e)
 
   pub count-few : r .count ≤ 16
   count-few =

@@ -5,6 +5,7 @@ use Prim.Native.Nat.{ℕ, _-_, _≤_, zero, suc, _+_, _*_, _/_, _^_, min}
 use lib.Ieee.{Float}
 use Rattle.answers.specs.declared.Answer.{Answer}
 use Rattle.answers.proofs.Theorems.{paper-one}
+use Rattle.svd_sweeps.specs.declared.Sweeps.{Sweeps}
 use Rattle.cutfile_result.specs.declared.CutResult.{CutResult}
 use Rattle.cutfile_result.specs.Result.{listOf, stateOf, cutReply, Result}
 use native.Mathlib.Omega.{arith}
@@ -26,15 +27,16 @@ use Rattle.cut_values.specs.Schmidt.{cutRows, singularValues, cutValuesLengths,
 use Rattle.cut_values.proofs.SchmidtLaws.{lengths-good}
 use Rattle.cutfile_result.proofs.Few.{few-rows}
 
-same-result : {a a' : Answer} {n n' k k' c c' : ℕ} → a ≡ a' → n ≡ n' → k ≡ k' → c ≡ c'
-    → _≡_ {A = CutResult} (record { answer = a; n = n; k = k; count = c }) (record { answer = a'; n = n'; k = k'; count = c' })
-same-result e f g h = cc
+same-result : {a a' : Answer} {n n' k k' c c' : ℕ} {w w' : Sweeps} → a ≡ a' → n ≡ n' → k ≡ k' → c ≡ c' → w ≡ w'
+    → _≡_ {A = CutResult} (record { answer = a; n = n; k = k; count = c; sweeps = w }) (record { answer = a'; n = n'; k = k'; count = c'; sweeps = w' })
+same-result e f g h i = cc
 
--- Only one outcome meets the contract of `cut_result`: its answer, n, k and count, and every cell of the list and the values.
+-- Only one outcome meets the contract of `cut_result`: its answer, n, k, count and sweeps, and every cell of the list and the values.
 pub cut-result-one : (file list : List ℕ) (values : List Float) (r s : CutResult) (list' list″ : List ℕ) (values' values″ : List Float)
     → Result file list values r list' values' → Result file list values s list″ values″ → (r ≡ s) × (list' ≡ list″) × (values' ≡ values″)
 cut-result-one file list values r s list' list″ values' values″ x y = (
-  same-result (paper-one (r .answer) (s .answer) (x .answer ∙ sym (y .answer))) (x .n-is ∙ sym (y .n-is)) (x .k-is ∙ sym (y .k-is)) (x .count ∙ sym (y .count)),
+  same-result (paper-one (r .answer) (s .answer) (x .answer ∙ sym (y .answer))) (x .n-is ∙ sym (y .n-is)) (x .k-is ∙ sym (y .k-is)) (x .count ∙ sym (y .count))
+      (x .sweeps-are ∙ sym (y .sweeps-are)),
   x .list-is ∙ sym (y .list-is),
   x .values-are ∙ sym (y .values-are),
 )

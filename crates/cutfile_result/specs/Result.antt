@@ -9,9 +9,11 @@ use Rattle.complex.specs.Zeros.{zeroed}
 use Rattle.cutfile.specs.Bytes.{word32}
 use Rattle.cutfile.specs.Layout.{headerAnswer, nOf, kOf, fileEntry, componentAt}
 use Rattle.decode.specs.Tables.{table, filled}
-use Rattle.finish.specs.declared.Kept.{Kept}
+use Rattle.svd_sweeps.specs.declared.Sweeps.{Sweeps}
+use Rattle.svd_sweeps.specs.Sweeping.{noSweeps}
+use Rattle.factored.specs.declared.Counted.{Counted}
 use Rattle.finish.specs.Finish.{finishOf, padded}
-use Rattle.cut_values.specs.Schmidt.{cutRows, singularValues, cutValuesAnswer}
+use Rattle.cut_values.specs.Schmidt.{cutRows, singularValues, cutSweeps, cutValuesAnswer}
 use Rattle.cutfile_result.specs.declared.CutResult.{CutResult}
 
 -- the list and the state that a file of k entries and n qubits holds
@@ -51,12 +53,17 @@ fileList file = listOf file (word32 file 8)
 abbrev pub fileValues : List ℕ → List Float
 fileValues file = valuesOf (stateOf file (word32 file 4) (word32 file 8)) (word32 file 4) (fileList file)
 
--- the answer; n and k, 0 where the header is refused; the count; the lent list and values, as they were where the header is refused
+-- how the sweeps on it went
+abbrev pub fileSweeps : List ℕ → Sweeps
+fileSweeps file = cutSweeps (stateOf file (word32 file 4) (word32 file 8)) (word32 file 4) (fileList file)
+
+-- the answer; n and k, 0 where the header is refused; the count and the sweeps; the lent list and values, as they were where the header is refused
 pub record Result (file : List ℕ) (list : List ℕ) (values : List Float) (r : CutResult) (list' : List ℕ) (values' : List Float) : Type 0 where
   pub answer : paper (r .answer) ≡ fileReply file
   pub n-is : r .n ≡ nOf file
   pub k-is : r .k ≡ kOf file
   pub count : r .count ≡ ifDone (fileReply file .0) (length (fileValues file)) 0
+  pub sweeps-are : r .sweeps ≡ ifDone (fileReply file .0) (fileSweeps file) noSweeps
   pub list-is : list' ≡ ifDone (headerAnswer file .0) (filled (word32 file 8) (fileEntry file) list) list
   pub values-are : values' ≡ ifDone (headerAnswer file .0) (valuesAt (stateOf file (word32 file 4) (word32 file 8)) (word32 file 4) (fileList file) values) values
   pub list-long : length list' ≡ length list
@@ -65,12 +72,13 @@ pub record Result (file : List ℕ) (list : List ℕ) (values : List Float) (r :
 -- ---- the steps
 
 -- the cut values over the room that is lent here
-pub record Valued (state : List Float) (n : ℕ) (list : List ℕ) (values : List Float) (r : Kept) (values' : List Float) : Type 0 where
+pub record Valued (state : List Float) (n : ℕ) (list : List ℕ) (values : List Float) (r : Counted) (values' : List Float) : Type 0 where
   pub answer : paper (r .answer) ≡ cutReply state n list
   pub count : r .count ≡ ifDone (cutReply state n list .0) (length (valuesOf state n list)) 0
+  pub sweeps-are : r .sweeps ≡ ifDone (cutReply state n list .0) (cutSweeps state n list) noSweeps
   pub values-are : values' ≡ valuesAt state n list values
 
 -- of a file whose header was answered 0
-pub record FileValued (file : List ℕ) (n k : ℕ) (list : List ℕ) (values : List Float) (r : Kept) (list' : List ℕ) (values' : List Float) : Type 0 where
+pub record FileValued (file : List ℕ) (n k : ℕ) (list : List ℕ) (values : List Float) (r : Counted) (list' : List ℕ) (values' : List Float) : Type 0 where
   pub list-is : list' ≡ filled k (fileEntry file) list
   pub valued : Valued (stateOf file n k) n (listOf file k) values r values'

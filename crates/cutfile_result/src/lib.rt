@@ -2,22 +2,25 @@
 // prints, counts or goes on from it starts here. A file has at most 9 qubits, so 1,024 numbers of state, 4,128 of scratch and 16
 // values are enough, and no file is refused by 6.
 use answers::Answer;
-use finish::Kept;
+use factored::Counted;
+use svd_sweeps::Sweeps;
 ghost use mathlib.Core.Path.{_≡_};
 ghost use lib.ListN.{length};
 ghost use Rattle.cutfile.specs.Layout.{LongEnough};
 ghost use Rattle.cutfile_result.specs.Result.{Valued, FileValued, Result};
 
-// The answer; the register's size and the list's length, 0 where the header is refused; how many values were kept.
+// The answer; the register's size and the list's length, 0 where the header is refused; how many values were kept; and
+// how the sweeps went.
 pub struct CutResult {
     pub answer: Answer,
     pub n: usize,
     pub k: usize,
     pub count: usize,
+    pub sweeps: Sweeps,
 }
 
 // The cut values of a state.
-fn values_of(state: &[f64], n: usize, list: &[usize], values: &mut [f64]) -> Kept
+fn values_of(state: &[f64], n: usize, list: &[usize], values: &mut [f64]) -> Counted
     requires { ⌜ length (now values) ≡ 16 ⌝ }
     ensures { λ r. ⌜ Valued (now (state .entry)) n (now (list .entry)) (now (values .entry)) r (now (values .exit)) ⌝ }
 {
@@ -26,7 +29,7 @@ fn values_of(state: &[f64], n: usize, list: &[usize], values: &mut [f64]) -> Kep
 }
 
 // The list and the values of a file whose header was answered 0.
-fn of_file(file: &[u8], n: usize, k: usize, list: &mut [usize], values: &mut [f64]) -> Kept
+fn of_file(file: &[u8], n: usize, k: usize, list: &mut [usize], values: &mut [f64]) -> Counted
     requires { ⌜ LongEnough (now file) n k × (length (now list) ≡ 64) × (length (now values) ≡ 16) ⌝ }
     ensures { λ r. ⌜ FileValued (now (file .entry)) n k (now (list .entry)) (now (values .entry)) r (now (list .exit)) (now (values .exit)) ⌝ }
 {
@@ -46,19 +49,27 @@ pub fn cut_result(file: &[u8], list: &mut [usize; 64], values: &mut [f64; 16]) -
     let n = header.n;
     let k = header.k;
     let Answer::Done = answer else {
+        let none = Sweeps {
+            begun: 0,
+            quiet: false,
+            turned: 0,
+        };
         return CutResult {
             answer,
             n,
             k,
             count: 0,
+            sweeps: none,
         };
     };
     let kept = of_file(file, n, k, list, values);
     let after = kept.answer;
+    let sweeps = kept.sweeps;
     CutResult {
         answer: after,
         n,
         k,
         count: kept.count,
+        sweeps,
     }
 }

@@ -6,7 +6,8 @@ use answers::Answer;
 use complex::Complex;
 ghost use mathlib.Core.Path.{_≡_};
 ghost use Rattle.answers.specs.Paper.{paper, andThen};
-ghost use Prim.Native.Nat.{_≤_, _*_};
+ghost use Prim.Native.Nat.{ℕ, _≤_, _*_};
+ghost use mathlib.Core.Bool.{Bool};
 ghost use lib.ListN.{length};
 ghost use Rattle.told.specs.Told.{Exported, ExportedWith};
 ghost use lib.Ieee.{binary64, toBits, ofBits};
@@ -24,8 +25,10 @@ ghost use Rattle.cuts.specs.Cut.{CutMatrix};
 ghost use Rattle.densities.specs.Density.{Density};
 ghost use Rattle.qr.specs.Call.{Factorized};
 ghost use Rattle.qr.specs.declared.Factored.{Factored};
+ghost use Rattle.factored.specs.declared.Factored.{Factored as Swept};
 ghost use Rattle.density_trace.specs.Trace.{normalizeAnswer, normalized};
 ghost use Rattle.density_block.specs.Factor.{blockAnswer, multiplied};
+ghost use Rattle.factored.specs.declared.Counted.{Counted};
 ghost use Rattle.svd.specs.Svd.{Svd};
 ghost use Rattle.spectra.specs.Outcomes.{Eigenvalues};
 ghost use Rattle.site_ranks.specs.Ranks.{rankOf, discardsOf, Ranked, bondSizes, cutRankOf, widestSizes, widestOf};
@@ -299,11 +302,19 @@ pub extern "C" fn zg_svd_jacobi(
     vt: &mut [f64],
     scratch: &mut [f64],
     place: &mut usize,
+    sweeps: &mut usize,
+    quiet: &mut bool,
 ) -> u32
-    ensures { λ r. ⌜ Exported (λ x. Svd (now (a .entry)) m n (now (u .entry)) (now (s .entry)) (now (vt .entry)) (now (scratch .entry)) x
-        (now (u .exit)) (now (s .exit)) (now (vt .exit)) (now (scratch .exit))) r (now (place .exit)) ⌝ }
+    ensures { λ r. ⌜ ExportedWith {R = Swept} {W = ℕ × Bool} (λ k. k .answer) (λ k. (k .sweeps .begun, k .sweeps .quiet))
+        (λ k. Svd (now (a .entry)) m n (now (u .entry)) (now (s .entry)) (now (vt .entry)) (now (scratch .entry)) k
+        (now (u .exit)) (now (s .exit)) (now (vt .exit)) (now (scratch .exit))) r (now (place .exit)) (now (sweeps .exit), now (quiet .exit)) ⌝ }
 {
-    told::told(svd::svd_jacobi(a, m, n, u, s, vt, scratch), place)
+    let k = svd::svd_jacobi(a, m, n, u, s, vt, scratch);
+    let t = k.sweeps;
+    *sweeps = t.begun;
+    *quiet = t.quiet;
+    let answer = k.answer;
+    told::told(answer, place)
 }
 
 // Whether the factors are A's within the tolerance: yes, or the first test that fails and its first failing cell.
@@ -357,10 +368,18 @@ pub extern "C" fn zg_hermitian_eigenvalues(
     out: &mut [f64],
     scratch: &mut [f64],
     place: &mut usize,
+    sweeps: &mut usize,
+    quiet: &mut bool,
 ) -> u32
-    ensures { λ r. ⌜ Exported (λ x. Eigenvalues (now (a .entry)) dim (now (out .entry)) (now (scratch .entry)) x (now (out .exit)) (now (scratch .exit))) r (now (place .exit)) ⌝ }
+    ensures { λ r. ⌜ ExportedWith {R = Swept} {W = ℕ × Bool} (λ k. k .answer) (λ k. (k .sweeps .begun, k .sweeps .quiet))
+        (λ k. Eigenvalues (now (a .entry)) dim (now (out .entry)) (now (scratch .entry)) k (now (out .exit)) (now (scratch .exit))) r (now (place .exit)) (now (sweeps .exit), now (quiet .exit)) ⌝ }
 {
-    told::told(spectra::hermitian_eigenvalues(a, dim, out, scratch), place)
+    let k = spectra::hermitian_eigenvalues(a, dim, out, scratch);
+    let t = k.sweeps;
+    *sweeps = t.begun;
+    *quiet = t.quiet;
+    let answer = k.answer;
+    told::told(answer, place)
 }
 
 #[no_mangle]
@@ -371,12 +390,17 @@ pub extern "C" fn zg_schmidt_values_from_density(
     scratch: &mut [f64],
     place: &mut usize,
     count: &mut usize,
+    sweeps: &mut usize,
+    quiet: &mut bool,
 ) -> u32
-    ensures { λ r. ⌜ ExportedWith (λ k. k .answer) (λ k. k .count)
-        (λ k. DensityValues (now (rho .entry)) dim (now (out .entry)) (now (scratch .entry)) k (now (out .exit)) (now (scratch .exit))) r (now (place .exit)) (now (count .exit)) ⌝ }
+    ensures { λ r. ⌜ ExportedWith {R = Counted} {W = ℕ × ℕ × Bool} (λ k. k .answer) (λ k. (k .count, k .sweeps .begun, k .sweeps .quiet))
+        (λ k. DensityValues (now (rho .entry)) dim (now (out .entry)) (now (scratch .entry)) k (now (out .exit)) (now (scratch .exit))) r (now (place .exit)) (now (count .exit), now (sweeps .exit), now (quiet .exit)) ⌝ }
 {
     let k = spectra::schmidt_values_from_density(rho, dim, out, scratch);
     *count = k.count;
+    let t = k.sweeps;
+    *sweeps = t.begun;
+    *quiet = t.quiet;
     let answer = k.answer;
     told::told(answer, place)
 }
@@ -389,14 +413,19 @@ pub extern "C" fn zg_hermitian_eigen(
     vectors: &mut [f64],
     scratch: &mut [f64],
     place: &mut usize,
+    sweeps: &mut usize,
+    quiet: &mut bool,
 ) -> u32
-    ensures { λ r. ⌜ Exported (λ x. Eigen (now (matrix .entry)) dim (now (values .entry)) (now (vectors .entry)) (now (scratch .entry)) x
-        (now (values .exit)) (now (vectors .exit)) (now (scratch .exit))) r (now (place .exit)) ⌝ }
+    ensures { λ r. ⌜ ExportedWith {R = Swept} {W = ℕ × Bool} (λ k. k .answer) (λ k. (k .sweeps .begun, k .sweeps .quiet))
+        (λ k. Eigen (now (matrix .entry)) dim (now (values .entry)) (now (vectors .entry)) (now (scratch .entry)) k
+        (now (values .exit)) (now (vectors .exit)) (now (scratch .exit))) r (now (place .exit)) (now (sweeps .exit), now (quiet .exit)) ⌝ }
 {
-    told::told(
-        hermitian_eigen::hermitian_eigen(matrix, dim, values, vectors, scratch),
-        place,
-    )
+    let k = hermitian_eigen::hermitian_eigen(matrix, dim, values, vectors, scratch);
+    let t = k.sweeps;
+    *sweeps = t.begun;
+    *quiet = t.quiet;
+    let answer = k.answer;
+    told::told(answer, place)
 }
 
 #[no_mangle]
@@ -409,12 +438,17 @@ pub extern "C" fn zg_dense_schmidt_values(
     scratch: &mut [f64],
     place: &mut usize,
     count: &mut usize,
+    sweeps: &mut usize,
+    quiet: &mut bool,
 ) -> u32
-    ensures { λ r. ⌜ ExportedWith (λ k. k .answer) (λ k. k .count)
-        (λ k. Schmidt (now (state .entry)) n (now (list .entry)) cap (now (out .entry)) (now (scratch .entry)) k (now (out .exit)) (now (scratch .exit))) r (now (place .exit)) (now (count .exit)) ⌝ }
+    ensures { λ r. ⌜ ExportedWith {R = Counted} {W = ℕ × ℕ × Bool} (λ k. k .answer) (λ k. (k .count, k .sweeps .begun, k .sweeps .quiet))
+        (λ k. Schmidt (now (state .entry)) n (now (list .entry)) cap (now (out .entry)) (now (scratch .entry)) k (now (out .exit)) (now (scratch .exit))) r (now (place .exit)) (now (count .exit), now (sweeps .exit), now (quiet .exit)) ⌝ }
 {
     let k = cut_values::dense_schmidt_values(state, n, list, cap, out, scratch);
     *count = k.count;
+    let t = k.sweeps;
+    *sweeps = t.begun;
+    *quiet = t.quiet;
     let answer = k.answer;
     told::told(answer, place)
 }

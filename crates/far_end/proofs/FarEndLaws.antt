@@ -22,8 +22,8 @@ use Rattle.cut_sides.proofs.SideLaws.{is-parted, named-yes, named-no}
 use Rattle.cut_naming.proofs.ReorderedLaws.{same-mask, same-length, cut-kept, set-of-cut, pass}
 use Rattle.cut_naming.proofs.Theorems.{other-accepted, other-mask, other-length}
 use Rattle.cuts.specs.Cut.{cutAnswer, cutLengths, cutCell}
-use Rattle.svd.specs.Svd.{sOf}
-use Rattle.cut_values.specs.Schmidt.{singularValues, cutValuesRest, cutValuesTests, valuesReply, cutValuesAnswer}
+use Rattle.svd.specs.Svd.{sOf, svdSweeps}
+use Rattle.cut_values.specs.Schmidt.{singularValues, cutSweeps, cutValuesRest, cutValuesTests, valuesReply, cutValuesAnswer}
 use Rattle.far_end.specs.FarEnd.{Opposite, acrossOf}
 
 module _ (n cap : ℕ) (l l' : List ℕ) (far : Opposite n l l') (ok : cutRefusal l n cap .0 ≡ 0) where
@@ -135,6 +135,11 @@ module _ (n cap : ℕ) (l l' : List ℕ) (far : Opposite n l l') (ok : cutRefusa
     unfolding singularValues
     same-singular s =
         sym (ap₂ (λ (f : ℕ → Complex) (d : ℕ). sOf (cellsOf (2 ^ n) f) (2 ^ d) (2 ^ (n - d))) (same-cells differ s) same-side)
+
+    pub same-sweeps : (s : List Float) → cutSweeps s n l ≡ cutSweeps s n l'
+    unfolding cutSweeps
+    same-sweeps s =
+        sym (ap₂ (λ (f : ℕ → Complex) (d : ℕ). svdSweeps (cellsOf (2 ^ n) f) (2 ^ d) (2 ^ (n - d))) (same-cells differ s) same-side)
 
     pub values-answer : (s : List Float) (o w : ℕ) → cutValuesAnswer s n l cap o w ≡ cutValuesAnswer s n l' cap o w
     unfolding cutValuesAnswer

@@ -16,8 +16,13 @@ use Rattle.complex.specs.Cells.{components}
 use Rattle.complex.proofs.CellLaws.{components-small}
 use Rattle.complex.specs.Zeros.{zeros, zeroed}
 use Rattle.values.specs.Lists.{allFinite}
+use Rattle.svd_sweeps.specs.declared.Sweeps.{Sweeps}
+use Rattle.svd_sweeps.specs.Sweeping.{noSweeps}
+use Rattle.factored.specs.declared.Factored.{Factored}
+use Rattle.factored.specs.Factored.{keptSweeps}
+use Rattle.factored.proofs.Laws.{kept-none, kept-by}
 use Rattle.svd.proofs.SvdLaws.{zeroed-all, join-end}
-use Rattle.hermitian_eigen.specs.Hermitian.{needVectors, hermitianScratch, hermitianTests, hermitianValues, hermitianVectors, finiteResults, hermitianEnd, hermitianAnswer, Eigen, HermitianExact, HermitianFinished, HermitianWorked}
+use Rattle.hermitian_eigen.specs.Hermitian.{needVectors, hermitianScratch, hermitianTests, hermitianValues, hermitianVectors, hermitianSweeps, finiteResults, hermitianEnd, hermitianAnswer, Eigen, HermitianExact, HermitianFinished, HermitianWorked}
 
 -- ---- the refusals
 
@@ -122,50 +127,55 @@ end-number : (values vectors : List Float) → Ended (hermitianEnd values vector
 unfolding hermitianEnd
 end-number values vectors = nine-ended (finiteResults values vectors) done (inl refl)
 
-pub worked : (a : List Float) (dim la : ℕ) (values₀ vectors₀ scratch₀ scratch : List Float) {values vectors values' vectors' scratch' : List Float} (r : Answer)
+pub worked : (a : List Float) (dim la : ℕ) (values₀ vectors₀ scratch₀ scratch : List Float) {values vectors values' vectors' scratch' : List Float} {t : Sweeps} (q : Answer) (r : Factored)
     → HermitianExact dim la (length values₀) (length vectors₀) (length scratch₀)
     → length values ≡ length values₀ → length vectors ≡ length vectors₀
-    → values ≡ hermitianValues a dim → vectors ≡ hermitianVectors a dim
-    → (k : ℕ) → k ≡ length scratch₀ → length scratch ≡ length scratch₀ → scratch' ≡ zeroed k scratch → HermitianFinished values vectors r values' vectors'
+    → values ≡ hermitianValues a dim → vectors ≡ hermitianVectors a dim → t ≡ hermitianSweeps a dim
+    → (k : ℕ) → k ≡ length scratch₀ → length scratch ≡ length scratch₀ → scratch' ≡ zeroed k scratch → HermitianFinished values vectors q values' vectors'
+    → (r .answer ≡ q) × (r .sweeps ≡ keptSweeps q t)
     → HermitianWorked a dim r values' vectors' scratch'
 unfolding zeroed
-worked a dim la values₀ vectors₀ scratch₀ scratch r e lv lw ev ew k ek lt z g =
+worked a dim la values₀ vectors₀ scratch₀ scratch {values} {vectors} {values'} {vectors'} q r e lv lw ev ew et k ek lt z h i =
+    let g : HermitianFinished values vectors (r .answer) values' vectors' = rw (i .0) h in
     let l : length scratch ≤ k = omega arith in
     record {
       answer = g .answer ∙ ap₂ hermitianEnd ev ew;
-      values-are = g .values-are ∙ ap₂ (λ (x : List Float) (y : ℕ). ifDone (paper r .0) x (zeros y)) ev (lv ∙ e .values-are);
-      vectors-are = g .vectors-are ∙ ap₂ (λ (x : List Float) (y : ℕ). ifDone (paper r .0) x (zeros y)) ew (lw ∙ e .vectors-are);
+      values-are = g .values-are ∙ ap₂ (λ (x : List Float) (y : ℕ). ifDone (paper (r .answer) .0) x (zeros y)) ev (lv ∙ e .values-are);
+      vectors-are = g .vectors-are ∙ ap₂ (λ (x : List Float) (y : ℕ). ifDone (paper (r .answer) .0) x (zeros y)) ew (lw ∙ e .vectors-are);
       scratch-is = z ∙ rw (drop-of-length-le scratch l, append-nil, ek, e .scratch-is);
+      sweeps-are = kept-by (i .0) et (i .1);
     }
 
 -- an accepted call, and a refused one
-pub eigen-worked : (a : List Float) (dim : ℕ) (values vectors scratch : List Float) (r : Answer) {values' vectors' scratch' : List Float}
+pub eigen-worked : (a : List Float) (dim : ℕ) (values vectors scratch : List Float) (r : Factored) {values' vectors' scratch' : List Float}
     → andThen (hermitianTests a dim (length values) (length vectors) (length scratch)) (hermitianEnd (hermitianValues a dim) (hermitianVectors a dim))
     ≡ hermitianEnd (hermitianValues a dim) (hermitianVectors a dim)
     → HermitianWorked a dim r values' vectors' scratch'
     → Eigen a dim values vectors scratch r (values' ++ drop dim values) (vectors' ++ drop (2 * (dim * dim)) vectors) (scratch' ++ drop (6 * (dim * dim) + 2 * dim) scratch)
 unfolding hermitianAnswer zeroed
 eigen-worked a dim values vectors scratch r e w =
-    let p : Ended (paper r .0) = rw (w .answer) (end-number (hermitianValues a dim) (hermitianVectors a dim)) in
+    let p : Ended (paper (r .answer) .0) = rw (w .answer) (end-number (hermitianValues a dim) (hermitianVectors a dim)) in
     record {
       answer = w .answer ∙ sym e;
-      values-are = rw (w .values-are) (join-end (paper r .0) (hermitianValues a dim) (zeros dim) (drop dim values) values p);
-      vectors-are = rw (w .vectors-are) (join-end (paper r .0) (hermitianVectors a dim) (zeros (needVectors dim)) (drop (needVectors dim) vectors) vectors p);
-      scratch-is = rw (w .scratch-is) (worked-new (paper r .0) (zeros (hermitianScratch dim) ++ drop (hermitianScratch dim) scratch) scratch p);
+      values-are = rw (w .values-are) (join-end (paper (r .answer) .0) (hermitianValues a dim) (zeros dim) (drop dim values) values p);
+      vectors-are = rw (w .vectors-are) (join-end (paper (r .answer) .0) (hermitianVectors a dim) (zeros (needVectors dim)) (drop (needVectors dim) vectors) vectors p);
+      scratch-is = rw (w .scratch-is) (worked-new (paper (r .answer) .0) (zeros (hermitianScratch dim) ++ drop (hermitianScratch dim) scratch) scratch p);
+      sweeps-are = w .sweeps-are;
     }
 
-pub eigen-refused : (a : List Float) (dim : ℕ) (values vectors scratch : List Float) (r : Answer)
-    → paper r ≡ hermitianTests a dim (length values) (length vectors) (length scratch) → (paper r .0 ≡ 0 → ⊥)
+pub eigen-refused : (a : List Float) (dim : ℕ) (values vectors scratch : List Float) (q : Answer) (r : Factored) → (r .answer ≡ q) × (r .sweeps ≡ noSweeps)
+    → paper q ≡ hermitianTests a dim (length values) (length vectors) (length scratch) → (paper q .0 ≡ 0 → ⊥)
     → Eigen a dim values vectors scratch r values vectors scratch
 unfolding hermitianAnswer
-eigen-refused a dim values vectors scratch r e h =
-    let b : paper r .0 < 8 = rw e (tests-small a dim (length values) (length vectors) (length scratch)) in
+eigen-refused a dim values vectors scratch q r i e′ h′ =
+    let e : paper (r .answer) ≡ hermitianTests a dim (length values) (length vectors) (length scratch) = rw (i .0) e′ in
+    let h : paper (r .answer) .0 ≡ 0 → ⊥ = rw (i .0) h′ in
+    let b : paper (r .answer) .0 < 8 = rw e (tests-small a dim (length values) (length vectors) (length scratch)) in
     let end = hermitianEnd (hermitianValues a dim) (hermitianVectors a dim) in
     record {
-      answer = stays (paper r) end h ∙ ap (λ (x : Reply). andThen x end) e;
-      values-are = end-old (paper r .0) _ _ values h b;
-      vectors-are = end-old (paper r .0) _ _ vectors h b;
-      scratch-is = worked-old (paper r .0) _ scratch h b;
+      answer = stays (paper (r .answer)) end h ∙ ap (λ (x : Reply). andThen x end) e;
+      values-are = end-old (paper (r .answer) .0) _ _ values h b;
+      vectors-are = end-old (paper (r .answer) .0) _ _ vectors h b;
+      scratch-is = worked-old (paper (r .answer) .0) _ scratch h b;
+      sweeps-are = kept-none (r .answer) (hermitianSweeps a dim) h (i .1);
     }
-
--- ---- only one outcome

@@ -28,13 +28,13 @@ use Rattle.svd_columns.specs.Columns.{normsOf, sortedOf, inColumns, directionOf
 use Rattle.svd_thin.specs.Thin.{swept, orderOf, valuesOf, orderPart, ThinOrdered}
 use Rattle.svd_thin.proofs.ThinLaws.{part-length, part-back}
 use Rattle.svd.specs.Svd.{uOf, sOf, workOf, directions}
-use Rattle.svd.proofs.SvdLaws.{side-tall}
+use Rattle.svd.proofs.SvdLaws.{side-tall, sweeps-tall}
 use Rattle.hermitian_eigen.specs.Shifted.{shiftOf, shiftedAt, shiftedOf}
 use Rattle.hermitian_eigen.proofs.ShiftedLaws.{split, numbers-same, shifted-planes}
 use Rattle.hermitian_eigen.specs.Backward.{backward}
 use Rattle.hermitian_eigen.proofs.BackwardLaws.{length-backward, backward-at, places-backward, below-backward}
-use Rattle.hermitian_eigen.specs.Hermitian.{hermitianValues, hermitianVectors}
-use Rattle.hermitian_eigen.specs.Steps.{Rising, sweptBy, HermitianFactored}
+use Rattle.hermitian_eigen.specs.Hermitian.{hermitianValues, hermitianVectors, hermitianSweeps}
+use Rattle.hermitian_eigen.specs.Steps.{Rising, sweptEnd, sweptBy, HermitianSwept, HermitianFactored}
 
 -- ---- laws
 
@@ -46,14 +46,16 @@ past-filled m f old =
     let e : length (numbersOf m f) + 0 ≡ m = omega (arith, length-numbers m f) in
     rw e at (getD-append-add (numbersOf m f) (drop m old) 0 nan) ∙ getD-drop m old 0 nan ∙ ap (λ (n : ℕ). getD old n nan) z
 
--- V is no part of the work matrix
+-- V is no part of the work matrix, and no part of the counts
 pub sweep-made : (a : List Float) (dim : ℕ) (shift : Float) {work work' : List Float} {n : Sweeps} → work ≡ planesOf (dim * dim) (shiftedAt shift a dim)
-    → state work' [] n ≡ settled dim dim work [] → work' ≡ sweptBy a dim shift
+    → state work' [] n ≡ settled dim dim work [] → HermitianSwept a dim shift n work'
 unfolding swept
 sweep-made a dim shift {work} e h =
-    ap (λ (t : State). t .work) h
-    ∙ settled-alike dim dim work [] (unitPlanes dim) .work
-    ∙ ap (λ (l : List Float). settled dim dim l (unitPlanes dim) .work) e
+    let same = settled-alike dim dim work [] (unitPlanes dim) in
+    record {
+      work-is = ap (λ (t : State). t .work) h ∙ same .work ∙ ap (λ (l : List Float). settled dim dim l (unitPlanes dim) .work) e;
+      sweeps-are = ap (λ (t : State). t .sweeps) h ∙ same .sweeps ∙ ap (λ (l : List Float). settled dim dim l (unitPlanes dim) .sweeps) e;
+    }
 
 pub rising-made : (dim : ℕ) (work scratch : List Float) {s values part : List Float} → 2 * (dim * dim) + dim ≤ length scratch
     → ThinOrdered dim dim work s scratch → values ≡ backward s → part ≡ backward (orderPart dim dim scratch)
@@ -74,18 +76,18 @@ order-low dim work = below-backward dim (orderTo (normsOf work dim dim) dim) (or
 pub rising-places : (dim : ℕ) (work values scratch : List Float) → Rising dim work values scratch → Places dim (orderPart dim dim scratch)
 rising-places dim work values scratch r = record { places = backward (orderOf dim dim work); are = r .order-is; low = order-low dim work }
 
-pub factored-made : (a : List Float) (dim : ℕ) (shift : Float) (rest : List Float) {work values scratch vectors : List Float} → dim ≤ 64
-    → length work ≡ 2 * (dim * dim) → work ≡ sweptBy a dim shift → Rising dim (take (2 * (dim * dim)) (work ++ rest)) values scratch
+pub factored-made : (a : List Float) (dim : ℕ) (shift : Float) (rest : List Float) {work values scratch vectors : List Float} {n : Sweeps} → dim ≤ 64
+    → length work ≡ 2 * (dim * dim) → HermitianSwept a dim shift n work → Rising dim (take (2 * (dim * dim)) (work ++ rest)) values scratch
     → vectors ≡ directionsOf (take (2 * (dim * dim)) scratch) values (placesIn (orderPart dim dim scratch)) dim dim false
-    → HermitianFactored a dim shift values vectors
+    → HermitianFactored a dim shift n values vectors
 factored-made a dim shift rest {work} {values} {scratch} {vectors} b l e r f =
-    let w : take (2 * (dim * dim)) (work ++ rest) ≡ sweptBy a dim shift = take-at work rest (2 * (dim * dim)) l ∙ e in
+    let w : take (2 * (dim * dim)) (work ++ rest) ≡ sweptBy a dim shift = take-at work rest (2 * (dim * dim)) l ∙ e .work-is in
     let t = sweptBy a dim shift in
     let v : values ≡ backward (valuesOf dim dim t) = r .values-are ∙ ap (λ (m : List Float). backward (valuesOf dim dim m)) w in
     let o : placesIn (orderPart dim dim scratch) ≡ backward (orderOf dim dim t) =
     ap placesIn (r .order-is ∙ ap (λ (m : List Float). placesOf (backward (orderOf dim dim m))) w)
     ∙ places-back dim (backward (orderOf dim dim t)) (omega arith) (order-low dim t) in
-    record { values-are = v; vectors-are = f ∙ rw (r .work-is, w, v, o) }
+    record { values-are = v; vectors-are = f ∙ rw (r .work-is, w, v, o); sweeps-are = e .sweeps-are }
 
 -- ---- the results
 
@@ -145,7 +147,7 @@ module _ (a : List Float) (dim : ℕ) where
       let k = side-tall dim dim h in
       rw (le-ltb dim dim h, k .0, k .1, ← shifted-planes a dim)
 
-  pub values-made : {values values' : List Float} (vectors : List Float) {shift : Float} → shift ≡ shiftOf a dim → HermitianFactored a dim shift values vectors
+  pub values-made : {values values' : List Float} (vectors : List Float) {shift : Float} {n : Sweeps} → shift ≡ shiftOf a dim → HermitianFactored a dim shift n values vectors
       → values' ≡ numbersOf (length values) (λ j. sub binary64 (getD values j nan) shift) → values' ≡ hermitianValues a dim
   unfolding hermitianValues
   values-made {values} {values'} vectors {shift} e p h =
@@ -159,7 +161,7 @@ module _ (a : List Float) (dim : ℕ) where
       (numbers-same dim (λ j. sub binary64 (getD (backward s) j nan) (shiftOf a dim)) (λ j. sub binary64 (getD s (dim - 1 - j) nan) (shiftOf a dim))
       (λ j i. ap (λ (x : Float). sub binary64 x (shiftOf a dim)) (backward-at nan s j (omega arith) ∙ ap (λ (m : ℕ). getD s (m - 1 - j) nan) l)))
 
-  pub vectors-made : (values : List Float) {vectors : List Float} {shift : Float} → shift ≡ shiftOf a dim → HermitianFactored a dim shift values vectors → vectors ≡ hermitianVectors a dim
+  pub vectors-made : (values : List Float) {vectors : List Float} {shift : Float} {n : Sweeps} → shift ≡ shiftOf a dim → HermitianFactored a dim shift n values vectors → vectors ≡ hermitianVectors a dim
   unfolding hermitianVectors
   vectors-made values {vectors} {shift} e p =
       let t = sweptBy a dim (shiftOf a dim) in
@@ -167,3 +169,12 @@ module _ (a : List Float) (dim : ℕ) where
       let o = orderOf dim dim t in
       let q : vectors ≡ directionsOf t (backward s) (backward o) dim dim false = rw e at (p .vectors-are) in
       q ∙ directions-backward t s o dim (length-values dim t) (length-orderOf dim t) ∙ rw u-is
+
+  pub sweeps-made : (values vectors : List Float) {shift : Float} {n : Sweeps} → shift ≡ shiftOf a dim → HermitianFactored a dim shift n values vectors
+      → n ≡ hermitianSweeps a dim
+  unfolding hermitianSweeps
+  sweeps-made values vectors {shift} {n} e p =
+      p .sweeps-are
+      ∙ ap (λ (x : Float). sweptEnd a dim x .sweeps) e
+      ∙ ap (λ (l : List Float). swept dim dim l .sweeps) (shifted-planes a dim)
+      ∙ sweeps-tall (shiftedOf a dim) dim dim (omega arith)

@@ -14,7 +14,10 @@ use Rattle.complex.specs.Zeros.{zeros, zeroed}
 use Rattle.svd_load.specs.Numbers.{numbersOf}
 use Rattle.svd_columns.specs.Columns.{inColumns}
 use Rattle.values.specs.Lists.{allFinite}
-use Rattle.svd.specs.Svd.{uOf, sOf}
+use Rattle.svd_sweeps.specs.declared.Sweeps.{Sweeps}
+use Rattle.factored.specs.declared.Factored.{Factored}
+use Rattle.factored.specs.Factored.{keptSweeps}
+use Rattle.svd.specs.Svd.{uOf, sOf, svdSweeps}
 use Rattle.hermitian_eigen.specs.Shifted.{shiftOf, shiftedOf}
 
 -- ---- the refusals, in the paper's order
@@ -45,6 +48,10 @@ hermitianValues a dim = numbersOf dim (λ j. sub binary64 (getD (sOf (shiftedOf 
 unfoldable pub hermitianVectors : List Float → ℕ → List Float
 hermitianVectors a dim = cellsOf (dim * dim) (inColumns dim (λ j r. cellAt (uOf (shiftedOf a dim) dim dim) ((dim - 1 - j) * dim + r)))
 
+-- how the sweeps on the shifted matrix went
+unfoldable pub hermitianSweeps : List Float → ℕ → Sweeps
+hermitianSweeps a dim = svdSweeps (shiftedOf a dim) dim dim
+
 -- ---- the answer
 
 unfoldable pub finiteResults : List Float → List Float → Bool
@@ -57,12 +64,13 @@ hermitianEnd values vectors = refuse (not (finiteResults values vectors)) (9, 0)
 unfoldable pub hermitianAnswer : List Float → ℕ → ℕ → ℕ → ℕ → Reply
 hermitianAnswer a dim values vectors scratch = andThen (hermitianTests a dim values vectors scratch) (hermitianEnd (hermitianValues a dim) (hermitianVectors a dim))
 
--- the answer, and what values, vectors and scratch hold at the end
-pub record Eigen (a : List Float) (dim : ℕ) (values vectors scratch : List Float) (r : Answer) (values' vectors' scratch' : List Float) : Type 0 where
-  pub answer : paper r ≡ hermitianAnswer a dim (length values) (length vectors) (length scratch)
-  pub values-are : values' ≡ atEnd (paper r .0) (hermitianValues a dim ++ drop dim values) (zeroed dim values) values
-  pub vectors-are : vectors' ≡ atEnd (paper r .0) (hermitianVectors a dim ++ drop (needVectors dim) vectors) (zeroed (needVectors dim) vectors) vectors
-  pub scratch-is : scratch' ≡ ifWorked (paper r .0) (zeroed (hermitianScratch dim) scratch) scratch
+-- the answer, the sweeps, and what values, vectors and scratch hold at the end
+pub record Eigen (a : List Float) (dim : ℕ) (values vectors scratch : List Float) (r : Factored) (values' vectors' scratch' : List Float) : Type 0 where
+  pub answer : paper (r .answer) ≡ hermitianAnswer a dim (length values) (length vectors) (length scratch)
+  pub values-are : values' ≡ atEnd (paper (r .answer) .0) (hermitianValues a dim ++ drop dim values) (zeroed dim values) values
+  pub vectors-are : vectors' ≡ atEnd (paper (r .answer) .0) (hermitianVectors a dim ++ drop (needVectors dim) vectors) (zeroed (needVectors dim) vectors) vectors
+  pub scratch-is : scratch' ≡ ifWorked (paper (r .answer) .0) (zeroed (hermitianScratch dim) scratch) scratch
+  pub sweeps-are : r .sweeps ≡ keptSweeps (r .answer) (hermitianSweeps a dim)
 
 -- ---- the steps
 
@@ -79,8 +87,9 @@ pub record HermitianFinished (values vectors : List Float) (r : Answer) (values'
   pub values-are : values' ≡ ifDone (paper r .0) values (zeros (length values))
   pub vectors-are : vectors' ≡ ifDone (paper r .0) vectors (zeros (length vectors))
 
-pub record HermitianWorked (a : List Float) (dim : ℕ) (r : Answer) (values vectors scratch : List Float) : Type 0 where
-  pub answer : paper r ≡ hermitianEnd (hermitianValues a dim) (hermitianVectors a dim)
-  pub values-are : values ≡ ifDone (paper r .0) (hermitianValues a dim) (zeros dim)
-  pub vectors-are : vectors ≡ ifDone (paper r .0) (hermitianVectors a dim) (zeros (needVectors dim))
+pub record HermitianWorked (a : List Float) (dim : ℕ) (r : Factored) (values vectors scratch : List Float) : Type 0 where
+  pub answer : paper (r .answer) ≡ hermitianEnd (hermitianValues a dim) (hermitianVectors a dim)
+  pub values-are : values ≡ ifDone (paper (r .answer) .0) (hermitianValues a dim) (zeros dim)
+  pub vectors-are : vectors ≡ ifDone (paper (r .answer) .0) (hermitianVectors a dim) (zeros (needVectors dim))
   pub scratch-is : scratch ≡ zeros (hermitianScratch dim)
+  pub sweeps-are : r .sweeps ≡ keptSweeps (r .answer) (hermitianSweeps a dim)

@@ -8,6 +8,8 @@ use lib.Ieee.{Float}
 use Rattle.svd_load.specs.Loading.{planesOf}
 use Rattle.stable_order.specs.Places.{placesOf}
 use Rattle.svd_columns.specs.Columns.{directionsOf}
+use Rattle.svd_sweeps.specs.declared.Sweeps.{Sweeps}
+use Rattle.svd_sweeps.specs.Sweeping.{State}
 use Rattle.svd_thin.specs.Thin.{swept, orderOf, valuesOf, orderPart}
 use Rattle.hermitian_eigen.specs.Shifted.{shiftedAt}
 use Rattle.hermitian_eigen.specs.Backward.{backward}
@@ -18,12 +20,20 @@ pub record Rising (dim : ℕ) (work values scratch : List Float) : Type 0 where
   pub work-is : take (2 * (dim * dim)) scratch ≡ work
   pub order-is : orderPart dim dim scratch ≡ placesOf (backward (orderOf dim dim work))
 
--- the matrix that is shifted by `shift`, after the sweeps
+-- the end of the sweeps on the matrix that is shifted by `shift`, and the matrix there
+abbrev pub sweptEnd : List Float → ℕ → Float → State
+sweptEnd a dim shift = swept dim dim (planesOf (dim * dim) (shiftedAt shift a dim))
+
 abbrev pub sweptBy : List Float → ℕ → Float → List Float
-sweptBy a dim shift = swept dim dim (planesOf (dim * dim) (shiftedAt shift a dim)) .work
+sweptBy a dim shift = sweptEnd a dim shift .work
+
+pub record HermitianSwept (a : List Float) (dim : ℕ) (shift : Float) (r : Sweeps) (work : List Float) : Type 0 where
+  pub work-is : work ≡ sweptBy a dim shift
+  pub sweeps-are : r ≡ sweptEnd a dim shift .sweeps
 
 -- its values and directions, rising
-pub record HermitianFactored (a : List Float) (dim : ℕ) (shift : Float) (values vectors : List Float) : Type 0 where
+pub record HermitianFactored (a : List Float) (dim : ℕ) (shift : Float) (r : Sweeps) (values vectors : List Float) : Type 0 where
   pub values-are : values ≡ backward (valuesOf dim dim (sweptBy a dim shift))
   pub vectors-are : vectors
       ≡ directionsOf (sweptBy a dim shift) (backward (valuesOf dim dim (sweptBy a dim shift))) (backward (orderOf dim dim (sweptBy a dim shift))) dim dim false
+  pub sweeps-are : r ≡ sweptEnd a dim shift .sweeps

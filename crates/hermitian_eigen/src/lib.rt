@@ -3,6 +3,8 @@
 // part of the result, so the sweeps keep none.
 use answers::Answer;
 use complex::Complex;
+use factored::Factored;
+use svd_sweeps::Sweeps;
 ghost use mathlib.Core.Path.{_≡_};
 ghost use mathlib.Core.Bool.{false};
 ghost use Prim.Native.Nat.{_*_, _<_, _≤_};
@@ -13,10 +15,10 @@ ghost use Rattle.svd_load.specs.Numbers.{numbersOf};
 ghost use Rattle.svd_load.specs.Loading.{planesOf, planesTo};
 ghost use Rattle.stable_order.specs.Places.{Places, placesIn};
 ghost use Rattle.svd_columns.specs.Columns.{directionsOf};
-ghost use Rattle.svd_thin.specs.Thin.{swept, orderPart, Lent};
+ghost use Rattle.svd_thin.specs.Thin.{orderPart, Lent};
 ghost use Rattle.hermitian_eigen.specs.Shifted.{peakTo, shiftOf, shiftedCell, shiftedAt};
 ghost use Rattle.hermitian_eigen.specs.Backward.{backward};
-ghost use Rattle.hermitian_eigen.specs.Steps.{Rising, HermitianFactored};
+ghost use Rattle.hermitian_eigen.specs.Steps.{Rising, HermitianSwept, HermitianFactored};
 ghost use Rattle.hermitian_eigen.specs.Hermitian.{hermitianTests, finiteResults, HermitianExact, HermitianFinished, HermitianWorked, Eigen};
 
 // The largest modulus of c cells, at least +0.0.
@@ -73,13 +75,13 @@ fn load_shifted(matrix: &[f64], dim: usize, shift: f64, work: &mut [f64])
     }
 }
 
-// The shifted matrix after the sweeps, as the SVD has it.
-fn sweep(matrix: &[f64], dim: usize, shift: f64, work: &mut [f64])
+// The shifted matrix after the sweeps, as the SVD has it, and how they went.
+fn sweep(matrix: &[f64], dim: usize, shift: f64, work: &mut [f64]) -> Sweeps
     requires { ⌜ (dim ≤ 64) × (length (now matrix) ≡ 2 * (dim * dim)) × (length (now work) ≡ 2 * (dim * dim)) ⌝ }
-    ensures { λ _. ⌜ now (work .exit) ≡ swept dim dim (planesOf (dim * dim) (shiftedAt shift (now (matrix .entry)) dim)) .work ⌝ }
+    ensures { λ r. ⌜ HermitianSwept (now (matrix .entry)) dim shift r (now (work .exit)) ⌝ }
 {
     load_shifted(matrix, dim, shift, work);
-    svd_sweeps::settle_alone(work, dim, dim);
+    svd_sweeps::settle_alone(work, dim, dim)
 }
 
 // The list backward, in place.
@@ -134,14 +136,15 @@ fn factor(
     values: &mut [f64],
     vectors: &mut [f64],
     scratch: &mut [f64],
-)
+) -> Sweeps
     requires { ⌜ HermitianExact dim (length (now matrix)) (length (now values)) (length (now vectors)) (length (now scratch)) ⌝ }
-    ensures { λ _. ⌜ HermitianFactored (now (matrix .entry)) dim shift (now (values .exit)) (now (vectors .exit)) ⌝ }
+    ensures { λ r. ⌜ HermitianFactored (now (matrix .entry)) dim shift r (now (values .exit)) (now (vectors .exit)) ⌝ }
 {
     let w = 2 * (dim * dim);
-    sweep(matrix, dim, shift, &mut scratch[..w]);
+    let sweeps = sweep(matrix, dim, shift, &mut scratch[..w]);
     rank_rising(dim, values, vectors, scratch);
     write_vectors(scratch, values, dim, vectors);
+    sweeps
 }
 
 // Each value less the shift.
@@ -182,15 +185,16 @@ fn work(
     values: &mut [f64],
     vectors: &mut [f64],
     scratch: &mut [f64],
-) -> Answer
+) -> Factored
     requires { ⌜ HermitianExact dim (length (now matrix)) (length (now values)) (length (now vectors)) (length (now scratch)) ⌝ }
     ensures { λ r. ⌜ HermitianWorked (now (matrix .entry)) dim r (now (values .exit)) (now (vectors .exit)) (now (scratch .exit)) ⌝ }
 {
     let shift = shift_of(matrix, dim);
-    factor(matrix, dim, shift, values, vectors, scratch);
+    let sweeps = factor(matrix, dim, shift, values, vectors, scratch);
     lower(values, shift);
     complex::zero_first(scratch, scratch.len());
-    finish(values, vectors)
+    let answer = finish(values, vectors);
+    factored::answered(answer, sweeps)
 }
 
 // Every refusal that comes before the work.
@@ -219,20 +223,21 @@ fn check(matrix: &[f64], dim: usize, values: usize, vectors: usize, scratch: usi
     components::check_components(matrix)
 }
 
-// The eigenvalues of a Hermitian matrix of side dim, rising, and its eigenvectors, one to a column.
+// The eigenvalues of a Hermitian matrix of side dim, rising, and its eigenvectors, one to a column; and how
+// the sweeps went.
 pub fn hermitian_eigen(
     matrix: &[f64],
     dim: usize,
     values: &mut [f64],
     vectors: &mut [f64],
     scratch: &mut [f64],
-) -> Answer
+) -> Factored
     ensures { λ r. ⌜ Eigen (now (matrix .entry)) dim (now (values .entry)) (now (vectors .entry)) (now (scratch .entry)) r
         (now (values .exit)) (now (vectors .exit)) (now (scratch .exit)) ⌝ }
 {
     let answer = check(matrix, dim, values.len(), vectors.len(), scratch.len());
     let Answer::Done = answer else {
-        return answer;
+        return factored::refused(answer);
     };
     let for_vectors = 2 * (dim * dim);
     let for_scratch = 6 * (dim * dim) + 2 * dim;

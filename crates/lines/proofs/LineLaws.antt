@@ -1,5 +1,6 @@
--- Laws of the lines: how long each is, a turn of each loop. Assumes nothing.
+-- Laws of the lines: how long each is, a step of each loop. Assumes nothing.
 use mathlib.Core.Path.{_≡_, ap}
+use mathlib.Core.Bool.{Bool, true, false}
 use mathlib.Core.List.{List, [], _∷_, _++_}
 use Prim.Native.Nat.{ℕ, zero, suc, _+_, _-_, _*_, _≤_, _<_}
 use native.Mathlib.Numerals.{add-one}
@@ -7,9 +8,9 @@ use native.Mathlib.Omega.{arith}
 use lib.ListN.{length, getD, length-append}
 use lib.Ieee.{Float, nan, binary64, toBits}
 use Rattle.answers.specs.Paper.{Reply}
-use Rattle.texts.specs.Text.{Puts, hex, itemText, line, pairLine}
-use Rattle.texts.proofs.TextLaws.{puts-then, puts-as, puts-none, length-puts, length-hex, length-item, length-line, length-pair}
-use Rattle.lines.specs.Lines.{cutWord, sideWord, valueWord, endWord, refusedWord, blank, refusedLine, cutLine, valueLine, items, sideLine, valueLines, listing}
+use Rattle.texts.specs.Text.{Puts, hex, itemText, pairLine}
+use Rattle.texts.proofs.TextLaws.{puts-then, puts-as, puts-none, length-puts, length-hex, length-item, length-pair}
+use Rattle.lines.specs.Lines.{cutWord, sideWord, valueWord, endWord, refusedWord, blank, refusedLine, cutLine, valueLine, items, sideLine, valueLines, quietText, endLine, listing}
 
 pub length-items : (m : ℕ) (l : List ℕ) → length (items m l) ≤ 21 * m
 unfolding items
@@ -84,22 +85,39 @@ length-side l =
     let w = sideWord in
     omega (arith, length-append (w ++ items (length l) l) (10 ∷ []), length-append w (items (length l) l), length-items (length l) l)
 
-pub length-listing : (n k rows cols : ℕ) (side : List ℕ) (values : List Float) → length (listing n k rows cols side values) ≤ 118 + 21 * length side + 64 * length values
+length-quiet : (quiet : Bool) → length (quietText quiet) ≤ 5
+unfolding quietText
+length-quiet true = omega arith
+length-quiet false = omega arith
+
+pub length-end : (count sweeps : ℕ) (quiet : Bool) → length (endLine count sweeps quiet) ≤ 50
+unfolding endLine
+length-end count sweeps quiet =
+    omega (
+      arith,
+      length-append (itemText endWord count ++ itemText blank sweeps) (quietText quiet),
+      length-append (itemText endWord count) (itemText blank sweeps),
+      length-item endWord count,
+      length-item blank sweeps,
+      length-quiet quiet,
+    )
+
+pub length-listing : (n k rows cols : ℕ) (side : List ℕ) (values : List Float) (sweeps : ℕ) (quiet : Bool)
+    → length (listing n k rows cols side values sweeps quiet) ≤ 143 + 21 * length side + 64 * length values
 unfolding listing
-length-listing n k rows cols side values =
+length-listing n k rows cols side values sweeps quiet =
     let u = cutLine n k rows cols in
     let v = sideLine side in
     let w = valueLines (length values) values in
-    let e = endWord in
     omega (
       arith,
-      length-append (u ++ v ++ w) (line e (length values)),
+      length-append (u ++ v ++ w) (endLine (length values) sweeps quiet),
       length-append (u ++ v) w,
       length-append u v,
       length-cut n k rows cols,
       length-side side,
       length-values (length values) values,
-      length-line e (length values),
+      length-end (length values) sweeps quiet,
     )
 
 pub length-refused : (r : Reply) → length (refusedLine r) ≤ 50

@@ -1,10 +1,11 @@
 -- What `cutprint` prints, line by line, as lists of bytes. Assumes nothing.
+use mathlib.Core.Bool.{Bool, true, false}
 use mathlib.Core.List.{[], List, _∷_, _++_}
 use Prim.Native.Nat.{ℕ, zero, suc}
 use lib.Ieee.{Float, nan, binary64, toBits}
 use lib.ListN.{length, getD}
 use Rattle.answers.specs.Paper.{Reply}
-use Rattle.texts.specs.Text.{hex, itemText, line, pairLine}
+use Rattle.texts.specs.Text.{hex, itemText, pairLine}
 
 -- the words as bytes: `cut `, `side`, `value `, `end `, `refused `, and a blank
 abbrev pub cutWord : List ℕ
@@ -57,7 +58,18 @@ unfolding valueLine
 valueLines zero l = []
 valueLines (suc m) l = valueLines m l ++ valueLine m (toBits binary64 (getD l m nan))
 
--- all that is printed of a cut that is answered 0: the last line says how many values there are
-unfoldable pub listing : ℕ → ℕ → ℕ → ℕ → List ℕ → List Float → List ℕ
-unfolding cutLine sideLine valueLines line
-listing n k rows cols side values = cutLine n k rows cols ++ sideLine side ++ valueLines (length values) values ++ line endWord (length values)
+-- ` yes` or ` no`, with the line's end
+unfoldable pub quietText : Bool → List ℕ
+quietText true = 32 ∷ 121 ∷ 101 ∷ 115 ∷ 10 ∷ []
+quietText false = 32 ∷ 110 ∷ 111 ∷ 10 ∷ []
+
+-- `end count sweeps yes` or `end count sweeps no`: how many values there are, how many sweeps were begun, whether the last was quiet
+unfoldable pub endLine : ℕ → ℕ → Bool → List ℕ
+unfolding itemText quietText
+endLine count sweeps quiet = itemText endWord count ++ itemText blank sweeps ++ quietText quiet
+
+-- all that is printed of a cut that is answered 0
+unfoldable pub listing : ℕ → ℕ → ℕ → ℕ → List ℕ → List Float → ℕ → Bool → List ℕ
+unfolding cutLine sideLine valueLines endLine
+listing n k rows cols side values sweeps quiet =
+    cutLine n k rows cols ++ sideLine side ++ valueLines (length values) values ++ endLine (length values) sweeps quiet

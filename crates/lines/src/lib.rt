@@ -6,7 +6,7 @@ ghost use Prim.Native.Nat.{_+_, _*_, _≤_};
 ghost use lib.ListN.{length};
 ghost use Rattle.answers.specs.Paper.{paper};
 ghost use Rattle.texts.specs.Text.{Puts};
-ghost use Rattle.lines.specs.Lines.{refusedLine, cutLine, valueLine, items, sideLine, valueLines, listing};
+ghost use Rattle.lines.specs.Lines.{refusedLine, cutLine, valueLine, items, sideLine, valueLines, quietText, endLine, listing};
 
 // Puts the one line of a refusal.
 pub fn put_refused(out: &mut [u8], answer: Answer) -> usize
@@ -76,6 +76,27 @@ pub fn put_values(out: &mut [u8], at: usize, values: &[f64]) -> usize
     next
 }
 
+// Puts the end of the last line: whether the last sweep was quiet.
+fn put_quiet(out: &mut [u8], at: usize, quiet: bool) -> usize
+    requires { ⌜ at + 5 ≤ length (now out) ⌝ }
+    ensures { λ r. ⌜ Puts at (quietText quiet) (now (out .entry)) r (now (out .exit)) ⌝ }
+{
+    if quiet {
+        return texts::put_text(out, at, b" yes\n");
+    }
+    texts::put_text(out, at, b" no\n")
+}
+
+// Puts the last line: how many values there are, how many sweeps were begun, and whether the last one was quiet.
+pub fn put_end(out: &mut [u8], at: usize, count: usize, sweeps: usize, quiet: bool) -> usize
+    requires { ⌜ at + 50 ≤ length (now out) ⌝ }
+    ensures { λ r. ⌜ Puts at (endLine count sweeps quiet) (now (out .entry)) r (now (out .exit)) ⌝ }
+{
+    let past_count = texts::put_item(out, at, b"end ", count);
+    let past_sweeps = texts::put_item(out, past_count, b" ", sweeps);
+    put_quiet(out, past_sweeps, quiet)
+}
+
 // Puts the whole printout of a cut that is answered 0.
 pub fn put_listing(
     out: &mut [u8],
@@ -85,12 +106,14 @@ pub fn put_listing(
     cols: usize,
     side: &[usize],
     values: &[f64],
+    sweeps: usize,
+    quiet: bool,
 ) -> usize
-    requires { ⌜ 118 + 21 * length (now side) + 64 * length (now values) ≤ length (now out) ⌝ }
-    ensures { λ r. ⌜ Puts 0 (listing n k rows cols (now (side .entry)) (now (values .entry))) (now (out .entry)) r (now (out .exit)) ⌝ }
+    requires { ⌜ 143 + 21 * length (now side) + 64 * length (now values) ≤ length (now out) ⌝ }
+    ensures { λ r. ⌜ Puts 0 (listing n k rows cols (now (side .entry)) (now (values .entry)) sweeps quiet) (now (out .entry)) r (now (out .exit)) ⌝ }
 {
     let second = put_cut(out, 0, n, k, rows, cols);
     let third = put_side(out, second, side);
     let last = put_values(out, third, values);
-    texts::put_line(out, last, b"end ", values.len())
+    put_end(out, last, values.len(), sweeps, quiet)
 }

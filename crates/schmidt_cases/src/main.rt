@@ -1,8 +1,19 @@
 // Replays the published Rust's answers of the cut values. Standard input is a text of hexadecimal words: a case's kind and then the
 // arguments of the call in order. A slice that is read is its length and its words; a slice that is lent is its length alone and
-// holds 3.0 everywhere. Each case writes one line of words: the answer's number and place, the count, and the lent slices as they
-// stand afterwards.
+// holds 3.0 everywhere. Each case writes one line of words: the answer's number and place, the count, the sweeps begun, 1 where
+// the last was quiet and else 0, and the lent slices as they stand afterwards.
 //   1 state n list cap out scratch    dense_schmidt_values
+use svd_sweeps::Sweeps;
+
+// Writes how the sweeps went: those begun, and 1 where the last one was quiet.
+fn print_sweeps(s: Sweeps) {
+    replay::print_word(replay::word_of(s.begun));
+    if s.quiet {
+        replay::print_word(1);
+    } else {
+        replay::print_word(0);
+    }
+}
 
 fn values(
     state: &[f64],
@@ -14,8 +25,10 @@ fn values(
 ) {
     let r = cut_values::dense_schmidt_values(state, n, list, cap, out, scratch);
     let answer = r.answer;
+    let sweeps = r.sweeps;
     replay::print_answer(answer);
     replay::print_word(replay::word_of(r.count));
+    print_sweeps(sweeps);
     replay::print_floats(out);
     replay::print_floats(scratch);
 }

@@ -24,10 +24,14 @@ use Rattle.svd_load.proofs.NumbersLaws.{length-numbers}
 use Rattle.svd_load.specs.Loading.{planesOf}
 use Rattle.values.specs.Lists.{allFinite}
 use Rattle.svd_sweeps.specs.declared.Sweeps.{Sweeps}
+use Rattle.svd_sweeps.specs.Sweeping.{noSweeps}
+use Rattle.factored.specs.declared.Factored.{Factored}
+use Rattle.factored.specs.Factored.{keptSweeps}
+use Rattle.factored.proofs.Laws.{kept-none, kept-by}
 use Rattle.eigen_pair.specs.CellPlanes.{asPlanes}
 use Rattle.eigen_pair.proofs.CellPlanesLaws.{planes-same}
 use Rattle.eigen_sweeps.specs.Sweeping.{EigenState, eigenState, diagonal, eigenSettled}
-use Rattle.spectra.specs.Eigenvalues.{eigenvalue, eigenvaluesOf, eigenReply, squareRefusal, eigenAnswer}
+use Rattle.spectra.specs.Eigenvalues.{eigenvalue, eigenvaluesOf, eigenvaluesSweeps, eigenReply, squareRefusal, eigenAnswer}
 use Rattle.spectra.specs.Outcomes.{Given, SpectrumWorked, Eigenvalues}
 
 -- ---- the refusals
@@ -134,6 +138,11 @@ spectrum-made a n old {w1} {w2} e f g =
     let h : w2 ≡ eigenSettled n (planesOf (n * n) (cellAt a)) .work = ap (λ (x : EigenState). x .work) f ∙ ap (λ (l : List Float). eigenSettled n l .work) e in
     g ∙ ap (λ (l : List Float). filled n (diagonal l n) old) h
 
+pub spectrum-sweeps : (a : List Float) (n : ℕ) {w1 w2 : List Float} {s : Sweeps}
+    → w1 ≡ planesOf (n * n) (cellAt a) → eigenState w2 s ≡ eigenSettled n w1 → s ≡ eigenvaluesSweeps a n
+unfolding eigenvaluesSweeps
+spectrum-sweeps a n e f = ap (λ (x : EigenState). x .sweeps) f ∙ ap (λ (l : List Float). eigenSettled n l .sweeps) e
+
 -- work that was zeroed whole does not say what it held
 pub zeroed-other : (m : ℕ) (l l' : List Float) → length l ≤ m → length l' ≤ m → zeroed m l ≡ zeroed m l'
 unfolding zeroed
@@ -154,40 +163,47 @@ pub past-is : (n : ℕ) (f : ℕ → Float) (old : List Float) → drop n (fille
 unfolding filled
 past-is n f old = drop-at (numbersOf n f) (drop n old) n (length-numbers n f)
 
-module _ (a : List Float) (n : ℕ) (out scratch mid scratch′ : List Float) (written : mid ≡ filled n (eigenvalue a n) out)
-    (cleared : scratch′ ≡ zeroed (2 * (n * n)) scratch) (b : Bool) (finite : b ≡ allFinite (take n mid)) where
+module _ (a : List Float) (n : ℕ) (out scratch mid scratch′ : List Float) (sweeps : Sweeps) (written : mid ≡ filled n (eigenvalue a n) out)
+    (cleared : scratch′ ≡ zeroed (2 * (n * n)) scratch) (swept : sweeps ≡ eigenvaluesSweeps a n) (b : Bool) (finite : b ≡ allFinite (take n mid)) where
   all-is : b ≡ allFinite (eigenvaluesOf a n)
   all-is = rw (written, front-is n (eigenvalue a n) out) at finite
 
-  pub worked-done : b ≡ true → SpectrumWorked a n out scratch Done mid scratch′
-  worked-done t =
+  pub worked-done : b ≡ true → (q : Factored) → (q .answer ≡ Done) × (q .sweeps ≡ keptSweeps Done sweeps) → SpectrumWorked a n out scratch q mid scratch′
+  worked-done t q i =
       let r = reply-0 a n (sym all-is ∙ t) in
-      record { answer = sym r; values = rw r written; cleared = cleared }
+      record { answer = rw (i .0) (sym r); values = rw r written; cleared = cleared; sweeps-are = kept-by (i .0) swept (i .1) }
 
-  pub worked-infinite : b ≡ false → (end : List Float) → end ≡ zeroed n mid → SpectrumWorked a n out scratch NotFinite end scratch′
+  pub worked-infinite : b ≡ false → (end : List Float) → end ≡ zeroed n mid → (q : Factored) → (q .answer ≡ NotFinite) × (q .sweeps ≡ noSweeps)
+      → SpectrumWorked a n out scratch q end scratch′
   unfolding zeroed
-  worked-infinite t end e =
+  worked-infinite t end e q i =
       let r = reply-9 a n (sym all-is ∙ t) in
       let p : drop n mid ≡ drop n out = rw written (past-is n (eigenvalue a n) out) in
-      record { answer = sym r; values = rw r (rw p at e); cleared = cleared }
+      record { answer = rw (i .0) (sym r); values = rw r (rw p at e); cleared = cleared; sweeps-are = kept-by (i .0) swept (i .1) }
 
 -- ---- the entry point
 
 -- refused: nothing lent changes
-pub eigenvalues-refused : (a : List Float) (n : ℕ) (out scratch : List Float) (r : Answer) → paper r ≡ squareRefusal a n (length out) (length scratch)
-    → (paper r .0 ≡ 0 → ⊥) → Eigenvalues a n out scratch r out scratch
-eigenvalues-refused a n out scratch r e h =
+pub eigenvalues-refused : (a : List Float) (n : ℕ) (out scratch : List Float) (r : Answer) (q : Factored) → (q .answer ≡ r) × (q .sweeps ≡ noSweeps)
+    → paper r ≡ squareRefusal a n (length out) (length scratch) → (paper r .0 ≡ 0 → ⊥) → Eigenvalues a n out scratch q out scratch
+eigenvalues-refused a n out scratch r q i e h =
     let x = squareRefusal a n (length out) (length scratch) in
     let m : x .0 ≡ 0 → ⊥ = λ z. h (ap (λ (y : Reply). y .0) e ∙ z) in
     let s = sym (stays x (eigenReply a n) m) in
     let l = square-small a n (length out) (length scratch) in
-    record { answer = e ∙ sym s; values = rw s (end-old _ _ _ _ m l); cleared = rw s (worked-old _ _ _ m l) }
+    record {
+      answer = rw (i .0) (e ∙ sym s);
+      values = rw s (end-old _ _ _ _ m l);
+      cleared = rw s (worked-old _ _ _ m l);
+      sweeps-are = rw (i .0) (kept-none r (eigenvaluesSweeps a n) h (i .1));
+    }
 
-pub eigenvalues-worked : (a : List Float) (n : ℕ) (out scratch : List Float) (r : Answer) (out′ scratch′ : List Float)
+pub eigenvalues-worked : (a : List Float) (n : ℕ) (out scratch : List Float) (r : Factored) (out′ scratch′ : List Float)
     → eigenAnswer a n out scratch ≡ eigenReply a n → SpectrumWorked a n out scratch r out′ scratch′ → Eigenvalues a n out scratch r out′ scratch′
 eigenvalues-worked a n out scratch r out′ scratch′ e w =
     record {
       answer = w .answer ∙ sym e;
       values = rw e (w .values ∙ end-worked _ _ _ out (reply-worked a n));
       cleared = rw e (w .cleared ∙ worked-new _ _ scratch (reply-worked a n));
+      sweeps-are = w .sweeps-are;
     }

@@ -4,20 +4,28 @@ use mathlib.Core.List.{List}
 use Prim.Native.Nat.{ℕ}
 use lib.Ieee.{Float}
 use Rattle.answers.proofs.Theorems.{paper-one}
-use Rattle.finish.specs.declared.Kept.{Kept}
-use Rattle.finish.proofs.OutcomeLaws.{kept-same}
-use Rattle.answers.specs.declared.Answer.{Answer}
+use Rattle.factored.specs.declared.Counted.{Counted}
+use Rattle.factored.specs.declared.Factored.{Factored}
+use Rattle.factored.proofs.Laws.{factored-one, counted-one}
 use Rattle.spectra.specs.Density.{DensityValues}
 use Rattle.spectra.specs.Outcomes.{Eigenvalues}
 
--- Only one outcome meets the contract of `schmidt_values_from_density`.
-pub schmidt-values-from-density-one : (rho : List Float) (n : ℕ) (out scratch : List Float) (r r' : Kept) (o o' s s' : List Float)
+-- Only one outcome meets the contract of `schmidt_values_from_density`: its answer, count and sweeps, and every cell of out and scratch.
+pub schmidt-values-from-density-one : (rho : List Float) (n : ℕ) (out scratch : List Float) (r r' : Counted) (o o' s s' : List Float)
     → DensityValues rho n out scratch r o s → DensityValues rho n out scratch r' o' s' → (r ≡ r') × (o ≡ o') × (s ≡ s')
 schmidt-values-from-density-one rho n out scratch r r' o o' s s' x y =
-    (kept-same r r' (paper-one _ _ (x .answer ∙ sym (y .answer))) (x .count ∙ sym (y .count)), x .values ∙ sym (y .values), x .cleared ∙ sym (y .cleared))
+    let e : r .answer ≡ r' .answer = paper-one _ _ (x .answer ∙ sym (y .answer)) in (
+      counted-one r r' e (x .count ∙ sym (y .count)) (x .sweeps-are ∙ rw e (sym (y .sweeps-are))),
+      x .values ∙ sym (y .values),
+      x .cleared ∙ sym (y .cleared),
+    )
 
--- Only one outcome meets the contract of `hermitian_eigenvalues`.
-pub hermitian-eigenvalues-one : (a : List Float) (n : ℕ) (out scratch : List Float) (r r' : Answer) (o o' s s' : List Float)
+-- Only one outcome meets the contract of `hermitian_eigenvalues`: its answer and sweeps, and every cell of out and scratch.
+pub hermitian-eigenvalues-one : (a : List Float) (n : ℕ) (out scratch : List Float) (r r' : Factored) (o o' s s' : List Float)
     → Eigenvalues a n out scratch r o s → Eigenvalues a n out scratch r' o' s' → (r ≡ r') × (o ≡ o') × (s ≡ s')
 hermitian-eigenvalues-one a n out scratch r r' o o' s s' x y =
-    (paper-one r r' (x .answer ∙ sym (y .answer)), x .values ∙ sym (y .values), x .cleared ∙ sym (y .cleared))
+    let e : r .answer ≡ r' .answer = paper-one _ _ (x .answer ∙ sym (y .answer)) in (
+      factored-one r r' e (x .sweeps-are ∙ rw e (sym (y .sweeps-are))),
+      x .values ∙ sym (y .values),
+      x .cleared ∙ sym (y .cleared),
+    )

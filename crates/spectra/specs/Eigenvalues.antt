@@ -10,6 +10,7 @@ use Rattle.complex.specs.Cells.{cellAt, components}
 use Rattle.svd_load.specs.Numbers.{numbersOf}
 use Rattle.svd_load.specs.Loading.{planesOf}
 use Rattle.values.specs.Lists.{allFinite}
+use Rattle.svd_sweeps.specs.declared.Sweeps.{Sweeps}
 use Rattle.eigen_sweeps.specs.Sweeping.{diagonal, eigenSettled}
 
 -- entry i of the diagonal that the sweeps end with
@@ -18,6 +19,10 @@ eigenvalue a n i = diagonal (eigenSettled n (planesOf (n * n) (cellAt a)) .work)
 
 abbrev pub eigenvaluesOf : List Float → ℕ → List Float
 eigenvaluesOf a n = numbersOf n (eigenvalue a n)
+
+-- how the sweeps went
+unfoldable pub eigenvaluesSweeps : List Float → ℕ → Sweeps
+eigenvaluesSweeps a n = eigenSettled n (planesOf (n * n) (cellAt a)) .sweeps
 
 -- 9 where one of them is not finite
 unfoldable pub eigenReply : List Float → ℕ → Reply

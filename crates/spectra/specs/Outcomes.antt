@@ -3,11 +3,12 @@ use mathlib.Core.Path.{_≡_}
 use mathlib.Core.List.{List}
 use Prim.Native.Nat.{ℕ, _*_, _≤_}
 use lib.Ieee.{Float}
-use Rattle.answers.specs.declared.Answer.{Answer}
+use Rattle.factored.specs.declared.Factored.{Factored}
+use Rattle.factored.specs.Factored.{keptSweeps}
 use Rattle.answers.specs.Paper.{paper, ifDone, ifWorked, atEnd}
 use Rattle.complex.specs.Zeros.{zeroed}
 use Rattle.svd_load.specs.Numbers.{filled}
-use Rattle.spectra.specs.Eigenvalues.{eigenvalue, eigenReply, eigenAnswer}
+use Rattle.spectra.specs.Eigenvalues.{eigenvalue, eigenvaluesSweeps, eigenReply, eigenAnswer}
 
 -- the lengths of a call that is not refused
 pub record Given (n a out scratch : ℕ) : Type 0 where
@@ -18,13 +19,15 @@ pub record Given (n a out scratch : ℕ) : Type 0 where
   pub spare : 2 * (n * n) ≤ scratch
 
 -- of a matrix that is not refused
-pub record SpectrumWorked (a : List Float) (n : ℕ) (out scratch : List Float) (r : Answer) (out′ scratch′ : List Float) : Type 0 where
-  pub answer : paper r ≡ eigenReply a n
+pub record SpectrumWorked (a : List Float) (n : ℕ) (out scratch : List Float) (r : Factored) (out′ scratch′ : List Float) : Type 0 where
+  pub answer : paper (r .answer) ≡ eigenReply a n
   pub values : out′ ≡ ifDone (eigenReply a n .0) (filled n (eigenvalue a n) out) (zeroed n out)
   pub cleared : scratch′ ≡ zeroed (2 * (n * n)) scratch
+  pub sweeps-are : r .sweeps ≡ keptSweeps (r .answer) (eigenvaluesSweeps a n)
 
 -- of hermitian_eigenvalues
-pub record Eigenvalues (a : List Float) (n : ℕ) (out scratch : List Float) (r : Answer) (out′ scratch′ : List Float) : Type 0 where
-  pub answer : paper r ≡ eigenAnswer a n out scratch
+pub record Eigenvalues (a : List Float) (n : ℕ) (out scratch : List Float) (r : Factored) (out′ scratch′ : List Float) : Type 0 where
+  pub answer : paper (r .answer) ≡ eigenAnswer a n out scratch
   pub values : out′ ≡ atEnd (eigenAnswer a n out scratch .0) (filled n (eigenvalue a n) out) (zeroed n out) out
   pub cleared : scratch′ ≡ ifWorked (eigenAnswer a n out scratch .0) (zeroed (2 * (n * n)) scratch) scratch
+  pub sweeps-are : r .sweeps ≡ keptSweeps (r .answer) (eigenvaluesSweeps a n)

@@ -1,6 +1,8 @@
 // Spectra of square matrices of complex cells, row-major.
 use answers::Answer;
-use finish::Kept;
+use factored::Counted;
+use factored::Factored;
+use svd_sweeps::Sweeps;
 ghost use mathlib.Core.Path.{_≡_};
 ghost use Prim.Native.Nat.{_*_, _≤_};
 ghost use lib.ListN.{length};
@@ -11,7 +13,7 @@ ghost use Rattle.svd_load.specs.Loading.{planesOf};
 ghost use Rattle.complex.specs.Cells.{cellAt};
 ghost use Rattle.complex.specs.Zeros.{zeroed};
 ghost use Rattle.eigen_pair.specs.CellPlanes.{asPlanes};
-ghost use Rattle.spectra.specs.Eigenvalues.{eigenvalue, squareRefusal};
+ghost use Rattle.spectra.specs.Eigenvalues.{eigenvalue, eigenvaluesSweeps, squareRefusal};
 ghost use Rattle.spectra.specs.Outcomes.{Given, SpectrumWorked, Eigenvalues};
 ghost use Rattle.spectra.specs.Density.{DensityWorked, DensityValues};
 
@@ -59,66 +61,74 @@ fn write_diagonal(work: &[f64], n: usize, out: &mut [f64])
     }
 }
 
-// The eigenvalues of a to the front of out; work is +0.0 at the end.
-fn spectrum(a: &[f64], n: usize, out: &mut [f64], work: &mut [f64])
+// The eigenvalues of a to the front of out, and how the sweeps went; work is +0.0 at the end.
+fn spectrum(a: &[f64], n: usize, out: &mut [f64], work: &mut [f64]) -> Sweeps
     requires { ⌜ Given n (length (now a)) (length (now out)) (length (now work)) × (length (now work) ≡ 2 * (n * n)) ⌝ }
-    ensures { λ _. ⌜ (now (out .exit) ≡ filled n (eigenvalue (now (a .entry)) n) (now (out .entry)))
-        × (now (work .exit) ≡ zeroed (2 * (n * n)) (now (work .entry))) ⌝ }
+    ensures { λ r. ⌜ (now (out .exit) ≡ filled n (eigenvalue (now (a .entry)) n) (now (out .entry)))
+        × (now (work .exit) ≡ zeroed (2 * (n * n)) (now (work .entry))) × (r ≡ eigenvaluesSweeps (now (a .entry)) n) ⌝ }
 {
     load_cells(a, n * n, work);
-    let swept = eigen_sweeps::settle(work, n);
+    let sweeps = eigen_sweeps::settle(work, n);
     write_diagonal(work, n, out);
     complex::zero_first(work, 2 * (n * n));
+    sweeps
 }
 
 // The eigenvalues of a matrix that is not refused: 0 or 9.
-fn work_out(a: &[f64], n: usize, out: &mut [f64], scratch: &mut [f64]) -> Answer
+fn work_out(a: &[f64], n: usize, out: &mut [f64], scratch: &mut [f64]) -> Factored
     requires { ⌜ Given n (length (now a)) (length (now out)) (length (now scratch)) ⌝ }
     ensures { λ r. ⌜ SpectrumWorked (now (a .entry)) n (now (out .entry)) (now (scratch .entry)) r (now (out .exit)) (now (scratch .exit)) ⌝ }
 {
     let need = 2 * (n * n);
-    spectrum(a, n, out, &mut scratch[..need]);
+    let sweeps = spectrum(a, n, out, &mut scratch[..need]);
     if values::all_finite(&out[..n]) {
-        return Answer::Done;
+        return factored::answered(Answer::Done, sweeps);
     }
     complex::zero_first(out, n);
-    Answer::NotFinite
+    factored::refused(Answer::NotFinite)
 }
 
-// The eigenvalues of a Hermitian matrix of side dim, in the order of the diagonal.
-pub fn hermitian_eigenvalues(a: &[f64], dim: usize, out: &mut [f64], scratch: &mut [f64]) -> Answer
+// The eigenvalues of a Hermitian matrix of side dim, in the order of the diagonal, and how the sweeps went.
+pub fn hermitian_eigenvalues(
+    a: &[f64],
+    dim: usize,
+    out: &mut [f64],
+    scratch: &mut [f64],
+) -> Factored
     ensures { λ r. ⌜ Eigenvalues (now (a .entry)) dim (now (out .entry)) (now (scratch .entry)) r (now (out .exit)) (now (scratch .exit)) ⌝ }
 {
     let answer = square_refusal(a, dim, out.len(), scratch.len());
     let Answer::Done = answer else {
-        return answer;
+        return factored::refused(answer);
     };
     work_out(a, dim, out, scratch)
 }
 
 // The Schmidt values of a density that is not refused, over work of exactly the needed length: 0, 8 or 9.
-fn density_work(rho: &[f64], n: usize, out: &mut [f64], work: &mut [f64]) -> Kept
+fn density_work(rho: &[f64], n: usize, out: &mut [f64], work: &mut [f64]) -> Counted
     requires { ⌜ Given n (length (now rho)) (length (now out)) (length (now work)) × (length (now work) ≡ 2 * (n * n)) ⌝ }
     ensures { λ r. ⌜ DensityWorked (now (rho .entry)) n (now (out .entry)) (now (work .entry)) r (now (out .exit)) (now (work .exit)) ⌝ }
 {
-    spectrum(rho, n, out, work);
+    let sweeps = spectrum(rho, n, out, work);
     let kept = weights::finish_weights(n, out, work);
     complex::zero_first(work, 2 * (n * n));
-    kept
+    let answer = kept.answer;
+    factored::answered_count(answer, kept.count, sweeps)
 }
 
-// The Schmidt values from a reduced density matrix of side dim: the roots of its eigenvalues above the floor, finished.
+// The Schmidt values from a reduced density matrix of side dim: the roots of its eigenvalues above the floor, finished;
+// and how the sweeps went.
 pub fn schmidt_values_from_density(
     rho: &[f64],
     dim: usize,
     out: &mut [f64],
     scratch: &mut [f64],
-) -> Kept
+) -> Counted
     ensures { λ r. ⌜ DensityValues (now (rho .entry)) dim (now (out .entry)) (now (scratch .entry)) r (now (out .exit)) (now (scratch .exit)) ⌝ }
 {
     let answer = square_refusal(rho, dim, out.len(), scratch.len());
     let Answer::Done = answer else {
-        return Kept { answer, count: 0 };
+        return factored::refused_count(answer);
     };
     let need = 2 * (dim * dim);
     density_work(rho, dim, out, &mut scratch[..need])

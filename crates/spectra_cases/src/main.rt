@@ -1,11 +1,41 @@
 // Replays the published Rust's answers of the spectra. Standard input is a text of hexadecimal words: a case's kind and then the
 // arguments of the call in order. A slice that is read is its length and its words; a slice that is lent is its length alone and
-// holds 3.0 everywhere. Each case writes one line of words: the answer's number and place, the count where the call has one, and
-// the lent slices as they stand afterwards.
+// holds 3.0 everywhere. Each case writes one line of words: the answer's number and place, the count where the call has one, but
+// for the finish the sweeps begun and 1 where the last was quiet and else 0, and the lent slices as they stand afterwards.
 //   1 a dim out scratch      hermitian_eigenvalues
 //   2 values out             finish_schmidt_values
 //   3 rho dim out scratch    schmidt_values_from_density
 //   4 matrix dim values vectors scratch    hermitian_eigen
+use factored::Counted;
+use factored::Factored;
+use svd_sweeps::Sweeps;
+
+// Writes how the sweeps went: those begun, and 1 where the last one was quiet.
+fn print_sweeps(s: Sweeps) {
+    replay::print_word(replay::word_of(s.begun));
+    if s.quiet {
+        replay::print_word(1);
+    } else {
+        replay::print_word(0);
+    }
+}
+
+// Writes an answer and how its sweeps went.
+fn print_factored(r: Factored) {
+    let answer = r.answer;
+    let sweeps = r.sweeps;
+    replay::print_answer(answer);
+    print_sweeps(sweeps);
+}
+
+// The same with a count.
+fn print_counted(r: Counted) {
+    let answer = r.answer;
+    let sweeps = r.sweeps;
+    replay::print_answer(answer);
+    replay::print_word(replay::word_of(r.count));
+    print_sweeps(sweeps);
+}
 
 fn print_kept(r: finish::Kept) {
     let answer = r.answer;
@@ -14,19 +44,19 @@ fn print_kept(r: finish::Kept) {
 }
 
 fn eigenvalues(a: &[f64], dim: usize, out: &mut [f64], scratch: &mut [f64]) {
-    replay::print_answer(spectra::hermitian_eigenvalues(a, dim, out, scratch));
+    print_factored(spectra::hermitian_eigenvalues(a, dim, out, scratch));
     replay::print_floats(out);
     replay::print_floats(scratch);
 }
 
 fn from_density(rho: &[f64], dim: usize, out: &mut [f64], scratch: &mut [f64]) {
-    print_kept(spectra::schmidt_values_from_density(rho, dim, out, scratch));
+    print_counted(spectra::schmidt_values_from_density(rho, dim, out, scratch));
     replay::print_floats(out);
     replay::print_floats(scratch);
 }
 
 fn eigen(matrix: &[f64], dim: usize, values: &mut [f64], vectors: &mut [f64], scratch: &mut [f64]) {
-    replay::print_answer(hermitian_eigen::hermitian_eigen(matrix, dim, values, vectors, scratch));
+    print_factored(hermitian_eigen::hermitian_eigen(matrix, dim, values, vectors, scratch));
     replay::print_floats(values);
     replay::print_floats(vectors);
     replay::print_floats(scratch);

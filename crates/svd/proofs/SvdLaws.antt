@@ -18,9 +18,14 @@ use Rattle.complex.proofs.CellLaws.{components-small}
 use Rattle.complex.specs.Zeros.{zeros, zeroed}
 use Rattle.svd_load.specs.Loading.{planesOf, conjugateTransposed}
 use Rattle.values.specs.Lists.{allFinite}
-use Rattle.svd_thin.specs.Thin.{Thin, Lent}
+use Rattle.svd_sweeps.specs.declared.Sweeps.{Sweeps}
+use Rattle.svd_sweeps.specs.Sweeping.{noSweeps}
+use Rattle.svd_thin.specs.Thin.{swept, Thin, Lent}
 use Rattle.svd_thin.proofs.ThinLaws.{side-fits}
-use Rattle.svd.specs.Svd.{sideOf, rowsOf, needU, needVt, svdScratch, svdSizes, svdLengths, svdTests, workOf, directions, vColumns, uOf, sOf, vtOf, finiteFactors, svdEnd, svdAnswer, Svd, SvdExact, SvdFactored, SvdFinished, SvdWorked}
+use Rattle.factored.specs.declared.Factored.{Factored}
+use Rattle.factored.specs.Factored.{keptSweeps}
+use Rattle.factored.proofs.Laws.{kept-none, kept-by}
+use Rattle.svd.specs.Svd.{sideOf, rowsOf, needU, needVt, svdScratch, svdSizes, svdLengths, svdTests, workOf, directions, vColumns, uOf, sOf, vtOf, svdSweeps, finiteFactors, svdEnd, svdAnswer, Svd, SvdExact, SvdFactored, SvdFinished, SvdWorked}
 
 -- ---- the sizes
 
@@ -224,8 +229,34 @@ tall-lent m n a u s vt scratch scratch' h e i =
     let lt : scratch' ≡ 6 * (n * m) + 2 * n = i ∙ rw (k, c) at (e .scratch-is) in
     (record { tall = h; columns = root n m h d; cells = d; s-is = ls; other-is = lv; scratch-is = lt }, lu)
 
-pub wide-made : (a : List Float) (m n : ℕ) {work main s other : List Float} → m < n → work ≡ planesOf (m * n) (conjugateTransposed a m n)
-    → Thin n m true work main s other → SvdFactored a m n other s main
+-- the sweeps of equal work matrices
+sweeps-same : {rows rows' side side' : ℕ} {w w' : List Float} → rows ≡ rows' → side ≡ side' → w ≡ w' → swept rows side w .sweeps ≡ swept rows' side' w' .sweeps
+sweeps-same {rows} {rows'} {side} {side'} {w} {w'} d e f =
+    ap (λ (x : ℕ). swept x side w .sweeps) d ∙ ap (λ (x : ℕ). swept rows' x w .sweeps) e ∙ ap (λ (x : List Float). swept rows' side' x .sweeps) f
+
+work-wide : (a : List Float) (m n : ℕ) → m < n → planesOf (m * n) (conjugateTransposed a m n) ≡ workOf a m n
+unfolding workOf
+work-wide a m n h = rw (lt-ltb m n h)
+
+work-tall : (a : List Float) (m n : ℕ) → n ≤ m → planesOf (n * m) (cellAt a) ≡ workOf a m n
+unfolding workOf
+work-tall a m n h = rw (le-ltb m n h)
+
+-- how the sweeps went, in the wide and in the tall case
+pub sweeps-wide : (a : List Float) (m n : ℕ) → m < n → swept n m (planesOf (m * n) (conjugateTransposed a m n)) .sweeps ≡ svdSweeps a m n
+unfolding svdSweeps
+sweeps-wide a m n h =
+    let k = side-wide m n h in
+    sweeps-same (sym (k .1)) (sym (k .0)) (work-wide a m n h)
+
+pub sweeps-tall : (a : List Float) (m n : ℕ) → n ≤ m → swept m n (planesOf (n * m) (cellAt a)) .sweeps ≡ svdSweeps a m n
+unfolding svdSweeps
+sweeps-tall a m n h =
+    let k = side-tall m n h in
+    sweeps-same (sym (k .1)) (sym (k .0)) (work-tall a m n h)
+
+pub wide-made : (a : List Float) (m n : ℕ) {work main s other : List Float} {q : Sweeps} → m < n → work ≡ planesOf (m * n) (conjugateTransposed a m n)
+    → Thin n m true work q main s other → SvdFactored a m n q other s main
 unfolding uOf sOf vtOf directions vColumns workOf
 wide-made a m n h e t =
     let k = side-wide m n h in
@@ -233,10 +264,11 @@ wide-made a m n h e t =
       u-is = t .other-is ∙ rw (lt-ltb m n h, k .0, k .1, e);
       s-is = t .s-is ∙ rw (lt-ltb m n h, k .0, k .1, e);
       vt-is = t .main-is ∙ rw (lt-ltb m n h, k .0, k .1, e);
+      sweeps-are = t .sweeps-are ∙ ap (λ (x : List Float). swept n m x .sweeps) e ∙ sweeps-wide a m n h;
     }
 
-pub tall-made : (a : List Float) (m n : ℕ) {work main s other : List Float} → n ≤ m → work ≡ planesOf (n * m) (cellAt a)
-    → Thin m n false work main s other → SvdFactored a m n main s other
+pub tall-made : (a : List Float) (m n : ℕ) {work main s other : List Float} {q : Sweeps} → n ≤ m → work ≡ planesOf (n * m) (cellAt a)
+    → Thin m n false work q main s other → SvdFactored a m n q main s other
 unfolding uOf sOf vtOf directions vColumns workOf
 tall-made a m n h e t =
     let k = side-tall m n h in
@@ -244,6 +276,7 @@ tall-made a m n h e t =
       u-is = t .main-is ∙ rw (le-ltb m n h, k .0, k .1, e);
       s-is = t .s-is ∙ rw (le-ltb m n h, k .0, k .1, e);
       vt-is = t .other-is ∙ rw (le-ltb m n h, k .0, k .1, e);
+      sweeps-are = t .sweeps-are ∙ ap (λ (x : List Float). swept m n x .sweeps) e ∙ sweeps-tall a m n h;
     }
 
 -- ---- the end
@@ -278,20 +311,23 @@ unfolding svdEnd
 finished-bad u s vt r e h eu es ev =
     record { answer = e ∙ rw h; u-is = rw e (eu ∙ zeroed-all u); s-is = rw e (es ∙ zeroed-all s); vt-is = rw e (ev ∙ zeroed-all vt) }
 
-pub worked : (a : List Float) (m n la : ℕ) (u₀ s₀ vt₀ scratch₀ scratch : List Float) {u s vt u' s' vt' scratch' : List Float} (r : Answer)
+pub worked : (a : List Float) (m n la : ℕ) (u₀ s₀ vt₀ scratch₀ scratch : List Float) {u s vt u' s' vt' scratch' : List Float} {t : Sweeps} (q : Answer) (r : Factored)
     → SvdExact m n la (length u₀) (length s₀) (length vt₀) (length scratch₀)
     → length u ≡ length u₀ → length s ≡ length s₀ → length vt ≡ length vt₀
-    → SvdFactored a m n u s vt → (k : ℕ) → k ≡ length scratch₀ → length scratch ≡ length scratch₀ → scratch' ≡ zeroed k scratch → SvdFinished u s vt r u' s' vt'
+    → SvdFactored a m n t u s vt → (k : ℕ) → k ≡ length scratch₀ → length scratch ≡ length scratch₀ → scratch' ≡ zeroed k scratch → SvdFinished u s vt q u' s' vt'
+    → (r .answer ≡ q) × (r .sweeps ≡ keptSweeps q t)
     → SvdWorked a m n r u' s' vt' scratch'
 unfolding zeroed
-worked a m n la u₀ s₀ vt₀ scratch₀ scratch {u} {s} {vt} {u'} {s'} {vt'} {scratch'} r e lu ls lv f k ek lt z g =
+worked a m n la u₀ s₀ vt₀ scratch₀ scratch {u} {s} {vt} {u'} {s'} {vt'} {scratch'} q r e lu ls lv f k ek lt z h i =
+    let g : SvdFinished u s vt (r .answer) u' s' vt' = rw (i .0) h in
     let l : length scratch ≤ k = omega arith in
     record {
       answer = g .answer ∙ rw (f .u-is, f .s-is, f .vt-is);
-      u-is = g .u-is ∙ ap₂ (λ (x : List Float) (y : ℕ). ifDone (paper r .0) x (zeros y)) (f .u-is) (lu ∙ e .u-is);
-      s-is = g .s-is ∙ ap₂ (λ (x : List Float) (y : ℕ). ifDone (paper r .0) x (zeros y)) (f .s-is) (ls ∙ e .s-is);
-      vt-is = g .vt-is ∙ ap₂ (λ (x : List Float) (y : ℕ). ifDone (paper r .0) x (zeros y)) (f .vt-is) (lv ∙ e .vt-is);
+      u-is = g .u-is ∙ ap₂ (λ (x : List Float) (y : ℕ). ifDone (paper (r .answer) .0) x (zeros y)) (f .u-is) (lu ∙ e .u-is);
+      s-is = g .s-is ∙ ap₂ (λ (x : List Float) (y : ℕ). ifDone (paper (r .answer) .0) x (zeros y)) (f .s-is) (ls ∙ e .s-is);
+      vt-is = g .vt-is ∙ ap₂ (λ (x : List Float) (y : ℕ). ifDone (paper (r .answer) .0) x (zeros y)) (f .vt-is) (lv ∙ e .vt-is);
       scratch-is = z ∙ rw (drop-of-length-le scratch l, append-nil, ek, e .scratch-is);
+      sweeps-are = kept-by (i .0) (f .sweeps-are) (i .1);
     }
 
 -- 0 or 9
@@ -337,7 +373,7 @@ tests-small a m n u s vt scratch =
     (after-small (l .0) l (components 0 a) (lengths-small m n (length a) u s vt scratch) (components-small 0 a))
 
 -- an accepted call, and a refused one
-pub svd-worked : (a : List Float) (m n : ℕ) (u s vt scratch : List Float) (r : Answer) {u' s' vt' scratch' : List Float} {k : ℕ}
+pub svd-worked : (a : List Float) (m n : ℕ) (u s vt scratch : List Float) (r : Factored) {u' s' vt' scratch' : List Float} {k : ℕ}
     → k ≡ sideOf m n
     → andThen (svdTests a m n (length u) (length s) (length vt) (length scratch)) (svdEnd (uOf a m n) (sOf a m n) (vtOf a m n))
     ≡ svdEnd (uOf a m n) (sOf a m n) (vtOf a m n)
@@ -345,27 +381,29 @@ pub svd-worked : (a : List Float) (m n : ℕ) (u s vt scratch : List Float) (r :
     → Svd a m n u s vt scratch r (u' ++ drop (2 * (m * k)) u) (s' ++ drop k s) (vt' ++ drop (2 * (k * n)) vt) (scratch' ++ drop (6 * (m * n) + 2 * k) scratch)
 unfolding svdAnswer zeroed
 svd-worked a m n u s vt scratch r i e w =
-    let p : Ended (paper r .0) = rw (w .answer) (end-number (uOf a m n) (sOf a m n) (vtOf a m n)) in
+    let p : Ended (paper (r .answer) .0) = rw (w .answer) (end-number (uOf a m n) (sOf a m n) (vtOf a m n)) in
     record {
       answer = w .answer ∙ sym e;
-      u-is = rw (i, w .u-is) (join-end (paper r .0) (uOf a m n) (zeros (needU m n)) (drop (needU m n) u) u p);
-      s-is = rw (i, w .s-is) (join-end (paper r .0) (sOf a m n) (zeros (sideOf m n)) (drop (sideOf m n) s) s p);
-      vt-is = rw (i, w .vt-is) (join-end (paper r .0) (vtOf a m n) (zeros (needVt m n)) (drop (needVt m n) vt) vt p);
-      scratch-is = rw (i, w .scratch-is) (worked-new (paper r .0) (zeros (svdScratch m n) ++ drop (svdScratch m n) scratch) scratch p);
+      u-is = rw (i, w .u-is) (join-end (paper (r .answer) .0) (uOf a m n) (zeros (needU m n)) (drop (needU m n) u) u p);
+      s-is = rw (i, w .s-is) (join-end (paper (r .answer) .0) (sOf a m n) (zeros (sideOf m n)) (drop (sideOf m n) s) s p);
+      vt-is = rw (i, w .vt-is) (join-end (paper (r .answer) .0) (vtOf a m n) (zeros (needVt m n)) (drop (needVt m n) vt) vt p);
+      scratch-is = rw (i, w .scratch-is) (worked-new (paper (r .answer) .0) (zeros (svdScratch m n) ++ drop (svdScratch m n) scratch) scratch p);
+      sweeps-are = w .sweeps-are;
     }
 
-pub svd-refused : (a : List Float) (m n : ℕ) (u s vt scratch : List Float) (r : Answer)
-    → paper r ≡ svdTests a m n (length u) (length s) (length vt) (length scratch) → (paper r .0 ≡ 0 → ⊥)
+pub svd-refused : (a : List Float) (m n : ℕ) (u s vt scratch : List Float) (q : Answer) (r : Factored) → (r .answer ≡ q) × (r .sweeps ≡ noSweeps)
+    → paper q ≡ svdTests a m n (length u) (length s) (length vt) (length scratch) → (paper q .0 ≡ 0 → ⊥)
     → Svd a m n u s vt scratch r u s vt scratch
 unfolding svdAnswer
-svd-refused a m n u s vt scratch r e h =
-    let b : paper r .0 < 8 = rw e (tests-small a m n (length u) (length s) (length vt) (length scratch)) in
+svd-refused a m n u s vt scratch q r i e′ h′ =
+    let e : paper (r .answer) ≡ svdTests a m n (length u) (length s) (length vt) (length scratch) = rw (i .0) e′ in
+    let h : paper (r .answer) .0 ≡ 0 → ⊥ = rw (i .0) h′ in
+    let b : paper (r .answer) .0 < 8 = rw e (tests-small a m n (length u) (length s) (length vt) (length scratch)) in
     record {
-      answer = stays (paper r) (svdEnd (uOf a m n) (sOf a m n) (vtOf a m n)) h ∙ ap (λ (x : Reply). andThen x (svdEnd (uOf a m n) (sOf a m n) (vtOf a m n))) e;
-      u-is = end-old (paper r .0) _ _ u h b;
-      s-is = end-old (paper r .0) _ _ s h b;
-      vt-is = end-old (paper r .0) _ _ vt h b;
-      scratch-is = worked-old (paper r .0) _ scratch h b;
+      answer = stays (paper (r .answer)) (svdEnd (uOf a m n) (sOf a m n) (vtOf a m n)) h ∙ ap (λ (x : Reply). andThen x (svdEnd (uOf a m n) (sOf a m n) (vtOf a m n))) e;
+      u-is = end-old (paper (r .answer) .0) _ _ u h b;
+      s-is = end-old (paper (r .answer) .0) _ _ s h b;
+      vt-is = end-old (paper (r .answer) .0) _ _ vt h b;
+      scratch-is = worked-old (paper (r .answer) .0) _ scratch h b;
+      sweeps-are = kept-none (r .answer) (svdSweeps a m n) h (i .1);
     }
-
--- ---- only one outcome

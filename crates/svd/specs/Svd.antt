@@ -13,7 +13,10 @@ use Rattle.complex.specs.Zeros.{zeros, zeroed}
 use Rattle.svd_load.specs.Loading.{planesOf, conjugateTransposed}
 use Rattle.svd_columns.specs.Columns.{directionsOf, vColumnsOf}
 use Rattle.values.specs.Lists.{allFinite}
+use Rattle.svd_sweeps.specs.declared.Sweeps.{Sweeps}
 use Rattle.svd_thin.specs.Thin.{swept, orderOf, valuesOf}
+use Rattle.factored.specs.declared.Factored.{Factored}
+use Rattle.factored.specs.Factored.{keptSweeps}
 
 -- ---- the sizes
 
@@ -77,6 +80,10 @@ sOf a m n = valuesOf (rowsOf m n) (sideOf m n) (swept (rowsOf m n) (sideOf m n) 
 unfoldable pub vtOf : List Float → ℕ → ℕ → List Float
 vtOf a m n = cond (ltb m n) (directions a m n) (vColumns a m n)
 
+-- how the sweeps went
+unfoldable pub svdSweeps : List Float → ℕ → ℕ → Sweeps
+svdSweeps a m n = swept (rowsOf m n) (sideOf m n) (workOf a m n) .sweeps
+
 -- ---- the answer
 
 unfoldable pub finiteFactors : List Float → List Float → List Float → Bool
@@ -89,13 +96,14 @@ svdEnd u s vt = refuse (not (finiteFactors u s vt)) (9, 0) done
 unfoldable pub svdAnswer : List Float → ℕ → ℕ → ℕ → ℕ → ℕ → ℕ → Reply
 svdAnswer a m n u s vt scratch = andThen (svdTests a m n u s vt scratch) (svdEnd (uOf a m n) (sOf a m n) (vtOf a m n))
 
--- the answer, and what u, s, vt and scratch hold at the end
-pub record Svd (a : List Float) (m n : ℕ) (u s vt scratch : List Float) (r : Answer) (u' s' vt' scratch' : List Float) : Type 0 where
-  pub answer : paper r ≡ svdAnswer a m n (length u) (length s) (length vt) (length scratch)
-  pub u-is : u' ≡ atEnd (paper r .0) (uOf a m n ++ drop (needU m n) u) (zeroed (needU m n) u) u
-  pub s-is : s' ≡ atEnd (paper r .0) (sOf a m n ++ drop (sideOf m n) s) (zeroed (sideOf m n) s) s
-  pub vt-is : vt' ≡ atEnd (paper r .0) (vtOf a m n ++ drop (needVt m n) vt) (zeroed (needVt m n) vt) vt
-  pub scratch-is : scratch' ≡ ifWorked (paper r .0) (zeroed (svdScratch m n) scratch) scratch
+-- the answer, the sweeps, and what u, s, vt and scratch hold at the end
+pub record Svd (a : List Float) (m n : ℕ) (u s vt scratch : List Float) (r : Factored) (u' s' vt' scratch' : List Float) : Type 0 where
+  pub answer : paper (r .answer) ≡ svdAnswer a m n (length u) (length s) (length vt) (length scratch)
+  pub u-is : u' ≡ atEnd (paper (r .answer) .0) (uOf a m n ++ drop (needU m n) u) (zeroed (needU m n) u) u
+  pub s-is : s' ≡ atEnd (paper (r .answer) .0) (sOf a m n ++ drop (sideOf m n) s) (zeroed (sideOf m n) s) s
+  pub vt-is : vt' ≡ atEnd (paper (r .answer) .0) (vtOf a m n ++ drop (needVt m n) vt) (zeroed (needVt m n) vt) vt
+  pub scratch-is : scratch' ≡ ifWorked (paper (r .answer) .0) (zeroed (svdScratch m n) scratch) scratch
+  pub sweeps-are : r .sweeps ≡ keptSweeps (r .answer) (svdSweeps a m n)
 
 -- ---- the steps
 
@@ -110,10 +118,11 @@ pub record SvdExact (m n a u s vt scratch : ℕ) : Type 0 where
   pub vt-is : vt ≡ needVt m n
   pub scratch-is : scratch ≡ svdScratch m n
 
-pub record SvdFactored (a : List Float) (m n : ℕ) (u s vt : List Float) : Type 0 where
+pub record SvdFactored (a : List Float) (m n : ℕ) (r : Sweeps) (u s vt : List Float) : Type 0 where
   pub u-is : u ≡ uOf a m n
   pub s-is : s ≡ sOf a m n
   pub vt-is : vt ≡ vtOf a m n
+  pub sweeps-are : r ≡ svdSweeps a m n
 
 pub record SvdFinished (u s vt : List Float) (r : Answer) (u' s' vt' : List Float) : Type 0 where
   pub answer : paper r ≡ svdEnd u s vt
@@ -121,9 +130,10 @@ pub record SvdFinished (u s vt : List Float) (r : Answer) (u' s' vt' : List Floa
   pub s-is : s' ≡ ifDone (paper r .0) s (zeros (length s))
   pub vt-is : vt' ≡ ifDone (paper r .0) vt (zeros (length vt))
 
-pub record SvdWorked (a : List Float) (m n : ℕ) (r : Answer) (u s vt scratch : List Float) : Type 0 where
-  pub answer : paper r ≡ svdEnd (uOf a m n) (sOf a m n) (vtOf a m n)
-  pub u-is : u ≡ ifDone (paper r .0) (uOf a m n) (zeros (needU m n))
-  pub s-is : s ≡ ifDone (paper r .0) (sOf a m n) (zeros (sideOf m n))
-  pub vt-is : vt ≡ ifDone (paper r .0) (vtOf a m n) (zeros (needVt m n))
+pub record SvdWorked (a : List Float) (m n : ℕ) (r : Factored) (u s vt scratch : List Float) : Type 0 where
+  pub answer : paper (r .answer) ≡ svdEnd (uOf a m n) (sOf a m n) (vtOf a m n)
+  pub u-is : u ≡ ifDone (paper (r .answer) .0) (uOf a m n) (zeros (needU m n))
+  pub s-is : s ≡ ifDone (paper (r .answer) .0) (sOf a m n) (zeros (sideOf m n))
+  pub vt-is : vt ≡ ifDone (paper (r .answer) .0) (vtOf a m n) (zeros (needVt m n))
   pub scratch-is : scratch ≡ zeros (svdScratch m n)
+  pub sweeps-are : r .sweeps ≡ keptSweeps (r .answer) (svdSweeps a m n)

@@ -1,6 +1,8 @@
 // The thin SVD of an m by n matrix by one-sided Jacobi turns: A = U diag(s) V†, U column-major, V† row-major,
 // the values falling.
 use answers::Answer;
+use factored::Factored;
+use svd_sweeps::Sweeps;
 ghost use mathlib.Core.Path.{_≡_};
 ghost use Prim.Native.Nat.{_*_, _≤_};
 ghost use lib.ListN.{length};
@@ -87,7 +89,7 @@ fn check(a: &[f64], m: usize, n: usize, u: usize, s: usize, vt: usize, scratch: 
 }
 
 // The factors, over slices of exactly the needed lengths. Where the matrix is wider than tall the work is
-// done on its conjugate transpose, and U and V† change places.
+// done on its conjugate transpose, and U and V† change places. Returned is how the sweeps went.
 fn factor(
     a: &[f64],
     m: usize,
@@ -96,20 +98,19 @@ fn factor(
     s: &mut [f64],
     vt: &mut [f64],
     scratch: &mut [f64],
-)
+) -> Sweeps
     requires { ⌜ SvdExact m n (length (now a)) (length (now u)) (length (now s)) (length (now vt)) (length (now scratch)) ⌝ }
-    ensures { λ _. ⌜ SvdFactored (now (a .entry)) m n (now (u .exit)) (now (s .exit)) (now (vt .exit)) ⌝ }
+    ensures { λ r. ⌜ SvdFactored (now (a .entry)) m n r (now (u .exit)) (now (s .exit)) (now (vt .exit)) ⌝ }
 {
     if m < n {
         let w = 2 * (m * n);
         svd_load::load_wide(a, m, n, &mut scratch[..w]);
-        svd_thin::factor(n, m, true, vt, s, u, scratch);
-        return;
+        return svd_thin::factor(n, m, true, vt, s, u, scratch);
     }
     let c = n * m;
     let w = 2 * c;
     svd_load::load_tall(a, c, &mut scratch[..w]);
-    svd_thin::factor(m, n, false, u, s, vt, scratch);
+    svd_thin::factor(m, n, false, u, s, vt, scratch)
 }
 
 // Whether every number of the three is finite.
@@ -147,16 +148,17 @@ fn work(
     s: &mut [f64],
     vt: &mut [f64],
     scratch: &mut [f64],
-) -> Answer
+) -> Factored
     requires { ⌜ SvdExact m n (length (now a)) (length (now u)) (length (now s)) (length (now vt)) (length (now scratch)) ⌝ }
     ensures { λ r. ⌜ SvdWorked (now (a .entry)) m n r (now (u .exit)) (now (s .exit)) (now (vt .exit)) (now (scratch .exit)) ⌝ }
 {
-    factor(a, m, n, u, s, vt, scratch);
+    let sweeps = factor(a, m, n, u, s, vt, scratch);
     complex::zero_first(scratch, scratch.len());
-    finish(u, s, vt)
+    let answer = finish(u, s, vt);
+    factored::answered(answer, sweeps)
 }
 
-// U, the values and V† of the m by n matrix a.
+// U, the values and V† of the m by n matrix a, and how many sweeps were begun and whether the last one was quiet.
 pub fn svd_jacobi(
     a: &[f64],
     m: usize,
@@ -165,13 +167,13 @@ pub fn svd_jacobi(
     s: &mut [f64],
     vt: &mut [f64],
     scratch: &mut [f64],
-) -> Answer
+) -> Factored
     ensures { λ r. ⌜ Svd (now (a .entry)) m n (now (u .entry)) (now (s .entry)) (now (vt .entry)) (now (scratch .entry)) r
         (now (u .exit)) (now (s .exit)) (now (vt .exit)) (now (scratch .exit)) ⌝ }
 {
     let answer = check(a, m, n, u.len(), s.len(), vt.len(), scratch.len());
     let Answer::Done = answer else {
-        return answer;
+        return factored::refused(answer);
     };
     let k = smaller_size(m, n);
     let for_u = 2 * (m * k);

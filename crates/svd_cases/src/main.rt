@@ -1,8 +1,28 @@
 // Replays the published Rust's answers of the SVD. Standard input is a text of hexadecimal words: a case is 1 and then the
 // arguments of the call in order. The slice that is read is its length and its words; a slice that is lent is its length alone
-// and holds 3.0 everywhere. Each case writes one line of words: the answer's number and place, and the lent slices as they stand
-// afterwards.
+// and holds 3.0 everywhere. Each case writes one line of words: the answer's number and place, the sweeps begun, 1 where the last
+// was quiet and else 0, and the lent slices as they stand afterwards.
 //   1 a m n u s vt scratch
+use factored::Factored;
+use svd_sweeps::Sweeps;
+
+// Writes how the sweeps went: those begun, and 1 where the last one was quiet.
+fn print_sweeps(s: Sweeps) {
+    replay::print_word(replay::word_of(s.begun));
+    if s.quiet {
+        replay::print_word(1);
+    } else {
+        replay::print_word(0);
+    }
+}
+
+// Writes an answer and how its sweeps went.
+fn print_factored(r: Factored) {
+    let answer = r.answer;
+    let sweeps = r.sweeps;
+    replay::print_answer(answer);
+    print_sweeps(sweeps);
+}
 
 // The call, its answer and the lent slices as it leaves them.
 fn factor(
@@ -14,7 +34,7 @@ fn factor(
     vt: &mut [f64],
     scratch: &mut [f64],
 ) {
-    replay::print_answer(svd::svd_jacobi(a, m, n, u, s, vt, scratch));
+    print_factored(svd::svd_jacobi(a, m, n, u, s, vt, scratch));
     replay::print_floats(u);
     replay::print_floats(s);
     replay::print_floats(vt);

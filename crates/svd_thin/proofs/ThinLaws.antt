@@ -33,11 +33,9 @@ square-fits rows side h = mul-le-mul-left side h
 -- ---- what the proofs of the steps cite
 
 pub swept-made : (rows side : ℕ) (work₀ work v v₀ : List Float) {n : Sweeps} → v₀ ≡ unitPlanes side → state work v n ≡ settled rows side work₀ v₀
-    → (work ≡ swept rows side work₀ .work) × (v ≡ swept rows side work₀ .v)
+    → state work v n ≡ swept rows side work₀
 unfolding swept
-swept-made rows side work₀ work v v₀ e h =
-    let g = rw e at h in
-    (ap (λ (t : State). t .work) g, ap (λ (t : State). t .v) g)
+swept-made rows side work₀ work v v₀ e h = rw e at h
 
 pub part-length : {X : Type 0} (w k : ℕ) (xs : List X) → w + k ≤ length xs → length (take (w + k - w) (drop w xs)) ≡ k
 part-length w k xs h =
@@ -85,14 +83,16 @@ unfolding orderOf
 ranked-places rows side work s scratch r =
     record { places = orderTo (normsOf work rows side) side; are = r .order-is; low = order-below (normsOf work rows side) side }
 
-pub thin-made : (rows side : ℕ) (wide : Bool) (work rest rest' : List Float) {work' v' s scratch main other : List Float} → side ≤ 64
-    → length work' ≡ 2 * (side * rows) → length v' ≡ 2 * (side * side) → work' ≡ swept rows side work .work → v' ≡ swept rows side work .v
+pub thin-made : (rows side : ℕ) (wide : Bool) (work rest rest' : List Float) {work' v' s scratch main other : List Float} {n : Sweeps} → side ≤ 64
+    → length work' ≡ 2 * (side * rows) → length v' ≡ 2 * (side * side) → state work' v' n ≡ swept rows side work
     → ThinOrdered rows side (take (2 * (side * rows)) (work' ++ rest)) s scratch
     → main ≡ directionsOf (take (2 * (side * rows)) scratch) s (placesIn (orderPart rows side scratch)) rows side wide
     → other ≡ vColumnsOf (take (2 * (side * side)) (v' ++ rest')) (placesIn (orderPart rows side scratch)) side wide
-    → Thin rows side wide work main s other
+    → Thin rows side wide work n main s other
 unfolding orderOf
-thin-made rows side wide work rest rest' {work'} {v'} {s} {scratch} {main} {other} b lw lv ew ev r em eo =
+thin-made rows side wide work rest rest' {work'} {v'} {s} {scratch} {main} {other} b lw lv g r em eo =
+    let ew : work' ≡ swept rows side work .work = ap (λ (t : State). t .work) g in
+    let ev : v' ≡ swept rows side work .v = ap (λ (t : State). t .v) g in
     let tw : take (2 * (side * rows)) (work' ++ rest) ≡ swept rows side work .work = take-at work' rest (2 * (side * rows)) lw ∙ ew in
     let tv : take (2 * (side * side)) (v' ++ rest') ≡ swept rows side work .v = take-at v' rest' (2 * (side * side)) lv ∙ ev in
     let n : side ≤ 4096 = omega arith in
@@ -105,4 +105,5 @@ thin-made rows side wide work rest rest' {work'} {v'} {s} {scratch} {main} {othe
       main-is = em ∙ rw (r .work-is, tw, order-is, rw-is);
       s-is = rw-is;
       other-is = eo ∙ rw (tv, order-is);
+      sweeps-are = ap (λ (t : State). t .sweeps) g;
     }

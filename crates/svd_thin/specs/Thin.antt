@@ -5,13 +5,14 @@ use mathlib.Core.List.{List}
 use Prim.Native.Nat.{ℕ, _+_, _-_, _*_, _≤_}
 use lib.ListN.{take, drop}
 use lib.Ieee.{Float}
+use Rattle.svd_sweeps.specs.declared.Sweeps.{Sweeps}
 use Rattle.svd_sweeps.specs.Sweeping.{State, settled}
 use Rattle.svd_load.specs.Loading.{unitPlanes}
 use Rattle.stable_order.specs.Places.{placesOf}
 use Rattle.stable_order.specs.Order.{orderTo}
 use Rattle.svd_columns.specs.Columns.{normsOf, sortedOf, directionsOf, vColumnsOf}
 
--- the work matrix and V after the sweeps
+-- the work matrix and V after the sweeps, and how the sweeps went
 unfoldable pub swept : ℕ → ℕ → List Float → State
 swept rows side work = settled rows side work (unitPlanes side)
 
@@ -51,11 +52,12 @@ pub record ThinOrdered (rows side : ℕ) (work s scratch : List Float) : Type 0 
   pub work-is : take (2 * (side * rows)) scratch ≡ work
   pub order-is : orderPart rows side scratch ≡ placesOf (orderOf rows side work)
 
--- the three results for the matrix `work` before the sweeps
-pub record Thin (rows side : ℕ) (wide : Bool) (work main s other : List Float) : Type 0 where
+-- the sweeps and the three results for the matrix `work` before the sweeps
+pub record Thin (rows side : ℕ) (wide : Bool) (work : List Float) (r : Sweeps) (main s other : List Float) : Type 0 where
   pub main-is : main
       ≡ directionsOf (swept rows side work .work) (valuesOf rows side (swept rows side work .work)) (orderOf rows side (swept rows side work .work)) rows
       side
       wide
   pub s-is : s ≡ valuesOf rows side (swept rows side work .work)
   pub other-is : other ≡ vColumnsOf (swept rows side work .v) (orderOf rows side (swept rows side work .work)) side wide
+  pub sweeps-are : r ≡ swept rows side work .sweeps

@@ -1,22 +1,23 @@
 // Inner: the thin SVD of a work matrix of `side` columns of `rows` cells, at least as many rows as
 // columns, whose planes stand at the front of scratch. The factor on its own side comes out in `main`,
 // where V stands until then; the one on V's side in `other`, where the norms stand until then.
+use svd_sweeps::Sweeps;
 ghost use mathlib.Core.Path.{_≡_};
 ghost use Prim.Native.Nat.{_*_, _≤_};
 ghost use lib.ListN.{length, take};
-ghost use Rattle.svd_sweeps.specs.Sweeping.{SvdRoom};
+ghost use Rattle.svd_sweeps.specs.Sweeping.{SvdRoom, state};
 ghost use Rattle.stable_order.specs.Places.{placesOf, placesIn, Places};
 ghost use Rattle.stable_order.specs.Order.{orderTo};
 ghost use Rattle.svd_columns.specs.Columns.{sortedOf, directionsOf, vColumnsOf};
 ghost use Rattle.svd_thin.specs.Thin.{swept, orderPart, Lent, ThinOrdered, Written, Thin};
 
 // V starts as the unit matrix; the sweeps turn both.
-fn sweep(work: &mut [f64], v: &mut [f64], rows: usize, side: usize)
+fn sweep(work: &mut [f64], v: &mut [f64], rows: usize, side: usize) -> Sweeps
     requires { ⌜ SvdRoom rows side (length (now work)) (length (now v)) ⌝ }
-    ensures { λ _. ⌜ (now (work .exit) ≡ swept rows side (now (work .entry)) .work) × (now (v .exit) ≡ swept rows side (now (work .entry)) .v) ⌝ }
+    ensures { λ r. ⌜ state (now (work .exit)) (now (v .exit)) r ≡ swept rows side (now (work .entry)) ⌝ }
 {
     svd_load::unit(v, side);
-    svd_sweeps::settle(work, v, rows, side);
+    svd_sweeps::settle(work, v, rows, side)
 }
 
 // The order of the norms, and the norms in that order.
@@ -90,7 +91,7 @@ fn write_from(
     );
 }
 
-// The thin SVD of the work matrix at the front of scratch.
+// The thin SVD of the work matrix at the front of scratch, and how the sweeps went.
 pub fn factor(
     rows: usize,
     side: usize,
@@ -99,13 +100,14 @@ pub fn factor(
     s: &mut [f64],
     other: &mut [f64],
     scratch: &mut [f64],
-)
+) -> Sweeps
     requires { ⌜ Lent rows side (length (now s)) (length (now other)) (length (now scratch)) × (length (now main) ≡ 2 * (side * rows)) ⌝ }
-    ensures { λ _. ⌜ Thin rows side wide (take (2 * (side * rows)) (now (scratch .entry))) (now (main .exit)) (now (s .exit)) (now (other .exit)) ⌝ }
+    ensures { λ r. ⌜ Thin rows side wide (take (2 * (side * rows)) (now (scratch .entry))) r (now (main .exit)) (now (s .exit)) (now (other .exit)) ⌝ }
 {
     let w = 2 * (side * rows);
     let x = 2 * (side * side);
-    sweep(&mut scratch[..w], &mut main[..x], rows, side);
+    let sweeps = sweep(&mut scratch[..w], &mut main[..x], rows, side);
     rank(rows, side, s, other, scratch);
     write_from(scratch, s, rows, side, wide, main, other);
+    sweeps
 }

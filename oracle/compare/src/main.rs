@@ -1,9 +1,11 @@
-//! The port against the published Rust: the same calls to both, every answer, place, value and lent cell compared.
+//! The port against the published Rust: the same calls to both, every answer, place, value, count of sweeps with whether the
+//! last was quiet, and lent cell compared.
 //!
 //!     compare SEED COUNT         every small shape, then COUNT drawn calls of each entry point, 40 times as many moduli
 //!     compare replay FILE        the calls of FILE, one to a line, as a mismatch prints them
 //!
-//! It ends with status 1 on a mismatch and where the library lacks an entry point. The last line has the count of calls and the seed.
+//! It ends with status 1 on a mismatch and where the library lacks an entry point. The last lines have the count of calls that
+//! gave up, which is those whose last sweep still turned a pair, the count of all calls and the seed.
 
 use std::collections::BTreeMap;
 use std::process::exit;
@@ -25,13 +27,17 @@ struct Tally {
     calls: usize,
     wrong: usize,
     answers: BTreeMap<(Entry, u32), usize>,
+    gave_up: BTreeMap<Entry, usize>,
 }
 
 impl Tally {
     fn see(&mut self, call: &Call) {
         let Some(ours) = port::run(call) else { return };
-        let theirs = outcome(call, Build::Replaced);
+        let theirs = outcome(call, Build::Counting);
         self.calls += 1;
+        if theirs.gave_up() {
+            *self.gave_up.entry(call.entry).or_insert(0) += 1;
+        }
         *self.answers.entry((call.entry, theirs.number)).or_insert(0) += 1;
         if ours.as_ref() == Some(&theirs) {
             return;
@@ -41,7 +47,7 @@ impl Tally {
             println!("MISMATCH {}", call.line());
             match ours {
                 Some(ours) => show(&ours, &theirs),
-                None => println!("  the port wrote outside of a slice"),
+                None => println!("  the port wrote outside of a slice, or no yes or no"),
             }
         }
     }
@@ -54,6 +60,8 @@ impl Tally {
         for (entry, answers) in by_entry {
             println!("{:<28} {answers}", entry.name());
         }
+        let each: Vec<String> = self.gave_up.iter().map(|(entry, count)| format!("{} {count}", entry.name())).collect();
+        println!("gave up: {} calls; {}", self.gave_up.values().sum::<usize>(), each.join(", "));
     }
 }
 
@@ -63,8 +71,10 @@ fn missing() -> Vec<String> {
 }
 
 fn show(ours: &Outcome, theirs: &Outcome) {
-    let head =
-        |outcome: &Outcome| format!("answer {} place {} value {:X}", outcome.number, outcome.place, outcome.value);
+    let head = |outcome: &Outcome| {
+        let sweeps = outcome.sweeps.map_or(String::new(), |s| format!(" sweeps {} quiet {}", s.begun, s.quiet));
+        format!("answer {} place {} value {:X}{sweeps}", outcome.number, outcome.place, outcome.value)
+    };
     println!("  port {}; oracle {}", head(ours), head(theirs));
     for (slice, (a, b)) in ours.slices.iter().zip(&theirs.slices).enumerate() {
         if let Some(at) = (0..a.len()).find(|&at| a[at] != b[at]) {

@@ -121,6 +121,22 @@ impl Entry {
                 | fill_scaled_vt_data
         )
     }
+
+    /// Whether a call sweeps, and so hands back how.
+    pub fn sweeps(self) -> bool {
+        matches!(
+            self,
+            svd_jacobi | hermitian_eigenvalues | schmidt_values_from_density | hermitian_eigen | dense_schmidt_values
+        )
+    }
+}
+
+/// The sweeps of a factorisation: how many were begun, the quiet one included, and whether the last was quiet. On a refusal
+/// 0 and no.
+#[derive(Clone, Copy, Debug, Default, PartialEq, Eq)]
+pub struct Sweeps {
+    pub begun: u64,
+    pub quiet: bool,
 }
 
 /// An argument: one word, or a slice of them.
@@ -219,11 +235,20 @@ impl Call {
     }
 }
 
-/// What a call leaves: its answer, the number that it hands back, and every slice as it stands afterwards.
+/// What a call leaves: its answer, the number that it hands back, its sweeps where it has them and the build counts them,
+/// and every slice as it stands afterwards.
 #[derive(Clone, Debug, PartialEq, Eq)]
 pub struct Outcome {
     pub number: u32,
     pub place: u64,
     pub value: u64,
+    pub sweeps: Option<Sweeps>,
     pub slices: Vec<Vec<u64>>,
+}
+
+impl Outcome {
+    /// Whether the factorisation gave up: done, with a pair still turned in its last sweep.
+    pub fn gave_up(&self) -> bool {
+        self.number == 0 && self.sweeps.is_some_and(|sweeps| !sweeps.quiet)
+    }
 }

@@ -720,9 +720,41 @@ pub fn damage(rng: &mut Random, call: &mut Call) {
     }
 }
 
+/// Cells of 0 and 1, a third of the time of 1 alone.
+fn zeros_and_ones(rng: &mut Random, count: usize) -> Cells {
+    let ones = rng.chance(3);
+    (0..count).map(|_| (if ones || rng.chance(2) { 1.0 } else { 0.0 }, 0.0)).collect()
+}
+
+/// An accepted call of an entry point that sweeps, of a kind that often gives up: columns of 0 and 1 cancel to leftovers that
+/// turn in every sweep, and so do tiny cells beside a diagonal that is not positive.
+pub fn restless(rng: &mut Random, entry: Entry) -> Call {
+    let args = match entry {
+        svd_jacobi => {
+            let (m, n) = if rng.chance(3) { (3, 6) } else { (rng.within(2, 8), rng.within(2, 8)) };
+            vec![Arg::Many(numbers(&zeros_and_ones(rng, m * n))), one(m), one(n)]
+        }
+        dense_schmidt_values => {
+            let n = if rng.chance(4) { rng.within(3, 6) } else { 4 };
+            let state = numbers(&zeros_and_ones(rng, 1 << n));
+            vec![Arg::Many(state), one(n), Arg::Many(list(rng, n, n / 2)), one(13)]
+        }
+        _ => {
+            let dim = rng.within(2, 5);
+            let cells = [0.0, -1.0, 1e-170, 1.0];
+            let mut a: Cells = (0..dim * dim).map(|_| (rng.pick(&cells), 0.0)).collect();
+            if rng.chance(2) {
+                mirror(&mut a, dim);
+            }
+            vec![Arg::Many(numbers(&a)), one(dim)]
+        }
+    };
+    with_lent(rng, entry, args)
+}
+
 /// An accepted call, or one damaged in one or two places.
 pub fn any(rng: &mut Random, entry: Entry, bounds: Bounds) -> Call {
-    let mut call = accepted(rng, entry, bounds);
+    let mut call = if entry.sweeps() && rng.chance(8) { restless(rng, entry) } else { accepted(rng, entry, bounds) };
     if rng.chance(3) {
         damage(rng, &mut call);
         if rng.chance(3) {

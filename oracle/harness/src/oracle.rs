@@ -5,7 +5,7 @@ use std::panic::{AssertUnwindSafe, catch_unwind};
 
 use num_complex::Complex64;
 
-use crate::call::{Call, Entry::*, Outcome};
+use crate::call::{Call, Entry::*, Outcome, Sweeps};
 use crate::table::{self, Role};
 
 /// What the Rust computed: the number handed back, and the needed cells of each slice that is written.
@@ -15,11 +15,12 @@ pub struct Result {
     pub empty: bool,
 }
 
-/// The published text, or the one with `norm` replaced by the modulus of `scaffold/modulus.rs`.
+/// The published text, the one with `norm` replaced by the modulus of `scaffold/modulus.rs`, or that with its sweeps counted.
 #[derive(Clone, Copy, Debug, PartialEq, Eq)]
 pub enum Build {
     Published,
     Replaced,
+    Counting,
 }
 
 pub fn cells(numbers: &[f64]) -> Vec<Complex64> {
@@ -178,6 +179,7 @@ macro_rules! build {
 
 build!(as_published, published);
 build!(as_replaced, replaced);
+build!(as_counting, counting);
 
 fn done(value: u64, written: Vec<Vec<u64>>) -> Result {
     Result { value, written, empty: false }
@@ -242,14 +244,19 @@ fn writes_floats(call: &Call) -> bool {
 
 /// The whole outcome of a call. A panic of the Rust on an accepted call is a NaN that its sort met: answer 9.
 pub fn outcome(call: &Call, build: Build) -> Outcome {
+    let counts = build == Build::Counting && call.entry.sweeps();
+    let none = counts.then(Sweeps::default);
     let mut slices: Vec<Vec<u64>> = call.slices().iter().map(|&at| call.many(at).to_vec()).collect();
     if let Some((number, place)) = table::refusal(call) {
-        return Outcome { number, place, value: 0, slices };
+        return Outcome { number, place, value: 0, sweeps: none, slices };
     }
+    counting::count::taken();
     let ran = catch_unwind(AssertUnwindSafe(|| match build {
         Build::Published => as_published::run(call),
         Build::Replaced => as_replaced::run(call),
+        Build::Counting => as_counting::run(call),
     }));
+    let count = counting::count::taken();
     let number = match &ran {
         Err(_) => 9,
         Ok(result) if result.empty => 8,
@@ -281,5 +288,7 @@ pub fn outcome(call: &Call, build: Build) -> Outcome {
         Ok(result) if number == 0 => result.value,
         _ => 0,
     };
-    Outcome { number, place: 0, value, slices }
+    let swept = Sweeps { begun: count.sweeps as u64, quiet: count.turns_of_last == 0 };
+    let sweeps = if number == 0 { counts.then_some(swept) } else { none };
+    Outcome { number, place: 0, value, sweeps, slices }
 }

@@ -57,15 +57,19 @@ pub fn asked(kind: &str, call: &Call) -> String {
     line
 }
 
-/// What the case prints: number, place, the number handed back where there is one, and each lent slice whole.
+/// What the case prints: number, place, the number handed back where there is one, the sweeps and whether the last was quiet
+/// (1 or 0) where the call sweeps, and each lent slice whole.
 pub fn printed(kind: &str, call: &Call) -> String {
     if kind == "sites_cases" {
         return sites_sample::printed(call);
     }
-    let outcome = outcome(call, Build::Replaced);
+    let outcome = outcome(call, Build::Counting);
     let mut words = vec![u64::from(outcome.number), outcome.place];
     if call.entry.returns() {
         words.push(outcome.value);
+    }
+    if let Some(sweeps) = outcome.sweeps {
+        words.extend([sweeps.begun, u64::from(sweeps.quiet)]);
     }
     for (slice, at) in call.slices().into_iter().enumerate() {
         if matches!(call.entry.kinds()[at], Kind::MutFloats | Kind::MutWords) {
@@ -261,6 +265,32 @@ fn cuts(rng: &mut Random, calls: &mut Vec<Call>) {
     damaged(rng, dense_schmidt_values, 40, calls);
 }
 
+/// Calls that give up. Of `hermitian_eigen` none is known.
+fn restless(rng: &mut Random, entry: Entry, calls: &mut Vec<Call>) {
+    let real = |values: &[f64]| values.iter().map(|&value| (value, 0.0)).collect::<Vec<_>>();
+    match entry {
+        svd_jacobi => {
+            for (m, n) in [(6, 3), (3, 7), (5, 7)] {
+                calls.push(on_matrix(rng, entry, &real(&vec![1.0; m * n]), m, n));
+            }
+        }
+        dense_schmidt_values => {
+            // Amplitudes 1 at 0, 1, 4 and 8; the last sweep turns two, four and three pairs.
+            for code in [275u32, 5655, 4406] {
+                let state: Vec<f64> = (0..16).map(|at| f64::from(code >> at & 1)).collect();
+                let args = vec![Arg::Many(numbers(&real(&state))), one(4), Arg::Many(vec![0, 1]), one(13)];
+                calls.push(lend(rng, entry, args));
+            }
+        }
+        hermitian_eigenvalues | schmidt_values_from_density | hermitian_eigen => {
+            for a in [[-1.0, 1e-170, 1e-170, 0.0], [1.0, 1.0, -1.0, -1.0]] {
+                calls.push(on_square(rng, entry, &real(&a), 2));
+            }
+        }
+        _ => {}
+    }
+}
+
 fn damaged(rng: &mut Random, entry: Entry, count: usize, calls: &mut Vec<Call>) {
     for at in 0..count {
         let mut call = cases::accepted(rng, entry, Bounds { qubits: 2, side: 2 });
@@ -291,6 +321,9 @@ pub fn cases_of(kind: &str, seed: u64) -> Vec<Call> {
             dense_schmidt_values => cuts(rng, &mut calls),
             _ => sites_sample::cases_of(rng, entry, &mut calls),
         }
+    }
+    for &entry in entries(kind) {
+        restless(rng, entry, &mut calls);
     }
     calls.into_iter().map(if kind == "sites_cases" { sites_sample::filled } else { filled }).collect()
 }

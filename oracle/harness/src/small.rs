@@ -108,6 +108,12 @@ fn on_matrices(rng: &mut Random, entry: Entry, see: &mut impl FnMut(Call)) {
         let zeros = Arg::Many(vec![0; length]);
         see(lend(rng, entry, vec![zeros, one(m), one(n)]));
     }
+    // Of ones alone, some of which never grow quiet.
+    for m in 1..=9usize {
+        for n in 1..=9usize {
+            see(lend(rng, entry, vec![Arg::Many(numbers(&vec![(1.0, 0.0); m * n])), one(m), one(n)]));
+        }
+    }
     // Cells of -1, 0 and 1.
     for (m, n) in [(2usize, 2usize), (2, 3), (3, 2)] {
         for code in 0..3usize.pow((m * n) as u32) {
@@ -142,6 +148,15 @@ fn on_squares(rng: &mut Random, entry: Entry, see: &mut impl FnMut(Call)) {
                 }
             }
         }
+    }
+}
+
+/// All states of four qubits with amplitudes 0 and 1, cut in half: a quarter of them never grows quiet.
+fn on_whole_states(rng: &mut Random, see: &mut impl FnMut(Call)) {
+    for code in 0..1u32 << 16 {
+        let state: Vec<(f64, f64)> = (0..16).map(|at| (f64::from(code >> at & 1), 0.0)).collect();
+        let args = vec![Arg::Many(numbers(&state)), one(4), Arg::Many(vec![0, 1]), one(13)];
+        see(lend(rng, dense_schmidt_values, args));
     }
 }
 
@@ -340,8 +355,11 @@ pub fn each(entry: Entry, see: &mut impl FnMut(Call)) {
         | traced_base
         | smaller_side
         | cut_matrix
-        | dense_schmidt_values
         | dense_reduced_density => on_lists(rng, entry, see),
+        dense_schmidt_values => {
+            on_lists(rng, entry, see);
+            on_whole_states(rng, see);
+        }
         mirror_lower_triangle
         | normalize_trace
         | hermitian_eigenvalues

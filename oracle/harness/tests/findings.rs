@@ -160,6 +160,12 @@ fn a_tiny_cell_that_never_grows_quiet() {
     }
 }
 
+/// Row by row 1, 1, -1, -1: not Hermitian, and refused by nobody.
+#[test]
+fn a_matrix_that_is_not_hermitian_never_grows_quiet() {
+    assert_eq!(eigenvalues(&[(1.0, 0.0), (1.0, 0.0), (-1.0, 0.0), (-1.0, 0.0)]).1, 60);
+}
+
 /// The modulus of (1 + i) 2^-1074 is 2^-1074 in floats, so the phase is 1 + i, and the turn doubles the diagonal entry.
 #[test]
 fn a_phase_at_the_least_float_is_not_of_unit_length() {
@@ -201,6 +207,59 @@ fn sweeps_that_never_grow_quiet() {
     assert_eq!((count.sweeps, count.turns, count.turns_of_last), (100, 101, 1));
 }
 
+/// How many of the states of four qubits with amplitudes 0 and 1 run all 100 sweeps, list 0, 1; the one with fewest amplitudes
+/// has 1 at 0, 1, 4 and 8. No other takes more than 15.
+#[test]
+fn whole_states_that_never_grow_quiet() {
+    let mut gave_up = vec![];
+    for code in 1..1u32 << 16 {
+        let state: Vec<f64> = (0..16).map(|at| f64::from(code >> at & 1)).collect();
+        counting::count::taken();
+        counting::backend::schmidt::door::dense_schmidt_values(&real(&state), 4, &[0, 1], 13).unwrap();
+        let count = counting::count::taken();
+        if count.turns_of_last > 0 {
+            assert_eq!(count.sweeps, 100);
+            gave_up.push(code);
+        } else {
+            assert!(count.sweeps <= 15);
+        }
+    }
+    assert_eq!((gave_up.len(), gave_up.iter().map(|code| code.count_ones()).min(), gave_up[0]), (16384, Some(4), 275));
+}
+
+/// The counted build has the bits of the one that is not, and the sweeps of a refused call are 0 and no.
+#[test]
+fn counting_changes_no_bit() {
+    use harness::call::{ENTRIES, Sweeps};
+    use harness::cases::{self, Bounds};
+    use harness::oracle::{Build, outcome};
+    for &entry in ENTRIES {
+        let rng = &mut harness::random::Random::new(14);
+        for _ in 0..if entry.sweeps() { 2000 } else { 20 } {
+            let call = cases::any(rng, entry, Bounds { qubits: 5, side: 6 });
+            let [plain, mut counted] = [Build::Replaced, Build::Counting].map(|build| outcome(&call, build));
+            let sweeps = counted.sweeps.take();
+            assert_eq!(plain, counted, "{}", call.line());
+            assert_eq!(sweeps.is_some(), entry.sweeps());
+            if let Some(sweeps) = sweeps {
+                let cap = if matches!(entry.name().as_str(), "hermitian_eigenvalues" | "schmidt_values_from_density") {
+                    60
+                } else {
+                    100
+                };
+                match plain.number {
+                    0 => assert!(
+                        (1..=cap).contains(&sweeps.begun) && (sweeps.quiet || sweeps.begun == cap),
+                        "{}",
+                        call.line()
+                    ),
+                    _ => assert_eq!(sweeps, Sweeps { begun: 0, quiet: false }, "{}", call.line()),
+                }
+            }
+        }
+    }
+}
+
 /// The bits of 12,000 drawn outcomes. `cargo test` and `cargo test --release` both ask, so that a compiler, an
 /// optimisation level or a num-complex that changes a bit of the oracle is seen.
 #[test]
@@ -216,10 +275,11 @@ fn no_optimisation_level_changes_a_bit() {
     for (seed, entry) in [entries, factors, others].into_iter().flatten().enumerate() {
         let rng = &mut harness::random::Random::new(seed as u64);
         for _ in 0..1000 {
-            let outcome = outcome(&cases::any(rng, entry, Bounds { qubits: 5, side: 6 }), Build::Replaced);
+            let outcome = outcome(&cases::any(rng, entry, Bounds { qubits: 5, side: 6 }), Build::Counting);
             [u64::from(outcome.number), outcome.place, outcome.value].into_iter().for_each(&mut add);
+            outcome.sweeps.iter().flat_map(|s| [s.begun, u64::from(s.quiet)]).for_each(&mut add);
             outcome.slices.iter().flatten().copied().for_each(&mut add);
         }
     }
-    assert_eq!(digest, 0xF28BDE023A9489DC, "{digest:#X}");
+    assert_eq!(digest, 0x34947348B6858AA6, "{digest:#X}");
 }

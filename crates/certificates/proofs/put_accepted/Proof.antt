@@ -33,7 +33,7 @@ same-length : tie.Need-same-length
 same-length c = search needs
 
 returns : tie.Need-returns
-returns c = let a = c .before .before .before .before .before .before .before .before .before .before .before .before .before .pre .0 in let e = part-is _ _ _ (c .before .before .before .before .before .before .before .before .smaller-side .result) _ _ refl (a .small) (a .taken) (c .before .before .before .before .before .before .before .before .smaller-side .ensures) (c .before .before .before .before .side-part .ensures) in record { puts = puts-as _ _ _ _ _ _ (accepted-is _ _ _ (c .before .before .before .before .before .before .sides-of .result) _ (c .before .before .before .before .before .before .sides-of .ensures) e) (c .before .before .put-listing .ensures); short = accepted-short _ _ _ a }
+returns c = let a = c .before .before .before .before .before .before .before .before .before .before .before .before .before .pre .0 in let e = part-is _ _ _ (c .before .before .before .before .before .before .before .before .smaller-side .result) _ _ refl (a .small) (a .taken) (c .before .before .before .before .before .before .before .before .smaller-side .ensures) (c .before .before .before .before .side-part .ensures) in record { puts = puts-as _ _ _ _ _ _ (accepted-is _ _ _ _ _ (c .before .before .before .before .before .before .sides-of .result) _ (c .before .before .before .before .before .before .sides-of .ensures) e) (c .before .before .put-listing .ensures); short = accepted-short _ _ _ _ _ a }
 
 pub put-accepted-spec : {M : Type 1} → statement M
 put-accepted-spec =

@@ -1,7 +1,7 @@
 -- `cut_values::sweep` meets its contract: the planes, the sweeps on them, the norms. Assumes nothing.
 use native.Mathlib.Omega.{arith}
 use Rattle.qubits.proofs.NamedLaws.{pow-small}
-use Rattle.cut_values.proofs.SchmidtLaws.{sized-ready, all-cells, norms-made}
+use Rattle.cut_values.proofs.SchmidtLaws.{sized-ready, all-cells, norms-made, sweeps-made}
 use borrow.Author.Needs.{needs}
 use Rattle.cut_values.proofs.sweep.Statement.{statement}
 use Rattle.cut_values.proofs.sweep.Tie as tie
@@ -28,7 +28,10 @@ same-length-2 : tie.Need-same-length-2
 same-length-2 c = search needs
 
 returns : tie.Need-returns
-returns c = norms-made _ _ _ (c .before .before .before .before .before .before .before .settle-alone .result) (c .before .before .before .before .before .before .before .before .before .before .before .gather-work .ensures) (c .before .before .before .before .before .before .before .settle-alone .ensures) (c .before .before .norms .ensures)
+returns c =
+    let t = c .before .before .before .before .before .before .before .settle-alone in
+    let g = c .before .before .before .before .before .before .before .before .before .before .before .gather-work .ensures in
+    (norms-made _ _ _ (t .result) g (t .ensures) (c .before .before .norms .ensures), sweeps-made _ _ _ (t .result) (c .before .before .before .before .before .before .before .before .before .before .before .before .before .before .before .before .pre .0) g (t .ensures))
 
 pub sweep-spec : {M : Type 1} → statement M
 sweep-spec =

@@ -30,6 +30,9 @@ finish-finite-requires c κs =
     let p = c .before .before .before .before .before .before .before .before .before .before .before .before .before .before .before .pre in
     same-le (front-length _ (c .before .before .before .before .before .before .before .before .before .singular-values .last .1 .1 .1 .0) _ (c .before .before .before .before .before .before .before .before .before .singular-values .kept .1 .1 .1 .0 ∙ length-take-le _ _ (p .0 .few))) (p .1)
 
+answered-count-requires : tie.Need-answered-count-requires
+answered-count-requires c κs = search needs
+
 same-length : tie.Need-same-length
 same-length c = search needs
 
@@ -38,11 +41,12 @@ same-length-2 c = search needs
 
 returns : tie.Need-returns
 returns c =
-    let p = c .before .before .before .before .before .before .before .before .before .before .before .before .before .before .before .before .before .before .pre in
-    let v = c .before .before .before .before .before .before .before .before .before .before .before .before .singular-values in
+    let p = c .before .before .before .before .before .before .before .before .before .before .before .before .before .before .before .before .before .before .before .pre in
+    let v = c .before .before .before .before .before .before .before .before .before .before .before .before .before .singular-values in
+    let f = c .before .before .before .finish-finite in
     let k = v .kept .1 .1 .1 .0 ∙ length-take-le _ _ (p .0 .few) in
     let m = v .kept .1 .1 .1 .1 .0 ∙ p .2 in
-    worked _ _ _ _ _ _ (c .before .before .finish-finite .result) _ (take-at _ _ _ k ∙ v .ensures) (front-length _ (v .last .1 .1 .1 .0) _ k) (c .before .before .finish-finite .ensures) m m (c .before .before .before .before .before .before .before .zero-first .ensures)
+    worked _ _ _ _ _ _ (f .result) _ _ (take-at _ _ _ k ∙ v .ensures .0) (front-length _ (v .last .1 .1 .1 .0) _ k) (v .ensures .1) (f .ensures) m m (c .before .before .before .before .before .before .before .before .zero-first .ensures) (c .answered-count .ensures)
 
 pub work-spec : {M : Type 1} → statement M
 work-spec =
@@ -55,6 +59,7 @@ work-spec =
     array-share-prefix-values
     slice-aggregate-finish-finite
     finish-finite-requires
+    answered-count-requires
     same-length
     same-length-2
     returns)

@@ -17,7 +17,10 @@ of-file-requires : tie.Need-of-file-requires
 of-file-requires c κs = let h = c .before .before .before .before .check-header in (header-fits _ (h .result) (h .ensures) (was-done (h .result .answer) _ (h .ensures .answer-is) (c .before .before .enum-told .given .1)), search needs, search needs)
 
 returns-2 : tie.Need-returns-2
-returns-2 c = let h = c .before .before .before .before .before .check-header in header-done _ (h .result) (h .ensures) (was-done (h .result .answer) _ (h .ensures .answer-is) (c .before .before .before .enum-told .given .1)) _ _ (c .of-file .result) _ _ (c .of-file .ensures) (c .of-file .kept .1 .1 .1 .0) (c .of-file .kept .1 .1 .1 .1 .0)
+returns-2 c =
+    let h = c .before .before .before .before .before .before .check-header in
+    let f = c .before .of-file in
+    header-done _ (h .result) (h .ensures) (was-done (h .result .answer) _ (h .ensures .answer-is) (c .before .before .before .before .enum-told .given .1)) _ _ (f .result) _ _ (f .ensures) (f .kept .1 .1 .1 .0) (f .kept .1 .1 .1 .1 .0)
 
 pub cut-result-spec : {M : Type 1} → statement M
 cut-result-spec =

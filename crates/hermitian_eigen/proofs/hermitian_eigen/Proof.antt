@@ -27,8 +27,11 @@ check-requires c κs = search needs
 enum-told : tie.Need-enum-told
 enum-told c = search needs
 
+refused-requires : tie.Need-refused-requires
+refused-requires c κs = search needs
+
 returns : tie.Need-returns
-returns c = eigen-refused _ _ _ _ _ (c .before .check .result) (c .before .check .ensures) (stopped-number (c .before .check .result) (c .match .keys2))
+returns c = eigen-refused _ _ _ _ _ (c .before .before .check .result) _ (c .refused .ensures) (c .before .before .check .ensures) (stopped-number (c .before .before .check .result) (c .before .match .keys2))
 
 mul-for-vectors : tie.Need-mul-for-vectors
 mul-for-vectors c = omega (arith, cells c)
@@ -87,6 +90,7 @@ hermitian-eigen-spec =
     (tie.spec
     check-requires
     enum-told
+    refused-requires
     returns
     mul-for-vectors
     mul-for-vectors-2

@@ -20,18 +20,46 @@ put-side-requires c κs = omega (arith, c .before .before .before .put-cut .ensu
 put-values-requires : tie.Need-put-values-requires
 put-values-requires c κs = omega (arith, c .before .before .before .before .before .before .before .put-cut .ensures .next, c .before .before .before .before .before .before .before .put-cut .kept .0, length-cut (c .before .before .before .before .before .before .before .before .before .before .before .before .args .n) (c .before .before .before .before .before .before .before .before .before .before .before .before .args .k) (c .before .before .before .before .before .before .before .before .before .before .before .before .args .rows) (c .before .before .before .before .before .before .before .before .before .before .before .before .args .cols), c .before .before .before .put-side .ensures .next, c .before .before .before .put-side .kept .0, length-side (now (c .before .before .before .before .before .before .before .before .before .before .before .before .args .side)))
 
-slice-aggregate-put-line : tie.Need-slice-aggregate-put-line
-slice-aggregate-put-line c = search needs
-
-put-line-requires : tie.Need-put-line-requires
-put-line-requires c κs = omega (arith, c .before .before .before .before .before .before .before .before .before .before .before .before .put-cut .ensures .next, c .before .before .before .before .before .before .before .before .before .before .before .before .put-cut .kept .0, length-cut (c .before .before .before .before .before .before .before .before .before .before .before .before .before .before .before .before .before .args .n) (c .before .before .before .before .before .before .before .before .before .before .before .before .before .before .before .before .before .args .k) (c .before .before .before .before .before .before .before .before .before .before .before .before .before .before .before .before .before .args .rows) (c .before .before .before .before .before .before .before .before .before .before .before .before .before .before .before .before .before .args .cols), c .before .before .before .before .before .before .before .before .put-side .ensures .next, c .before .before .before .before .before .before .before .before .put-side .kept .0, length-side (now (c .before .before .before .before .before .before .before .before .before .before .before .before .before .before .before .before .before .args .side)), c .before .before .before .before .put-values .ensures .next, c .before .before .before .before .put-values .kept .0, length-values (length (now (c .before .before .before .before .before .before .before .before .before .before .before .before .before .before .before .before .before .args .values))) (now (c .before .before .before .before .before .before .before .before .before .before .before .before .before .before .before .before .before .args .values)))
+put-end-requires : tie.Need-put-end-requires
+put-end-requires c κs =
+    let a = c .before .before .before .before .before .before .before .before .before .before .before .before .before .before .before .before .args in
+    let x = c .before .before .before .before .before .before .before .before .before .before .before .put-cut in
+    let y = c .before .before .before .before .before .before .before .put-side in
+    let z = c .before .before .before .put-values in
+    omega (
+      arith,
+      x .ensures .next,
+      x .kept .0,
+      length-cut (a .n) (a .k) (a .rows) (a .cols),
+      y .ensures .next,
+      y .kept .0,
+      length-side (now (a .side)),
+      z .ensures .next,
+      z .kept .0,
+      length-values (length (now (a .values))) (now (a .values)),
+    )
 
 same-length : tie.Need-same-length
 same-length c = search needs
 
 returns : tie.Need-returns
 unfolding listing
-returns c = let s = c .before .before .before .before .before .before .before .before .before .before .before .before .before .before .before .before .before .before .before .before .args in let p = c .before .before .before .before .before .before .before .before .before .before .before .before .before .before .before .before .before .before .before .before .pre in let u = cutLine (s .n) (s .k) (s .rows) (s .cols) in let v = sideLine (now (s .side)) in let w = valueLines (length (now (s .values))) (now (s .values)) in let i = length-cut (s .n) (s .k) (s .rows) (s .cols) in let j = length-side (now (s .side)) in let k = length-values (length (now (s .values))) (now (s .values)) in let a = length-append u v in let b = length-append (u ++ v) w in puts-then _ _ _ _ _ _ _ _ (omega arith) (puts-then _ _ _ _ _ _ _ _ (omega arith) (puts-then _ _ _ _ _ _ _ _ (omega arith) (c .before .before .before .before .before .before .before .before .before .before .before .before .before .before .before .put-cut .ensures) (c .before .before .before .before .before .before .before .before .before .before .before .put-side .ensures)) (c .before .before .before .before .before .before .before .put-values .ensures)) (c .before .before .put-line .ensures)
+returns c =
+    let s = c .before .before .before .before .before .before .before .before .before .before .before .before .before .before .before .before .before .before .before .args in
+    let p = c .before .before .before .before .before .before .before .before .before .before .before .before .before .before .before .before .before .before .before .pre in
+    let u = cutLine (s .n) (s .k) (s .rows) (s .cols) in
+    let v = sideLine (now (s .side)) in
+    let w = valueLines (length (now (s .values))) (now (s .values)) in
+    let i = length-cut (s .n) (s .k) (s .rows) (s .cols) in
+    let j = length-side (now (s .side)) in
+    let k = length-values (length (now (s .values))) (now (s .values)) in
+    let a = length-append u v in
+    let b = length-append (u ++ v) w in
+    puts-then _ _ _ _ _ _ _ _ (omega arith)
+    (puts-then _ _ _ _ _ _ _ _ (omega arith)
+    (puts-then _ _ _ _ _ _ _ _ (omega arith) (c .before .before .before .before .before .before .before .before .before .before .before .before .before .before .put-cut .ensures) (c .before .before .before .before .before .before .before .before .before .before .put-side .ensures))
+    (c .before .before .before .before .before .before .put-values .ensures))
+    (c .before .before .put-end .ensures)
 
 pub put-listing-spec : {M : Type 1} → statement M
 put-listing-spec =
@@ -40,7 +68,6 @@ put-listing-spec =
     put-cut-requires
     put-side-requires
     put-values-requires
-    slice-aggregate-put-line
-    put-line-requires
+    put-end-requires
     same-length
     returns)

@@ -22,14 +22,23 @@ mul-zero-first-2 c = omega (arith, c .before .before .before .before .before .be
 zero-first-requires : tie.Need-zero-first-requires
 zero-first-requires c κs = omega (arith, c .before .before .before .before .before .before .before .before .before .before .before .before .before .before .before .before .before .before .pre .1, c .before .before .before .before .before .before .before .before .before .before .before .before .spectrum .kept .1 .1 .1 .0, c .before .before .before .before .before .finish-weights .kept .1 .1 .0)
 
+answered-count-requires : tie.Need-answered-count-requires
+answered-count-requires c κs = search needs
+
 same-length : tie.Need-same-length
 same-length c = search needs
 
 same-length-2 : tie.Need-same-length-2
-same-length-2 c = omega (arith, c .before .before .zero-first .kept .0, c .before .before .before .before .before .before .before .before .finish-weights .kept .1 .1 .0, c .before .before .before .before .before .before .before .before .before .before .before .before .before .before .before .spectrum .kept .1 .1 .1 .0)
+same-length-2 c = omega (arith, c .before .before .before .zero-first .kept .0, c .before .before .before .before .before .before .before .before .before .finish-weights .kept .1 .1 .0, c .before .before .before .before .before .before .before .before .before .before .before .before .before .before .before .before .spectrum .kept .1 .1 .1 .0)
 
 returns : tie.Need-returns
-returns c = let z = c .before .before .before .before .before .before .before .before .before .before .before .before .before .before .before .before .before .before .before .before .before in density-made _ _ _ _ _ _ _ _ (c .before .before .before .before .before .before .before .before .before .before .before .before .before .before .before .spectrum .ensures .0) (c .before .before .before .before .before .before .before .before .finish-weights .ensures) (c .before .before .zero-first .ensures ∙ zeroed-other _ _ _ (omega (arith, z .pre .1, c .before .before .before .before .before .before .before .before .before .before .before .before .before .before .before .spectrum .kept .1 .1 .1 .0, c .before .before .before .before .before .before .before .before .finish-weights .kept .1 .1 .0)) (omega (arith, z .pre .1)))
+returns c =
+    let z = c .before .before .before .before .before .before .before .before .before .before .before .before .before .before .before .before .before .before .before .before .before .before in
+    let s = c .before .before .before .before .before .before .before .before .before .before .before .before .before .before .before .before .spectrum in
+    let f = c .before .before .before .before .before .before .before .before .before .finish-weights in
+    density-made _ _ _ _ _ (f .result) _ _ _ (s .ensures .0) (s .ensures .2) (f .ensures)
+    (c .before .before .before .zero-first .ensures ∙ zeroed-other _ _ _ (omega (arith, z .pre .1, s .kept .1 .1 .1 .0, f .kept .1 .1 .0)) (omega (arith, z .pre .1)))
+    (c .answered-count .ensures)
 
 pub density-work-spec : {M : Type 1} → statement M
 density-work-spec =
@@ -40,6 +49,7 @@ density-work-spec =
     mul-zero-first
     mul-zero-first-2
     zero-first-requires
+    answered-count-requires
     same-length
     same-length-2
     returns)

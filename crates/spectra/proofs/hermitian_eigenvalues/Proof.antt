@@ -11,8 +11,11 @@ square-refusal-requires c κs = search needs
 enum-told : tie.Need-enum-told
 enum-told c = search needs
 
+refused-requires : tie.Need-refused-requires
+refused-requires c κs = search needs
+
 returns : tie.Need-returns
-returns c = eigenvalues-refused _ _ _ _ (c .before .square-refusal .result) (c .before .square-refusal .ensures) (stopped-number (c .before .square-refusal .result) (c .match .keys2))
+returns c = eigenvalues-refused _ _ _ _ (c .before .before .square-refusal .result) _ (c .refused .ensures) (c .before .before .square-refusal .ensures) (stopped-number (c .before .before .square-refusal .result) (c .before .match .keys2))
 
 work-out-requires : tie.Need-work-out-requires
 work-out-requires c κs = square-given _ _ _ _ (was-done _ _ (c .before .before .before .before .square-refusal .ensures) (c .before .before .enum-told .given .1))
@@ -32,6 +35,7 @@ hermitian-eigenvalues-spec =
     (tie.spec
     square-refusal-requires
     enum-told
+    refused-requires
     returns
     work-out-requires
     same-length

@@ -17,8 +17,11 @@ square-refusal-requires c κs = search needs
 enum-told : tie.Need-enum-told
 enum-told c = search needs
 
+refused-count-requires : tie.Need-refused-count-requires
+refused-count-requires c κs = search needs
+
 returns : tie.Need-returns
-returns c = density-refused _ _ _ _ (c .before .square-refusal .result) (c .before .square-refusal .ensures) (stopped-number (c .before .square-refusal .result) (c .match .keys2))
+returns c = density-refused _ _ _ _ (c .before .before .square-refusal .result) _ (c .refused-count .ensures) (c .before .before .square-refusal .ensures) (stopped-number (c .before .before .square-refusal .result) (c .before .match .keys2))
 
 mul-need : tie.Need-mul-need
 mul-need c = omega (arith, mul-le-mul-right (c .before .before .before .before .before .before .args .dim) ((square-given _ _ _ _ (was-done _ _ (c .before .before .square-refusal .ensures) (c .enum-told .given .1))) .side), (square-given _ _ _ _ (was-done _ _ (c .before .before .square-refusal .ensures) (c .enum-told .given .1))) .side)
@@ -50,6 +53,7 @@ schmidt-values-from-density-spec =
     (tie.spec
     square-refusal-requires
     enum-told
+    refused-count-requires
     returns
     mul-need
     mul-need-2

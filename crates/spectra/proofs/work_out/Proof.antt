@@ -33,6 +33,9 @@ slice-aggregate-all-finite c = sym (length-take-le _ _ (omega (arith, c .before 
 all-finite-requires : tie.Need-all-finite-requires
 all-finite-requires c κs = search needs
 
+answered-requires : tie.Need-answered-requires
+answered-requires c κs = search needs
+
 same-length : tie.Need-same-length
 same-length c = search needs
 
@@ -40,10 +43,15 @@ same-length-2 : tie.Need-same-length-2
 same-length-2 c = search needs
 
 returns : tie.Need-returns
-returns c = worked-done _ _ _ _ _ _ (c .before .before .before .before .before .before .before .spectrum .ensures .0) (zeroed-part _ _ _ (c .before .before .before .before .before .before .before .before .before .before .before .before .before .pre .spare) (c .before .before .before .before .before .before .before .spectrum .ensures .1)) _ (c .before .all-finite .ensures) (c .if1 .taken)
+returns c =
+    let s = c .before .before .before .before .before .before .before .before .spectrum .ensures in
+    worked-done _ _ _ _ _ _ _ (s .0) (zeroed-part _ _ _ (c .before .before .before .before .before .before .before .before .before .before .before .before .before .before .pre .spare) (s .1)) (s .2) _ (c .before .before .all-finite .ensures) (c .before .if1 .taken) _ (c .answered .ensures)
 
 zero-first-requires : tie.Need-zero-first-requires
 zero-first-requires c κs = omega (arith, c .before .before .before .before .before .before .before .before .before .before .before .before .before .before .pre .room, c .before .before .before .before .before .before .before .before .spectrum .kept .1 .1 .0)
+
+refused-requires : tie.Need-refused-requires
+refused-requires c κs = search needs
 
 same-length-3 : tie.Need-same-length-3
 same-length-3 c = search needs
@@ -52,7 +60,9 @@ same-length-4 : tie.Need-same-length-4
 same-length-4 c = search needs
 
 returns-2 : tie.Need-returns-2
-returns-2 c = worked-infinite _ _ _ _ _ _ (c .before .before .before .before .before .before .before .before .before .before .before .spectrum .ensures .0) (zeroed-part _ _ _ (c .before .before .before .before .before .before .before .before .before .before .before .before .before .before .before .before .before .pre .spare) (c .before .before .before .before .before .before .before .before .before .before .before .spectrum .ensures .1)) _ (c .before .before .before .before .before .all-finite .ensures) (c .before .before .before .before .if1 .left) _ (c .before .before .zero-first .ensures)
+returns-2 c =
+    let s = c .before .before .before .before .before .before .before .before .before .before .before .before .spectrum .ensures in
+    worked-infinite _ _ _ _ _ _ _ (s .0) (zeroed-part _ _ _ (c .before .before .before .before .before .before .before .before .before .before .before .before .before .before .before .before .before .before .pre .spare) (s .1)) (s .2) _ (c .before .before .before .before .before .before .all-finite .ensures) (c .before .before .before .before .before .if1 .left) _ (c .before .before .before .zero-first .ensures) _ (c .refused .ensures)
 
 pub work-out-spec : {M : Type 1} → statement M
 work-out-spec =
@@ -66,10 +76,12 @@ work-out-spec =
     slice-reshare-prefix-all-finite
     slice-aggregate-all-finite
     all-finite-requires
+    answered-requires
     same-length
     same-length-2
     returns
     zero-first-requires
+    refused-requires
     same-length-3
     same-length-4
     returns-2)

@@ -44,8 +44,11 @@ check-requires c κs = search needs
 enum-told : tie.Need-enum-told
 enum-told c = search needs
 
+refused-requires : tie.Need-refused-requires
+refused-requires c κs = search needs
+
 returns : tie.Need-returns
-returns c = svd-refused _ _ _ _ _ _ _ (c .before .check .result) (c .before .check .ensures) (stopped-number (c .before .check .result) (c .match .keys2))
+returns c = svd-refused _ _ _ _ _ _ _ (c .before .before .check .result) _ (c .refused .ensures) (c .before .before .check .ensures) (stopped-number (c .before .before .check .result) (c .before .match .keys2))
 
 smaller-size-requires : tie.Need-smaller-size-requires
 smaller-size-requires c κs = search needs
@@ -122,6 +125,7 @@ svd-jacobi-spec =
     (tie.spec
     check-requires
     enum-told
+    refused-requires
     returns
     smaller-size-requires
     mul-for-u

@@ -14,6 +14,9 @@ zero-first-requires c κs = search needs
 finish-requires : tie.Need-finish-requires
 finish-requires c κs = search needs
 
+answered-requires : tie.Need-answered-requires
+answered-requires c κs = search needs
+
 same-length : tie.Need-same-length
 same-length c = search needs
 
@@ -28,10 +31,10 @@ same-length-4 c = search needs
 
 returns : tie.Need-returns
 returns c =
-    let start = c .before .before .before .before .before .before .before .before .before .before .before .before .before .before .before .before .before .before .before .before .before .before .before .before .before .before .before .before .before .before .before .before in
+    let start = c .before .before .before .before .before .before .before .before .before .before .before .before .before .before .before .before .before .before .before .before .before .before .before .before .before .before .before .before .before .before .before .before .before in
     let a = start .args in
-    let f = c .before .before .before .before .before .before .before .before .before .before .before .before .before .before .before .before .before .before .before .before .before .before .factor in
-    worked _ _ _ _ (now (a .u)) (now (a .s)) (now (a .vt)) (now (a .scratch)) _ _ (start .pre)
+    let f = c .before .before .before .before .before .before .before .before .before .before .before .before .before .before .before .before .before .before .before .before .before .before .before .factor in
+    worked _ _ _ _ (now (a .u)) (now (a .s)) (now (a .vt)) (now (a .scratch)) _ _ _ (start .pre)
     (f .kept .1 .1 .1 .0)
     (f .kept .1 .1 .1 .1 .0)
     (f .kept .1 .1 .1 .1 .1 .0)
@@ -39,8 +42,9 @@ returns c =
     _
     (f .kept .1 .1 .1 .1 .1 .1 .0)
     (f .kept .1 .1 .1 .1 .1 .1 .0)
-    (c .before .before .before .before .before .before .before .before .before .before .before .before .zero-first .ensures)
-    (c .before .before .before .before .before .before .finish .ensures)
+    (c .before .before .before .before .before .before .before .before .before .before .before .before .before .zero-first .ensures)
+    (c .before .before .before .before .before .before .before .finish .ensures)
+    (c .answered .ensures)
 
 pub work-spec : {M : Type 1} → statement M
 work-spec =
@@ -49,6 +53,7 @@ work-spec =
     factor-requires
     zero-first-requires
     finish-requires
+    answered-requires
     same-length
     same-length-2
     same-length-3

@@ -1,0 +1,31 @@
+-- Laws of what `specs/Factored.antt` defines. Assumes nothing.
+use mathlib.Core.Path.{_≡_, ap, ap₂, _∙_}
+use Prim.Native.Nat.{ℕ}
+use Rattle.answers.specs.declared.Answer.{Answer}
+use Rattle.answers.specs.declared.Answer.the-variants.{Done}
+use Rattle.answers.specs.Paper.{paper, ifDone}
+use Rattle.answers.proofs.PaperLaws.{done-new, done-old}
+use Rattle.svd_sweeps.specs.declared.Sweeps.{Sweeps}
+use Rattle.svd_sweeps.specs.Sweeping.{noSweeps}
+use Rattle.factored.specs.declared.Factored.{Factored}
+use Rattle.factored.specs.declared.Counted.{Counted}
+use Rattle.factored.specs.Factored.{keptSweeps}
+
+-- a call that is done keeps its sweeps
+pub kept-done : (a : Answer) (s : Sweeps) → a ≡ Done → s ≡ keptSweeps a s
+kept-done a s e = done-new (paper a .0) s noSweeps (ap (λ (x : Answer). paper x .0) e)
+
+-- a refused one has none
+pub kept-none : (a : Answer) (s : Sweeps) {r : Sweeps} → (paper a .0 ≡ 0 → ⊥) → r ≡ noSweeps → r ≡ keptSweeps a s
+kept-none a s h e = e ∙ done-old (paper a .0) s noSweeps h
+
+-- the sweeps of the work, under the answer that is handed on
+pub kept-by : {a b : Answer} {s t r : Sweeps} → a ≡ b → s ≡ t → r ≡ keptSweeps b s → r ≡ keptSweeps a t
+kept-by f g e = rw (f, ← g) e
+
+-- two with the same parts are the same
+pub factored-one : (r q : Factored) → r .answer ≡ q .answer → r .sweeps ≡ q .sweeps → r ≡ q
+factored-one r q e f = ap₂ (λ (a : Answer) (s : Sweeps). record { answer = a; sweeps = s }) e f
+
+pub counted-one : (r q : Counted) → r .answer ≡ q .answer → r .count ≡ q .count → r .sweeps ≡ q .sweeps → r ≡ q
+counted-one r q e f g = rw (← e, ← f, ← g)

@@ -1,0 +1,2 @@
+-- What the contracts of `factored` cite.
+pub mod Factored
