@@ -18,9 +18,11 @@
  * the need. On any refusal a returned count, rank or base is 0 and a returned yes or no is no.
  *
  * The five calls that sweep (SVD, both of eigenvalues, both of Schmidt values) also store how many sweeps were begun, the
- * quiet one included, and whether the last was quiet, that is turned no pair. No means that the work was given up at its cap
- * of 100 sweeps (60 in zg_hermitian_eigenvalues and zg_schmidt_values_from_density); the results are what the sweeps left.
- * A single column gives 1 and yes; a quiet last sweep at the cap gives the cap and yes; a refusal 0 and no.
+ * quiet one included, whether the last was quiet, that is turned no pair, and how many pairs were turned in all. No means that
+ * the work was given up at its cap of 100 sweeps (60 in zg_hermitian_eigenvalues and zg_schmidt_values_from_density); the results
+ * are what the sweeps left. A single column gives 1 and yes; a quiet last sweep at the cap gives the cap and yes; a refusal 0, no
+ * and 0. With k the smaller side no more than (sweeps - 1)*k*(k-1)/2 pairs are turned where the last sweep was quiet, and never
+ * more than the cap's times k*(k-1)/2: 201,600 at k = 64.
  *
  * n is 1 to 12. The cap used is the smaller of cap and 13: a cut needs n + 1 at most the cap, a density over k
  * qubits 2k at most the cap. side is the smaller of k and n - k.
@@ -120,7 +122,7 @@ uint32_t zg_multiply_block_factor(double *rho, size_t rho_len, size_t dim, const
  * sweeps at most. Refused by 1, 6, 7, 9. */
 uint32_t zg_svd_jacobi(const double *a, size_t a_len, size_t m, size_t n, double *u, size_t u_len, double *s,
                        size_t s_len, double *vt, size_t vt_len, double *scratch, size_t scratch_len, size_t *place,
-                       size_t *sweeps, bool *quiet);
+                       size_t *sweeps, bool *quiet, size_t *turned);
 
 /* Slices: a 0 (rows by cols, column-major, exactly 2*rows*cols numbers; rows*cols at most 4096), q 1 (2*rows*k,
  * k = min(rows, cols), column-major), r 2 (2*k*cols, row-major), scratch 3 (2*rows). Modified Gram-Schmidt; columns of
@@ -150,13 +152,13 @@ uint32_t zg_finish_schmidt_values(const double *values, size_t values_len, doubl
 /* Slices: a 0 (dim by dim, exactly 2*dim*dim numbers; dim 1 to 64), out 1 (dim), scratch 2 (2*dim*dim). The diagonal
  * that cyclic Jacobi sweeps leave, 60 at most. Refused by 1, 6, 7, 9. */
 uint32_t zg_hermitian_eigenvalues(const double *a, size_t a_len, size_t dim, double *out, size_t out_len,
-                                  double *scratch, size_t scratch_len, size_t *place, size_t *sweeps, bool *quiet);
+                                  double *scratch, size_t scratch_len, size_t *place, size_t *sweeps, bool *quiet, size_t *turned);
 
 /* Slices: rho 0 (exactly 2*dim*dim), out 1 (dim), scratch 2 (2*dim*dim). Eigenvalues above the floor, their roots, then
  * the finish; the sweeps are those of the eigenvalues. Refused by 1, 6 to 9. */
 uint32_t zg_schmidt_values_from_density(const double *rho, size_t rho_len, size_t dim, double *out, size_t out_len,
                                         double *scratch, size_t scratch_len, size_t *place, size_t *count,
-                                        size_t *sweeps, bool *quiet);
+                                        size_t *sweeps, bool *quiet, size_t *turned);
 
 /* Slices: matrix 0 (dim by dim, column-major, exactly 2*dim*dim numbers; dim 1 to 64), values 1 (dim, rising), vectors 2
  * (2*dim*dim, one to a column), scratch 3 (6*dim*dim + 2*dim). Eigenvalues and eigenvectors: the singular values and U of
@@ -164,14 +166,14 @@ uint32_t zg_schmidt_values_from_density(const double *rho, size_t rho_len, size_
  * those of the SVD. Refused by 1, 6, 7, 9. */
 uint32_t zg_hermitian_eigen(const double *matrix, size_t matrix_len, size_t dim, double *values, size_t values_len,
                             double *vectors, size_t vectors_len, double *scratch, size_t scratch_len, size_t *place,
-                            size_t *sweeps, bool *quiet);
+                            size_t *sweeps, bool *quiet, size_t *turned);
 
 /* Slices: state 0 (exactly 2*2^n numbers), list 1, out 2 (2^side), scratch 3 (8*2^n + 2*2^side). The Schmidt values of the
  * cut: the singular values of its matrix, 9 where one is not finite, then the finish. The sweeps are those of the SVD.
  * Refused as a cut by 1 to 5, then by 6 to 9. */
 uint32_t zg_dense_schmidt_values(const double *state, size_t state_len, size_t n, const size_t *list, size_t list_len,
                                  size_t cap, double *out, size_t out_len, double *scratch, size_t scratch_len,
-                                 size_t *place, size_t *count, size_t *sweeps, bool *quiet);
+                                 size_t *place, size_t *count, size_t *sweeps, bool *quiet, size_t *turned);
 
 /* ---- ranks and sites */
 

@@ -1,6 +1,7 @@
 //! Times the port's entry points and the published Rust on the same inputs, in one process: rounds interleaved, buffers
 //! warm, both built for release, the thread's own processor time. A row is a call at a size: the medians in microseconds
-//! and the port's time as a part of the Rust's. An entry point that the library lacks is left out.
+//! and the port's time as a part of the Rust's. An entry point that the library lacks is left out. A second table has, of the
+//! calls that sweep, the sweeps, the turned pairs, the time for one and the ceiling on them.
 
 use std::hint::black_box;
 
@@ -192,14 +193,37 @@ fn medians(row: &Row, rounds: usize) -> Option<(f64, f64)> {
     Some((each(ours), each(theirs)))
 }
 
+/// The most pairs that a call that sweeps can turn: its cap times the pairs of its smaller side.
+fn ceiling(call: &Call) -> Option<usize> {
+    let pairs = |k: usize| k * (k - 1) / 2;
+    match call.entry {
+        svd_jacobi => Some(100 * pairs(call.one(1).min(call.one(2)))),
+        dense_schmidt_values => Some(100 * pairs(1 << call.many(2).len().min(call.one(1) - call.many(2).len()))),
+        hermitian_eigenvalues => Some(60 * pairs(call.one(1))),
+        hermitian_eigen => Some(100 * pairs(call.one(1))),
+        _ => None,
+    }
+}
+
 fn main() {
     let rounds = std::env::args().nth(1).and_then(|word| word.parse().ok()).unwrap_or(41);
     let wanted = std::env::args().nth(2).unwrap_or_default();
+    let mut turns = vec![];
     println!("| call | size | port, µs | Rust, µs | ratio |");
     println!("|---|---|---|---|---|");
     for row in rows().iter().filter(|row| row.name.contains(&wanted)) {
         if let Some((ours, theirs)) = medians(row, rounds) {
             println!("| {} | {} | {ours:.3} | {theirs:.3} | {:.2} |", row.name, row.size, ours / theirs);
+            let mut ready = port::Ready::new(&row.call);
+            let said = ready.make().and_then(|number| ready.outcome(number)).and_then(|outcome| outcome.sweeps);
+            if let (Some(said), Some(most)) = (said, ceiling(&row.call)) {
+                let (begun, turned) = (said.begun, said.turned);
+                let each = 1e3 * ours / turned as f64;
+                turns.push(format!("| {} | {} | {begun} | {turned} | {each:.0} | {most} |", row.name, row.size));
+            }
         }
     }
+    println!("\n| call | size | sweeps | turned pairs | ns for each | ceiling |");
+    println!("|---|---|---|---|---|---|");
+    turns.iter().for_each(|line| println!("{line}"));
 }

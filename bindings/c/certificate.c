@@ -15,6 +15,7 @@ struct found {
     double values[SIDE];
     size_t place, count, sweeps;
     bool quiet;
+    size_t turned;
 };
 
 /* The Schmidt values: the cut matrix, its singular values, the finish. */
@@ -24,7 +25,7 @@ static uint32_t values_of(const double *state, size_t length, const size_t *list
 
     if (answer == 0)
         answer = zg_svd_jacobi(cut, 2 * AMPLITUDES, SIDE, SIDE, u, 2 * SIDE * SIDE, s, SIDE, vt, 2 * SIDE * SIDE,
-                               scratch, SCRATCH, &found->place, &found->sweeps, &found->quiet);
+                               scratch, SCRATCH, &found->place, &found->sweeps, &found->quiet, &found->turned);
     if (answer == 0)
         answer = zg_finish_schmidt_values(s, SIDE, found->values, SIDE, &found->place, &found->count);
     return answer;

@@ -15,7 +15,7 @@ static double state[2 * CELLS], matrix[2 * CELLS], square[2 * CELLS], out[2 * CE
 static double scratch[8 * CELLS + 128], factor[2 * CELLS];
 static const size_t six[] = {0, 2, 4, 6, 8, 10}, low[] = {0, 1, 2, 3, 4, 5};
 static const size_t eleven[] = {0, 1, 2, 3, 4, 5, 6, 7, 8, 9, 10};
-static size_t offsets[CELLS], place, count, sweeps;
+static size_t offsets[CELLS], place, count, sweeps, turned;
 static bool quiet;
 static uint64_t wide;
 static uint32_t answer;
@@ -44,7 +44,7 @@ static void mirror(void) { answer = zg_mirror_lower_triangle(matrix, 2 * CELLS, 
 static void trace(void) { answer = zg_normalize_trace(matrix, 2 * CELLS, 64, &place); }
 static void block(void) { answer = zg_multiply_block_factor(matrix, 2 * CELLS, 64, low, 6, factor, 2 * CELLS, 64, &place); }
 static void svd(void) {
-    answer = zg_svd_jacobi(square, 2 * CELLS, 64, 64, out, 2 * CELLS, more, 64, third, 2 * CELLS, scratch, 6 * CELLS + 128, &place, &sweeps, &quiet);
+    answer = zg_svd_jacobi(square, 2 * CELLS, 64, 64, out, 2 * CELLS, more, 64, third, 2 * CELLS, scratch, 6 * CELLS + 128, &place, &sweeps, &quiet, &turned);
 }
 static void qr(void) {
     answer = zg_factorize_gram_schmidt(square, 2 * CELLS, 64, 64, out, 2 * CELLS, third, 2 * CELLS, scratch, 128, &place, &count);
@@ -53,15 +53,17 @@ static void tall_qr(void) {
     answer = zg_factorize_gram_schmidt(square, 2 * CELLS, 4096, 1, out, 2 * CELLS, third, 2 * CELLS, scratch, 2 * CELLS, &place, &count);
 }
 static void finish(void) { answer = zg_finish_schmidt_values(factor, 64, out, 64, &place, &count); }
-static void eigenvalues(void) { answer = zg_hermitian_eigenvalues(matrix, 2 * CELLS, 64, out, 64, scratch, 2 * CELLS, &place, &sweeps, &quiet); }
+static void eigenvalues(void) {
+    answer = zg_hermitian_eigenvalues(matrix, 2 * CELLS, 64, out, 64, scratch, 2 * CELLS, &place, &sweeps, &quiet, &turned);
+}
 static void from_density(void) {
-    answer = zg_schmidt_values_from_density(matrix, 2 * CELLS, 64, out, 64, scratch, 2 * CELLS, &place, &count, &sweeps, &quiet);
+    answer = zg_schmidt_values_from_density(matrix, 2 * CELLS, 64, out, 64, scratch, 2 * CELLS, &place, &count, &sweeps, &quiet, &turned);
 }
 static void eigen(void) {
-    answer = zg_hermitian_eigen(matrix, 2 * CELLS, 64, more, 64, out, 2 * CELLS, scratch, 6 * CELLS + 128, &place, &sweeps, &quiet);
+    answer = zg_hermitian_eigen(matrix, 2 * CELLS, 64, more, 64, out, 2 * CELLS, scratch, 6 * CELLS + 128, &place, &sweeps, &quiet, &turned);
 }
 static void cut_values(void) {
-    answer = zg_dense_schmidt_values(state, 2 * CELLS, 12, six, 6, 13, out, 64, scratch, 8 * CELLS + 128, &place, &count, &sweeps, &quiet);
+    answer = zg_dense_schmidt_values(state, 2 * CELLS, 12, six, 6, 13, out, 64, scratch, 8 * CELLS + 128, &place, &count, &sweeps, &quiet, &turned);
 }
 static void ranks(void) {
     answer = zg_truncated_svd_rank(factor, 64, 1e-3, 8, &place, &count) + zg_discards_resolvable_weight(factor, 64, 8, &place, &yes) +

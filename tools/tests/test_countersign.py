@@ -101,11 +101,12 @@ class Countersign(unittest.TestCase):
             a = [rng.randrange(-GRID // 16, GRID // 16) / GRID for _ in range(2 * m * n)]
             u, s, vt = [(ctypes.c_double * size)() for size in (2 * m * k, k, 2 * k * n)]
             scratch = (ctypes.c_double * (6 * m * n + 2 * k))()
-            place, sweeps, quiet = ctypes.c_size_t(), ctypes.c_size_t(), ctypes.c_bool()
+            place, sweeps, quiet, turned = ctypes.c_size_t(), ctypes.c_size_t(), ctypes.c_bool(), ctypes.c_size_t()
             self.library.zg_svd_jacobi.restype = ctypes.c_uint32
             size = ctypes.c_size_t
             number = self.library.zg_svd_jacobi(*tool.numbers(a), size(m), size(n), u, size(len(u)), s, size(len(s)), vt, size(len(vt)),
-                                                scratch, size(len(scratch)), ctypes.byref(place), ctypes.byref(sweeps), ctypes.byref(quiet))
+                                                scratch, size(len(scratch)), ctypes.byref(place), ctypes.byref(sweeps), ctypes.byref(quiet),
+                                                ctypes.byref(turned))
             self.assertEqual(number, 0)
             u, s, vt = ([math.floor(x * GRID + 0.5) / GRID for x in list(xs)] for xs in (u, s, vt))
             low, high = 0, 2 ** 54

@@ -2,7 +2,7 @@
 use crate::{area, ffi, numbers_of, numbers_of_mut, refusal::answered, Complex, Refusal};
 
 /// A = U S V†, with k = min(m, n): U m by k, column-major; S falling; V† k by n, row-major. `sweeps` were begun, the quiet one
-/// included; `quiet` says whether the last turned no pair. Where it is false the work was given up after 100 sweeps, and the
+/// included; `quiet` says whether the last turned no pair, `turned` how many were turned in all. Where it is false the work was given up after 100 sweeps, and the
 /// factors are what these left.
 #[derive(Clone, Debug, PartialEq)]
 pub struct Svd {
@@ -11,6 +11,7 @@ pub struct Svd {
     pub vt: Vec<Complex>,
     pub sweeps: usize,
     pub quiet: bool,
+    pub turned: usize,
 }
 
 /// ```
@@ -28,7 +29,7 @@ pub fn svd_jacobi(a: &[Complex], m: usize, n: usize) -> Result<Svd, Refusal> {
     let mut s = vec![0.0; k];
     let mut vt = vec![Complex::default(); k * if k == 0 { 0 } else { n }];
     let mut scratch = vec![0.0; 6 * cells + 2 * k];
-    let (mut place, mut sweeps, mut quiet) = (0, 0, false);
+    let (mut place, mut sweeps, mut quiet, mut turned) = (0, 0, false, 0);
     let (a, a_len) = numbers_of(a);
     let (up, u_len) = numbers_of_mut(&mut u);
     let (vp, v_len) = numbers_of_mut(&mut vt);
@@ -49,9 +50,10 @@ pub fn svd_jacobi(a: &[Complex], m: usize, n: usize) -> Result<Svd, Refusal> {
             &mut place,
             &mut sweeps,
             &mut quiet,
+            &mut turned,
         )
     };
-    answered(number, place, Svd { u, s, vt, sweeps, quiet })
+    answered(number, place, Svd { u, s, vt, sweeps, quiet, turned })
 }
 
 /// A = Q R with orthonormal columns of Q, as many as the rank.

@@ -113,6 +113,7 @@ extern "C" {
         place: &mut usize,
         sweeps: &mut usize,
         quiet: &mut bool,
+        turned: &mut usize,
     ) -> u32;
     pub fn zg_factorize_gram_schmidt(
         a: *const f64,
@@ -139,6 +140,7 @@ extern "C" {
         place: &mut usize,
         sweeps: &mut usize,
         quiet: &mut bool,
+        turned: &mut usize,
     ) -> u32;
     pub fn zg_hermitian_eigen(
         matrix: *const f64,
@@ -153,6 +155,7 @@ extern "C" {
         place: &mut usize,
         sweeps: &mut usize,
         quiet: &mut bool,
+        turned: &mut usize,
     ) -> u32;
     pub fn zg_finish_schmidt_values(
         values: *const f64,
@@ -174,6 +177,7 @@ extern "C" {
         count: &mut usize,
         sweeps: &mut usize,
         quiet: &mut bool,
+        turned: &mut usize,
     ) -> u32;
     pub fn zg_dense_schmidt_values(
         state: *const f64,
@@ -190,6 +194,7 @@ extern "C" {
         count: &mut usize,
         sweeps: &mut usize,
         quiet: &mut bool,
+        turned: &mut usize,
     ) -> u32;
     pub fn zg_truncated_svd_rank(
         values: *const f64,

@@ -2,12 +2,13 @@
 use crate::{area, ffi, numbers_of, numbers_of_mut, power, refusal::answered, Complex, Refusal};
 
 /// Values and the sweeps that gave them: `sweeps` were begun, the quiet one included; `quiet` says whether the last turned no
-/// pair. Where it is false the work was given up at its cap, and the values are what the sweeps left.
+/// pair, `turned` how many pairs were turned in all. Where it is false the work was given up at its cap, and the values are what the sweeps left.
 #[derive(Clone, Debug, PartialEq)]
 pub struct Swept {
     pub values: Vec<f64>,
     pub sweeps: usize,
     pub quiet: bool,
+    pub turned: usize,
 }
 
 /// The Schmidt values of the cut between the listed qubits and the rest, falling, their squares summing to 1: the
@@ -16,7 +17,7 @@ pub fn dense_schmidt_values(state: &[Complex], n: usize, list: &[usize], cap: us
     let side = list.len().min(n.saturating_sub(list.len()));
     let mut out = vec![0.0; power(side)];
     let mut scratch = vec![0.0; 8 * power(n) + 2 * power(side)];
-    let (mut place, mut count, mut sweeps, mut quiet) = (0, 0, 0, false);
+    let (mut place, mut count, mut sweeps, mut quiet, mut turned) = (0, 0, 0, false, 0);
     let (s, s_len) = numbers_of(state);
     let number = unsafe {
         ffi::zg_dense_schmidt_values(
@@ -34,10 +35,11 @@ pub fn dense_schmidt_values(state: &[Complex], n: usize, list: &[usize], cap: us
             &mut count,
             &mut sweeps,
             &mut quiet,
+            &mut turned,
         )
     };
     out.truncate(count);
-    answered(number, place, Swept { values: out, sweeps, quiet })
+    answered(number, place, Swept { values: out, sweeps, quiet, turned })
 }
 
 /// Sorted downward, cut at the floor, scaled to unit length.
@@ -77,7 +79,7 @@ pub fn hermitian_eigenvalues(a: &[Complex], dim: usize) -> Result<Swept, Refusal
     let cells = area(dim, dim);
     let mut out = vec![0.0; if cells == 0 { 0 } else { dim }];
     let mut scratch = vec![0.0; 2 * cells];
-    let (mut place, mut sweeps, mut quiet) = (0, 0, false);
+    let (mut place, mut sweeps, mut quiet, mut turned) = (0, 0, false, 0);
     let (a, a_len) = numbers_of(a);
     let number = unsafe {
         ffi::zg_hermitian_eigenvalues(
@@ -91,9 +93,10 @@ pub fn hermitian_eigenvalues(a: &[Complex], dim: usize) -> Result<Swept, Refusal
             &mut place,
             &mut sweeps,
             &mut quiet,
+            &mut turned,
         )
     };
-    answered(number, place, Swept { values: out, sweeps, quiet })
+    answered(number, place, Swept { values: out, sweeps, quiet, turned })
 }
 
 /// A's eigenvalues, rising, and its eigenvectors, one to a column of `dim` cells, column after column; the sweeps as in
@@ -104,6 +107,7 @@ pub struct Eigen {
     pub vectors: Vec<Complex>,
     pub sweeps: usize,
     pub quiet: bool,
+    pub turned: usize,
 }
 
 /// The eigenvalues and eigenvectors of a Hermitian matrix of side 1 to 64, column-major.
@@ -121,7 +125,7 @@ pub fn hermitian_eigen(matrix: &[Complex], dim: usize) -> Result<Eigen, Refusal>
     let mut values = vec![0.0; if cells == 0 { 0 } else { dim }];
     let mut vectors = vec![Complex::default(); cells];
     let mut scratch = vec![0.0; 6 * cells + 2 * values.len()];
-    let (mut place, mut sweeps, mut quiet) = (0, 0, false);
+    let (mut place, mut sweeps, mut quiet, mut turned) = (0, 0, false, 0);
     let (m, m_len) = numbers_of(matrix);
     let (v, v_len) = numbers_of_mut(&mut vectors);
     let number = unsafe {
@@ -138,9 +142,10 @@ pub fn hermitian_eigen(matrix: &[Complex], dim: usize) -> Result<Eigen, Refusal>
             &mut place,
             &mut sweeps,
             &mut quiet,
+            &mut turned,
         )
     };
-    answered(number, place, Eigen { values, vectors, sweeps, quiet })
+    answered(number, place, Eigen { values, vectors, sweeps, quiet, turned })
 }
 
 /// The Schmidt values that a density matrix gives. At most 60 sweeps.
@@ -148,7 +153,7 @@ pub fn schmidt_values_from_density(rho: &[Complex], dim: usize) -> Result<Swept,
     let cells = area(dim, dim);
     let mut out = vec![0.0; if cells == 0 { 0 } else { dim }];
     let mut scratch = vec![0.0; 2 * cells];
-    let (mut place, mut count, mut sweeps, mut quiet) = (0, 0, 0, false);
+    let (mut place, mut count, mut sweeps, mut quiet, mut turned) = (0, 0, 0, false, 0);
     let (r, r_len) = numbers_of(rho);
     let number = unsafe {
         ffi::zg_schmidt_values_from_density(
@@ -163,8 +168,9 @@ pub fn schmidt_values_from_density(rho: &[Complex], dim: usize) -> Result<Swept,
             &mut count,
             &mut sweeps,
             &mut quiet,
+            &mut turned,
         )
     };
     out.truncate(count);
-    answered(number, place, Swept { values: out, sweeps, quiet })
+    answered(number, place, Swept { values: out, sweeps, quiet, turned })
 }

@@ -7,7 +7,7 @@ use lib.Ieee.{Float}
 use lib.ListN.{take}
 use Rattle.answers.specs.Paper.{Reply, paper}
 use Rattle.answers.proofs.PaperLaws.{done-new, done-old}
-use Rattle.svd_sweeps.specs.declared.Sweeps.{Sweeps}
+use Rattle.sweeps.specs.declared.Sweeps.{Sweeps}
 use Rattle.cutfile.specs.Bytes.{word32}
 use Rattle.cutfile_result.specs.declared.CutResult.{CutResult}
 use Rattle.cutfile_result.specs.Result.{fileReply, fileList, fileValues, fileSweeps, Result}

@@ -1,7 +1,7 @@
 -- Laws of the Schmidt values of a cut: each step hands on what the next asks, the call at each way out, and that only one outcome meets
 -- its contract. Assumes nothing.
 use mathlib.Core.Bool.{Bool, true, false, not}
-use mathlib.Core.Path.{_≡_, refl, sym, ap, ap₂, _∙_}
+use mathlib.Core.Path.{_≡_, refl, sym, ap, ap₂, subst, _∙_}
 use mathlib.Core.Logic.{_⊎_, ⊎-elim}
 use mathlib.Core.List.{List, [], _∷_, _++_, append-nil}
 use Prim.Native.Nat.{ℕ, suc, _+_, _-_, _*_, _^_, _≤_, _<_, min}
@@ -18,22 +18,23 @@ use Rattle.answers.specs.declared.Answer.the-variants.{NotFinite}
 use Rattle.answers.specs.Paper.{Reply, paper, done, refuse, after, andThen, ifDone}
 use Rattle.answers.proofs.PaperLaws.{refuse-done, andThen-done, stays, refuse-small, after-small, done-old, Ended, nine-ended, worked-new, worked-old, end-old, end-worked}
 use Rattle.qubits.specs.Lists.{stands, placesFrom, places, qubitSet, subsystem}
-use Rattle.complex.specs.Cells.{components}
+use Rattle.complex.specs.Cells.{cellsOf, components}
 use Rattle.complex.proofs.CellLaws.{components-small}
 use Rattle.complex.specs.Zeros.{zeros, zeroed}
 use Rattle.cut_sides.specs.declared.Sides.{Sides}
 use Rattle.cut_sides.specs.Sides.{cutSizes, cutRefusal, Parted, side, sidesOf}
-use Rattle.cuts.specs.Cut.{CutReady}
+use Rattle.cuts.specs.Cut.{cutCell, CutReady}
 use Rattle.cuts.proofs.CutLaws.{ready}
-use Rattle.svd_sweeps.specs.declared.Sweeps.{Sweeps}
-use Rattle.svd_sweeps.specs.Sweeping.{State, state, settled}
-use Rattle.svd_sweeps.proofs.Values.{settled-alike}
+use Rattle.sweeps.specs.declared.Sweeps.{Sweeps}
+use Rattle.sweeps.specs.Sweeping.{State, state}
+use Rattle.svd_sweeps.specs.Sweeping.{settled}
+use Rattle.svd_sweeps.proofs.SweepingLaws.{settled-alike}
 use Rattle.svd_load.specs.Loading.{unitPlanes}
 use Rattle.stable_order.specs.Order.{orderTo}
 use Rattle.svd_columns.specs.Columns.{normsOf, sortedOf}
 use Rattle.values.specs.Lists.{allFinite}
 use Rattle.values.specs.Sort.{sortedDown}
-use Rattle.svd_sweeps.specs.Sweeping.{noSweeps}
+use Rattle.sweeps.specs.Sweeping.{noSweeps}
 use Rattle.factored.specs.declared.Counted.{Counted}
 use Rattle.factored.specs.Factored.{keptSweeps}
 use Rattle.factored.proofs.Laws.{kept-none, kept-by}
@@ -44,8 +45,9 @@ use Rattle.finish.proofs.OutcomeLaws.{reply-worked}
 use Rattle.svd_thin.specs.Thin.{swept, orderOf, valuesOf}
 use Rattle.svd.specs.Svd.{sideOf, workOf, sOf, svdSweeps}
 use Rattle.svd.specs.Svd as svd
-use Rattle.svd.proofs.SvdLaws.{side-wide, side-tall}
-use Rattle.cut_values.specs.Schmidt.{cutRows, singularValues, cutSweeps, cutValuesScratch, cutValuesLengths, cutValuesRest, cutValuesTests, valuesReply, cutValuesAnswer, Schmidt, CutValuesSized, sidesMatrix, normsAfter, singularOf, sweepsOf, CutValuesFinished, CutValuesWorked}
+use Rattle.svd.proofs.SvdLaws.{side-wide, side-tall, svd-ceiling}
+use Rattle.cut_values.specs.Schmidt.{cutRows, cutColumns, singularValues, cutSweeps, cutValuesScratch, cutValuesLengths, cutValuesRest, cutValuesTests, valuesReply, cutValuesAnswer, Schmidt, CutValuesSized, sidesMatrix, normsAfter, singularOf, sweepsOf, CutValuesFinished, CutValuesWorked}
+use Rattle.sweeps.proofs.Ceiling.{Ceiling}
 
 -- ---- the lengths
 
@@ -327,3 +329,16 @@ module _ (s : List Float) (n : ℕ) (l : List ℕ) (cap : ℕ) (out scratch : Li
             ∙ worked-new x _ scratch p;
         sweeps-are = w .sweeps-are ∙ ap (keptSweeps (r .answer)) sweeps-sides;
       }
+
+-- ---- the turned pairs
+
+-- there are no more rows than columns
+rows-least : (n : ℕ) (l : List ℕ) → cutRows n l ≤ cutColumns n l
+rows-least n l = pow-mono {i = side l n} {j = n - side l n} (omega (arith, min-le-left (length l) (n - length l), min-le-right (length l) (n - length l)))
+
+pub cut-ceiling : (s : List Float) (n : ℕ) (l : List ℕ) → Ceiling 100 (cutRows n l) (cutSweeps s n l)
+unfolding cutSweeps
+cut-ceiling s n l =
+    subst (λ (k : ℕ). Ceiling 100 k (svdSweeps (cellsOf (2 ^ n) (cutCell s n l)) (cutRows n l) (cutColumns n l)))
+    (sizes (cutRows n l) (cutColumns n l) (rows-least n l) .0)
+    (svd-ceiling (cellsOf (2 ^ n) (cutCell s n l)) (cutRows n l) (cutColumns n l))

@@ -17,7 +17,7 @@ use Rattle.values.specs.Lists.{allFinite}
 use Rattle.finish.specs.declared.Kept.{Kept}
 use Rattle.finish.specs.Finish.{finishOf, finishReply, padded}
 use Rattle.svd_thin.specs.Thin.{swept}
-use Rattle.svd_sweeps.specs.declared.Sweeps.{Sweeps}
+use Rattle.sweeps.specs.declared.Sweeps.{Sweeps}
 use Rattle.factored.specs.declared.Counted.{Counted}
 use Rattle.factored.specs.Factored.{keptSweeps}
 use Rattle.svd.specs.Svd.{workOf, sOf, svdSweeps}

@@ -3,7 +3,7 @@ use answers::Answer;
 use cut_sides::Sides;
 use factored::Counted;
 use finish::Kept;
-use svd_sweeps::Sweeps;
+use sweeps::Sweeps;
 ghost use mathlib.Core.Path.{_≡_};
 ghost use Prim.Native.Nat.{_+_, _*_, _^_, _≤_};
 ghost use lib.ListN.{length};

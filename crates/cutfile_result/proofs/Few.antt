@@ -26,7 +26,7 @@ use Rattle.cutfile.proofs.LayoutLaws.{accepted}
 use Rattle.decode.specs.Tables.{filled}
 use Rattle.decode.proofs.TablesLaws.{take-filled}
 use Rattle.finish.specs.Finish.{floorOf, normalised, keptValues, finishSorted, finishOf, padded}
-use Rattle.svd_sweeps.specs.Sweeping.{noSweeps}
+use Rattle.sweeps.specs.Sweeping.{noSweeps}
 use Rattle.svd_thin.specs.Thin.{valuesOf}
 use Rattle.svd.specs.Svd.{sideOf, sOf}
 use Rattle.svd.proofs.SvdLaws.{side-wide, side-tall}

@@ -14,7 +14,7 @@ use Rattle.cutfile.specs.declared.Header.{Header}
 use Rattle.cutfile.proofs.LayoutLaws.{accepted}
 use Rattle.decode.specs.Tables.{filled}
 use Rattle.decode.proofs.TablesLaws.{take-filled}
-use Rattle.svd_sweeps.specs.Sweeping.{noSweeps}
+use Rattle.sweeps.specs.Sweeping.{noSweeps}
 use Rattle.factored.specs.declared.Counted.{Counted}
 use Rattle.finish.specs.Finish.{padded}
 use Rattle.cut_values.specs.Schmidt.{cutRows, cutSweeps, cutValuesAnswer, Schmidt}

@@ -5,7 +5,7 @@ use Prim.Native.Nat.{ℕ, _-_, _≤_, zero, suc, _+_, _*_, _/_, _^_, min}
 use lib.Ieee.{Float}
 use Rattle.answers.specs.declared.Answer.{Answer}
 use Rattle.answers.proofs.Theorems.{paper-one}
-use Rattle.svd_sweeps.specs.declared.Sweeps.{Sweeps}
+use Rattle.sweeps.specs.declared.Sweeps.{Sweeps}
 use Rattle.cutfile_result.specs.declared.CutResult.{CutResult}
 use Rattle.cutfile_result.specs.Result.{listOf, stateOf, cutReply, Result}
 use native.Mathlib.Omega.{arith}

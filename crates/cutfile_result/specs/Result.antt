@@ -9,8 +9,8 @@ use Rattle.complex.specs.Zeros.{zeroed}
 use Rattle.cutfile.specs.Bytes.{word32}
 use Rattle.cutfile.specs.Layout.{headerAnswer, nOf, kOf, fileEntry, componentAt}
 use Rattle.decode.specs.Tables.{table, filled}
-use Rattle.svd_sweeps.specs.declared.Sweeps.{Sweeps}
-use Rattle.svd_sweeps.specs.Sweeping.{noSweeps}
+use Rattle.sweeps.specs.declared.Sweeps.{Sweeps}
+use Rattle.sweeps.specs.Sweeping.{noSweeps}
 use Rattle.factored.specs.declared.Counted.{Counted}
 use Rattle.finish.specs.Finish.{finishOf, padded}
 use Rattle.cut_values.specs.Schmidt.{cutRows, singularValues, cutSweeps, cutValuesAnswer}

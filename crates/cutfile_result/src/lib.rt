@@ -3,7 +3,7 @@
 // values are enough, and no file is refused by 6.
 use answers::Answer;
 use factored::Counted;
-use svd_sweeps::Sweeps;
+use sweeps::Sweeps;
 ghost use mathlib.Core.Path.{_≡_};
 ghost use lib.ListN.{length};
 ghost use Rattle.cutfile.specs.Layout.{LongEnough};

@@ -1,13 +1,12 @@
 // Inner: the cyclic Jacobi sweeps of the eigenvalues, over a square matrix of n rows that is lent as cells, row-major. The
 // definitions speak of its planes.
-use svd_pair::Decision;
-use svd_sweeps::Sweeps;
+use sweeps::Sweeps;
 ghost use mathlib.Core.Path.{_≡_};
 ghost use Prim.Native.Nat.{_+_, _-_, _*_, _<_, _≤_};
 ghost use lib.ListN.{length};
-ghost use Rattle.svd_sweeps.specs.Sweeping.{counted};
+ghost use Rattle.sweeps.specs.Sweeping.{pairStep, pairsTo, sweepOf};
 ghost use Rattle.eigen_pair.specs.CellPlanes.{asPlanes};
-ghost use Rattle.eigen_sweeps.specs.Sweeping.{SquareRoom, eigenState, largestTo, eigenPairStep, eigenPairsTo, eigenSweep, eigenSettled};
+ghost use Rattle.eigen_sweeps.specs.Sweeping.{SquareRoom, eigenState, largestTo, eigenPairing, eigenPairings, eigenSettled};
 
 const MAX_EIGEN_SWEEPS: usize = 60;
 
@@ -27,44 +26,23 @@ fn largest_diagonal(xs: &[f64], n: usize) -> f64
     largest
 }
 
-// The counts after a decision.
-fn count(d: Decision, s: Sweeps) -> Sweeps
-    requires { ⌜ s .turned < 1000000 ⌝ }
-    ensures { λ r. ⌜ (r ≡ counted d s) × (r .turned ≤ s .turned + 1) × (r .begun ≡ s .begun) ⌝ }
-{
-    match d {
-        Decision::Leave => s,
-        Decision::Turn {
-            cosine: _,
-            sine: _,
-            phase: _,
-        } => Sweeps {
-            begun: s.begun,
-            quiet: false,
-            turned: s.turned + 1,
-        },
-    }
-}
-
 // The pair p, q, where the sweep began with this largest diagonal entry.
 fn pair(xs: &mut [f64], n: usize, largest: f64, p: usize, q: usize, s: Sweeps) -> Sweeps
     requires { ⌜ SquareRoom n (length (now xs)) × (p < n) × (q < n) × (s .turned < 1000000) ⌝ }
-    ensures done { λ r. ⌜ eigenState (asPlanes (n * n) (now (xs .exit))) r ≡ eigenPairStep n largest p q (eigenState (asPlanes (n * n) (now (xs .entry))) s) ⌝ }
-    ensures few { λ r. ⌜ (r .turned ≤ s .turned + 1) × (r .begun ≡ s .begun) ⌝ }
+    ensures { λ r. ⌜ eigenState (asPlanes (n * n) (now (xs .exit))) r ≡ pairStep (eigenPairing n largest) p q (eigenState (asPlanes (n * n) (now (xs .entry))) s) ⌝ }
 {
     let at_p = 2 * (p * n + p);
     let at_q = 2 * (q * n + q);
     let apq = complex::read_cell(xs, p * n + q);
     let d = eigen_pair::decide(apq, xs[at_p], xs[at_q], largest);
     eigen_pair::apply(xs, n, p, q, d);
-    count(d, s)
+    sweeps::count(d, s)
 }
 
 // The pairs of p with each later q.
 fn row(xs: &mut [f64], n: usize, largest: f64, p: usize, s: Sweeps) -> Sweeps
-    requires { ⌜ SquareRoom n (length (now xs)) × (p < n) × (s .turned < 900000) ⌝ }
-    ensures done { λ r. ⌜ eigenState (asPlanes (n * n) (now (xs .exit))) r ≡ eigenPairsTo n largest p (n - (p + 1)) (eigenState (asPlanes (n * n) (now (xs .entry))) s) ⌝ }
-    ensures few { λ r. ⌜ (r .turned ≤ s .turned + 64) × (r .begun ≡ s .begun) ⌝ }
+    requires { ⌜ SquareRoom n (length (now xs)) × (p < n) × (s .turned + n < 1000000) ⌝ }
+    ensures { λ r. ⌜ eigenState (asPlanes (n * n) (now (xs .exit))) r ≡ pairsTo (eigenPairing n largest) p (n - (p + 1)) (eigenState (asPlanes (n * n) (now (xs .entry))) s) ⌝ }
 {
     let mut t = s;
     for q in (p + 1)..n {
@@ -75,9 +53,8 @@ fn row(xs: &mut [f64], n: usize, largest: f64, p: usize, s: Sweeps) -> Sweeps
 
 // One sweep: all pairs p < q, rising.
 fn sweep(xs: &mut [f64], n: usize, s: Sweeps) -> Sweeps
-    requires { ⌜ SquareRoom n (length (now xs)) × (s .begun < 1000) × (s .turned < 800000) ⌝ }
-    ensures done { λ r. ⌜ eigenState (asPlanes (n * n) (now (xs .exit))) r ≡ eigenSweep n (eigenState (asPlanes (n * n) (now (xs .entry))) s) ⌝ }
-    ensures few { λ r. ⌜ (r .turned ≤ s .turned + 4096) × (r .begun ≡ s .begun + 1) ⌝ }
+    requires { ⌜ SquareRoom n (length (now xs)) × (s .begun < 1000) × (s .turned < 900000) ⌝ }
+    ensures { λ r. ⌜ eigenState (asPlanes (n * n) (now (xs .exit))) r ≡ sweepOf (eigenPairings n) n (eigenState (asPlanes (n * n) (now (xs .entry))) s) ⌝ }
 {
     let largest = largest_diagonal(xs, n);
     let mut t = Sweeps {

@@ -150,12 +150,12 @@ zg-factorize-gram-schmidt-one a rows cols q r scratch q' q″ r' r″ scratch' s
     exported-with-one (λ k l' c d. let e = factorize-gram-schmidt-one a rows cols q r scratch (k .answer) (l' .answer) (k .rank) (l' .rank) q' r' scratch' q″ r″ scratch″ c d in (e .0, e .1, (e .2, e .3, e .4)))
 
 -- Only one outcome meets the contract of `zg_svd_jacobi`.
-pub zg-svd-jacobi-one : (a : List Float) (m n : ℕ) (u s vt scratch : List Float) (u' u″ : List Float) (s' s″ : List Float) (vt' vt″ : List Float) (scratch' scratch″ : List Float) {number place number' place' : ℕ} {value value' : ℕ × Bool}
-    → ExportedWith {R = Swept} {W = ℕ × Bool} (λ k. k .answer) (λ k. (k .sweeps .begun, k .sweeps .quiet)) (λ k. Svd a m n u s vt scratch k u' s' vt' scratch') number place value
-    → ExportedWith {R = Swept} {W = ℕ × Bool} (λ k. k .answer) (λ k. (k .sweeps .begun, k .sweeps .quiet)) (λ k. Svd a m n u s vt scratch k u″ s″ vt″ scratch″) number' place' value'
+pub zg-svd-jacobi-one : (a : List Float) (m n : ℕ) (u s vt scratch : List Float) (u' u″ : List Float) (s' s″ : List Float) (vt' vt″ : List Float) (scratch' scratch″ : List Float) {number place number' place' : ℕ} {value value' : ℕ × Bool × ℕ}
+    → ExportedWith {R = Swept} {W = ℕ × Bool × ℕ} (λ k. k .answer) (λ k. (k .sweeps .begun, k .sweeps .quiet, k .sweeps .turned)) (λ k. Svd a m n u s vt scratch k u' s' vt' scratch') number place value
+    → ExportedWith {R = Swept} {W = ℕ × Bool × ℕ} (λ k. k .answer) (λ k. (k .sweeps .begun, k .sweeps .quiet, k .sweeps .turned)) (λ k. Svd a m n u s vt scratch k u″ s″ vt″ scratch″) number' place' value'
     → (number ≡ number') × (place ≡ place') × (value ≡ value') × ((u' ≡ u″) × (s' ≡ s″) × (vt' ≡ vt″) × (scratch' ≡ scratch″))
 zg-svd-jacobi-one a m n u s vt scratch u' u″ s' s″ vt' vt″ scratch' scratch″ =
-    exported-with-one (λ k l' c d. let e = svd-jacobi-one a m n u s vt scratch k l' u' s' vt' scratch' u″ s″ vt″ scratch″ c d in (ap (λ (x : Swept). x .answer) (e .0), ap (λ (x : Swept). (x .sweeps .begun, x .sweeps .quiet)) (e .0), (e .1, e .2, e .3, e .4)))
+    exported-with-one (λ k l' c d. let e = svd-jacobi-one a m n u s vt scratch k l' u' s' vt' scratch' u″ s″ vt″ scratch″ c d in (ap (λ (x : Swept). x .answer) (e .0), ap (λ (x : Swept). (x .sweeps .begun, x .sweeps .quiet, x .sweeps .turned)) (e .0), (e .1, e .2, e .3, e .4)))
 
 -- Only one outcome meets the contract of `zg_finish_schmidt_values`.
 pub zg-finish-schmidt-values-one : (values out : List Float) (out' out″ : List Float) {number place number' place' : ℕ} {value value' : ℕ}
@@ -166,36 +166,36 @@ zg-finish-schmidt-values-one values out out' out″ =
     exported-with-one (λ k l' c d. let e = finish-schmidt-values-one values out k l' out' out″ c d in (ap (λ (x : Kept). x .answer) (e .0), ap (λ (x : Kept). x .count) (e .0), e .1))
 
 -- Only one outcome meets the contract of `zg_hermitian_eigenvalues`.
-pub zg-hermitian-eigenvalues-one : (a : List Float) (dim : ℕ) (out scratch : List Float) (out' out″ : List Float) (scratch' scratch″ : List Float) {number place number' place' : ℕ} {value value' : ℕ × Bool}
-    → ExportedWith {R = Swept} {W = ℕ × Bool} (λ k. k .answer) (λ k. (k .sweeps .begun, k .sweeps .quiet)) (λ k. Eigenvalues a dim out scratch k out' scratch') number place value
-    → ExportedWith {R = Swept} {W = ℕ × Bool} (λ k. k .answer) (λ k. (k .sweeps .begun, k .sweeps .quiet)) (λ k. Eigenvalues a dim out scratch k out″ scratch″) number' place' value'
+pub zg-hermitian-eigenvalues-one : (a : List Float) (dim : ℕ) (out scratch : List Float) (out' out″ : List Float) (scratch' scratch″ : List Float) {number place number' place' : ℕ} {value value' : ℕ × Bool × ℕ}
+    → ExportedWith {R = Swept} {W = ℕ × Bool × ℕ} (λ k. k .answer) (λ k. (k .sweeps .begun, k .sweeps .quiet, k .sweeps .turned)) (λ k. Eigenvalues a dim out scratch k out' scratch') number place value
+    → ExportedWith {R = Swept} {W = ℕ × Bool × ℕ} (λ k. k .answer) (λ k. (k .sweeps .begun, k .sweeps .quiet, k .sweeps .turned)) (λ k. Eigenvalues a dim out scratch k out″ scratch″) number' place' value'
     → (number ≡ number') × (place ≡ place') × (value ≡ value') × ((out' ≡ out″) × (scratch' ≡ scratch″))
 zg-hermitian-eigenvalues-one a dim out scratch out' out″ scratch' scratch″ =
-    exported-with-one (λ k l' c d. let e = hermitian-eigenvalues-one a dim out scratch k l' out' out″ scratch' scratch″ c d in (ap (λ (x : Swept). x .answer) (e .0), ap (λ (x : Swept). (x .sweeps .begun, x .sweeps .quiet)) (e .0), (e .1, e .2)))
+    exported-with-one (λ k l' c d. let e = hermitian-eigenvalues-one a dim out scratch k l' out' out″ scratch' scratch″ c d in (ap (λ (x : Swept). x .answer) (e .0), ap (λ (x : Swept). (x .sweeps .begun, x .sweeps .quiet, x .sweeps .turned)) (e .0), (e .1, e .2)))
 
 -- Only one outcome meets the contract of `zg_schmidt_values_from_density`.
-pub zg-schmidt-values-from-density-one : (rho : List Float) (dim : ℕ) (out scratch : List Float) (out' out″ : List Float) (scratch' scratch″ : List Float) {number place number' place' : ℕ} {value value' : ℕ × ℕ × Bool}
-    → ExportedWith {R = Counted} {W = ℕ × ℕ × Bool} (λ k. k .answer) (λ k. (k .count, k .sweeps .begun, k .sweeps .quiet)) (λ k. DensityValues rho dim out scratch k out' scratch') number place value
-    → ExportedWith {R = Counted} {W = ℕ × ℕ × Bool} (λ k. k .answer) (λ k. (k .count, k .sweeps .begun, k .sweeps .quiet)) (λ k. DensityValues rho dim out scratch k out″ scratch″) number' place' value'
+pub zg-schmidt-values-from-density-one : (rho : List Float) (dim : ℕ) (out scratch : List Float) (out' out″ : List Float) (scratch' scratch″ : List Float) {number place number' place' : ℕ} {value value' : ℕ × ℕ × Bool × ℕ}
+    → ExportedWith {R = Counted} {W = ℕ × ℕ × Bool × ℕ} (λ k. k .answer) (λ k. (k .count, k .sweeps .begun, k .sweeps .quiet, k .sweeps .turned)) (λ k. DensityValues rho dim out scratch k out' scratch') number place value
+    → ExportedWith {R = Counted} {W = ℕ × ℕ × Bool × ℕ} (λ k. k .answer) (λ k. (k .count, k .sweeps .begun, k .sweeps .quiet, k .sweeps .turned)) (λ k. DensityValues rho dim out scratch k out″ scratch″) number' place' value'
     → (number ≡ number') × (place ≡ place') × (value ≡ value') × ((out' ≡ out″) × (scratch' ≡ scratch″))
 zg-schmidt-values-from-density-one rho dim out scratch out' out″ scratch' scratch″ =
-    exported-with-one (λ k l' c d. let e = schmidt-values-from-density-one rho dim out scratch k l' out' out″ scratch' scratch″ c d in (ap (λ (x : Counted). x .answer) (e .0), ap (λ (x : Counted). (x .count, x .sweeps .begun, x .sweeps .quiet)) (e .0), (e .1, e .2)))
+    exported-with-one (λ k l' c d. let e = schmidt-values-from-density-one rho dim out scratch k l' out' out″ scratch' scratch″ c d in (ap (λ (x : Counted). x .answer) (e .0), ap (λ (x : Counted). (x .count, x .sweeps .begun, x .sweeps .quiet, x .sweeps .turned)) (e .0), (e .1, e .2)))
 
 -- Only one outcome meets the contract of `zg_hermitian_eigen`.
-pub zg-hermitian-eigen-one : (matrix : List Float) (dim : ℕ) (values vectors scratch : List Float) (values' values″ : List Float) (vectors' vectors″ : List Float) (scratch' scratch″ : List Float) {number place number' place' : ℕ} {value value' : ℕ × Bool}
-    → ExportedWith {R = Swept} {W = ℕ × Bool} (λ k. k .answer) (λ k. (k .sweeps .begun, k .sweeps .quiet)) (λ k. Eigen matrix dim values vectors scratch k values' vectors' scratch') number place value
-    → ExportedWith {R = Swept} {W = ℕ × Bool} (λ k. k .answer) (λ k. (k .sweeps .begun, k .sweeps .quiet)) (λ k. Eigen matrix dim values vectors scratch k values″ vectors″ scratch″) number' place' value'
+pub zg-hermitian-eigen-one : (matrix : List Float) (dim : ℕ) (values vectors scratch : List Float) (values' values″ : List Float) (vectors' vectors″ : List Float) (scratch' scratch″ : List Float) {number place number' place' : ℕ} {value value' : ℕ × Bool × ℕ}
+    → ExportedWith {R = Swept} {W = ℕ × Bool × ℕ} (λ k. k .answer) (λ k. (k .sweeps .begun, k .sweeps .quiet, k .sweeps .turned)) (λ k. Eigen matrix dim values vectors scratch k values' vectors' scratch') number place value
+    → ExportedWith {R = Swept} {W = ℕ × Bool × ℕ} (λ k. k .answer) (λ k. (k .sweeps .begun, k .sweeps .quiet, k .sweeps .turned)) (λ k. Eigen matrix dim values vectors scratch k values″ vectors″ scratch″) number' place' value'
     → (number ≡ number') × (place ≡ place') × (value ≡ value') × ((values' ≡ values″) × (vectors' ≡ vectors″) × (scratch' ≡ scratch″))
 zg-hermitian-eigen-one matrix dim values vectors scratch values' values″ vectors' vectors″ scratch' scratch″ =
-    exported-with-one (λ k l' c d. let e = hermitian-eigen-one matrix dim values vectors scratch k l' values' vectors' scratch' values″ vectors″ scratch″ c d in (ap (λ (x : Swept). x .answer) (e .0), ap (λ (x : Swept). (x .sweeps .begun, x .sweeps .quiet)) (e .0), (e .1, e .2, e .3)))
+    exported-with-one (λ k l' c d. let e = hermitian-eigen-one matrix dim values vectors scratch k l' values' vectors' scratch' values″ vectors″ scratch″ c d in (ap (λ (x : Swept). x .answer) (e .0), ap (λ (x : Swept). (x .sweeps .begun, x .sweeps .quiet, x .sweeps .turned)) (e .0), (e .1, e .2, e .3)))
 
 -- Only one outcome meets the contract of `zg_dense_schmidt_values`.
-pub zg-dense-schmidt-values-one : (state : List Float) (n : ℕ) (l : List ℕ) (cap : ℕ) (out scratch : List Float) (out' out″ : List Float) (scratch' scratch″ : List Float) {number place number' place' : ℕ} {value value' : ℕ × ℕ × Bool}
-    → ExportedWith {R = Counted} {W = ℕ × ℕ × Bool} (λ k. k .answer) (λ k. (k .count, k .sweeps .begun, k .sweeps .quiet)) (λ k. Schmidt state n l cap out scratch k out' scratch') number place value
-    → ExportedWith {R = Counted} {W = ℕ × ℕ × Bool} (λ k. k .answer) (λ k. (k .count, k .sweeps .begun, k .sweeps .quiet)) (λ k. Schmidt state n l cap out scratch k out″ scratch″) number' place' value'
+pub zg-dense-schmidt-values-one : (state : List Float) (n : ℕ) (l : List ℕ) (cap : ℕ) (out scratch : List Float) (out' out″ : List Float) (scratch' scratch″ : List Float) {number place number' place' : ℕ} {value value' : ℕ × ℕ × Bool × ℕ}
+    → ExportedWith {R = Counted} {W = ℕ × ℕ × Bool × ℕ} (λ k. k .answer) (λ k. (k .count, k .sweeps .begun, k .sweeps .quiet, k .sweeps .turned)) (λ k. Schmidt state n l cap out scratch k out' scratch') number place value
+    → ExportedWith {R = Counted} {W = ℕ × ℕ × Bool × ℕ} (λ k. k .answer) (λ k. (k .count, k .sweeps .begun, k .sweeps .quiet, k .sweeps .turned)) (λ k. Schmidt state n l cap out scratch k out″ scratch″) number' place' value'
     → (number ≡ number') × (place ≡ place') × (value ≡ value') × ((out' ≡ out″) × (scratch' ≡ scratch″))
 zg-dense-schmidt-values-one state n l cap out scratch out' out″ scratch' scratch″ =
-    exported-with-one (λ k l' c d. let e = dense-schmidt-values-one state n l cap out scratch k l' out' scratch' out″ scratch″ c d in (ap (λ (x : Counted). x .answer) (e .0), ap (λ (x : Counted). (x .count, x .sweeps .begun, x .sweeps .quiet)) (e .0), (e .1, e .2)))
+    exported-with-one (λ k l' c d. let e = dense-schmidt-values-one state n l cap out scratch k l' out' scratch' out″ scratch″ c d in (ap (λ (x : Counted). x .answer) (e .0), ap (λ (x : Counted). (x .count, x .sweeps .begun, x .sweeps .quiet, x .sweeps .turned)) (e .0), (e .1, e .2)))
 
 -- Only one outcome meets the contract of `zg_cut_rank` and of `zg_widest_block_cut`.
 pub zg-ranked-one : (reply : Reply) (v : ℕ) {number place number' place' : ℕ} {value value' : ℕ}

@@ -304,15 +304,17 @@ pub extern "C" fn zg_svd_jacobi(
     place: &mut usize,
     sweeps: &mut usize,
     quiet: &mut bool,
+    turned: &mut usize,
 ) -> u32
-    ensures { λ r. ⌜ ExportedWith {R = Swept} {W = ℕ × Bool} (λ k. k .answer) (λ k. (k .sweeps .begun, k .sweeps .quiet))
+    ensures { λ r. ⌜ ExportedWith {R = Swept} {W = ℕ × Bool × ℕ} (λ k. k .answer) (λ k. (k .sweeps .begun, k .sweeps .quiet, k .sweeps .turned))
         (λ k. Svd (now (a .entry)) m n (now (u .entry)) (now (s .entry)) (now (vt .entry)) (now (scratch .entry)) k
-        (now (u .exit)) (now (s .exit)) (now (vt .exit)) (now (scratch .exit))) r (now (place .exit)) (now (sweeps .exit), now (quiet .exit)) ⌝ }
+        (now (u .exit)) (now (s .exit)) (now (vt .exit)) (now (scratch .exit))) r (now (place .exit)) (now (sweeps .exit), now (quiet .exit), now (turned .exit)) ⌝ }
 {
     let k = svd::svd_jacobi(a, m, n, u, s, vt, scratch);
     let t = k.sweeps;
     *sweeps = t.begun;
     *quiet = t.quiet;
+    *turned = t.turned;
     let answer = k.answer;
     told::told(answer, place)
 }
@@ -370,14 +372,16 @@ pub extern "C" fn zg_hermitian_eigenvalues(
     place: &mut usize,
     sweeps: &mut usize,
     quiet: &mut bool,
+    turned: &mut usize,
 ) -> u32
-    ensures { λ r. ⌜ ExportedWith {R = Swept} {W = ℕ × Bool} (λ k. k .answer) (λ k. (k .sweeps .begun, k .sweeps .quiet))
-        (λ k. Eigenvalues (now (a .entry)) dim (now (out .entry)) (now (scratch .entry)) k (now (out .exit)) (now (scratch .exit))) r (now (place .exit)) (now (sweeps .exit), now (quiet .exit)) ⌝ }
+    ensures { λ r. ⌜ ExportedWith {R = Swept} {W = ℕ × Bool × ℕ} (λ k. k .answer) (λ k. (k .sweeps .begun, k .sweeps .quiet, k .sweeps .turned))
+        (λ k. Eigenvalues (now (a .entry)) dim (now (out .entry)) (now (scratch .entry)) k (now (out .exit)) (now (scratch .exit))) r (now (place .exit)) (now (sweeps .exit), now (quiet .exit), now (turned .exit)) ⌝ }
 {
     let k = spectra::hermitian_eigenvalues(a, dim, out, scratch);
     let t = k.sweeps;
     *sweeps = t.begun;
     *quiet = t.quiet;
+    *turned = t.turned;
     let answer = k.answer;
     told::told(answer, place)
 }
@@ -392,15 +396,17 @@ pub extern "C" fn zg_schmidt_values_from_density(
     count: &mut usize,
     sweeps: &mut usize,
     quiet: &mut bool,
+    turned: &mut usize,
 ) -> u32
-    ensures { λ r. ⌜ ExportedWith {R = Counted} {W = ℕ × ℕ × Bool} (λ k. k .answer) (λ k. (k .count, k .sweeps .begun, k .sweeps .quiet))
-        (λ k. DensityValues (now (rho .entry)) dim (now (out .entry)) (now (scratch .entry)) k (now (out .exit)) (now (scratch .exit))) r (now (place .exit)) (now (count .exit), now (sweeps .exit), now (quiet .exit)) ⌝ }
+    ensures { λ r. ⌜ ExportedWith {R = Counted} {W = ℕ × ℕ × Bool × ℕ} (λ k. k .answer) (λ k. (k .count, k .sweeps .begun, k .sweeps .quiet, k .sweeps .turned))
+        (λ k. DensityValues (now (rho .entry)) dim (now (out .entry)) (now (scratch .entry)) k (now (out .exit)) (now (scratch .exit))) r (now (place .exit)) (now (count .exit), now (sweeps .exit), now (quiet .exit), now (turned .exit)) ⌝ }
 {
     let k = spectra::schmidt_values_from_density(rho, dim, out, scratch);
     *count = k.count;
     let t = k.sweeps;
     *sweeps = t.begun;
     *quiet = t.quiet;
+    *turned = t.turned;
     let answer = k.answer;
     told::told(answer, place)
 }
@@ -415,15 +421,17 @@ pub extern "C" fn zg_hermitian_eigen(
     place: &mut usize,
     sweeps: &mut usize,
     quiet: &mut bool,
+    turned: &mut usize,
 ) -> u32
-    ensures { λ r. ⌜ ExportedWith {R = Swept} {W = ℕ × Bool} (λ k. k .answer) (λ k. (k .sweeps .begun, k .sweeps .quiet))
+    ensures { λ r. ⌜ ExportedWith {R = Swept} {W = ℕ × Bool × ℕ} (λ k. k .answer) (λ k. (k .sweeps .begun, k .sweeps .quiet, k .sweeps .turned))
         (λ k. Eigen (now (matrix .entry)) dim (now (values .entry)) (now (vectors .entry)) (now (scratch .entry)) k
-        (now (values .exit)) (now (vectors .exit)) (now (scratch .exit))) r (now (place .exit)) (now (sweeps .exit), now (quiet .exit)) ⌝ }
+        (now (values .exit)) (now (vectors .exit)) (now (scratch .exit))) r (now (place .exit)) (now (sweeps .exit), now (quiet .exit), now (turned .exit)) ⌝ }
 {
     let k = hermitian_eigen::hermitian_eigen(matrix, dim, values, vectors, scratch);
     let t = k.sweeps;
     *sweeps = t.begun;
     *quiet = t.quiet;
+    *turned = t.turned;
     let answer = k.answer;
     told::told(answer, place)
 }
@@ -440,15 +448,17 @@ pub extern "C" fn zg_dense_schmidt_values(
     count: &mut usize,
     sweeps: &mut usize,
     quiet: &mut bool,
+    turned: &mut usize,
 ) -> u32
-    ensures { λ r. ⌜ ExportedWith {R = Counted} {W = ℕ × ℕ × Bool} (λ k. k .answer) (λ k. (k .count, k .sweeps .begun, k .sweeps .quiet))
-        (λ k. Schmidt (now (state .entry)) n (now (list .entry)) cap (now (out .entry)) (now (scratch .entry)) k (now (out .exit)) (now (scratch .exit))) r (now (place .exit)) (now (count .exit), now (sweeps .exit), now (quiet .exit)) ⌝ }
+    ensures { λ r. ⌜ ExportedWith {R = Counted} {W = ℕ × ℕ × Bool × ℕ} (λ k. k .answer) (λ k. (k .count, k .sweeps .begun, k .sweeps .quiet, k .sweeps .turned))
+        (λ k. Schmidt (now (state .entry)) n (now (list .entry)) cap (now (out .entry)) (now (scratch .entry)) k (now (out .exit)) (now (scratch .exit))) r (now (place .exit)) (now (count .exit), now (sweeps .exit), now (quiet .exit), now (turned .exit)) ⌝ }
 {
     let k = cut_values::dense_schmidt_values(state, n, list, cap, out, scratch);
     *count = k.count;
     let t = k.sweeps;
     *sweeps = t.begun;
     *quiet = t.quiet;
+    *turned = t.turned;
     let answer = k.answer;
     told::told(answer, place)
 }

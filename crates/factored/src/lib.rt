@@ -1,10 +1,10 @@
 // Inner: what a factorisation answers, and how its sweeps went. A refusal has no sweeps.
 use answers::Answer;
-use svd_sweeps::Sweeps;
+use sweeps::Sweeps;
 ghost use mathlib.Core.Path.{_≡_};
 ghost use Rattle.factored.specs.Factored.{keptSweeps};
 ghost use Rattle.answers.specs.Paper.{paper};
-ghost use Rattle.svd_sweeps.specs.Sweeping.{noSweeps};
+ghost use Rattle.sweeps.specs.Sweeping.{noSweeps};
 
 // The answer, and the sweeps.
 pub struct Factored {
@@ -19,24 +19,13 @@ pub struct Counted {
     pub sweeps: Sweeps,
 }
 
-// No sweep was begun.
-fn no_sweeps() -> Sweeps
-    ensures { λ r. ⌜ r ≡ noSweeps ⌝ }
-{
-    Sweeps {
-        begun: 0,
-        quiet: false,
-        turned: 0,
-    }
-}
-
 // The sweeps on answer 0, and none on any other.
 fn kept_sweeps(answer: Answer, sweeps: Sweeps) -> Sweeps
     ensures { λ r. ⌜ r ≡ keptSweeps answer sweeps ⌝ }
 {
     match answer {
         Answer::Done => sweeps,
-        _ => no_sweeps(),
+        _ => sweeps::none(),
     }
 }
 
@@ -55,7 +44,7 @@ pub fn answered(answer: Answer, sweeps: Sweeps) -> Factored
 pub fn refused(answer: Answer) -> Factored
     ensures { λ r. ⌜ (r .answer ≡ answer) × (r .sweeps ≡ noSweeps) ⌝ }
 {
-    let none = no_sweeps();
+    let none = sweeps::none();
     Factored {
         answer,
         sweeps: none,
@@ -78,7 +67,7 @@ pub fn answered_count(answer: Answer, count: usize, sweeps: Sweeps) -> Counted
 pub fn refused_count(answer: Answer) -> Counted
     ensures { λ r. ⌜ (r .answer ≡ answer) × (r .count ≡ 0) × (r .sweeps ≡ noSweeps) ⌝ }
 {
-    let none = no_sweeps();
+    let none = sweeps::none();
     Counted {
         answer,
         count: 0,

@@ -1,5 +1,5 @@
 -- Laws of the statements; `hermitian-eigen-one`: only one outcome meets the contract. Assumes nothing.
-use mathlib.Core.Path.{_≡_, refl, sym, ap, ap₂, _∙_}
+use mathlib.Core.Path.{_≡_, refl, sym, ap, ap₂, subst, _∙_}
 use mathlib.Core.Bool.{Bool, true, false, not}
 use mathlib.Core.Logic.{inl}
 use mathlib.Core.List.{List, _++_, append-nil}
@@ -16,13 +16,16 @@ use Rattle.complex.specs.Cells.{components}
 use Rattle.complex.proofs.CellLaws.{components-small}
 use Rattle.complex.specs.Zeros.{zeros, zeroed}
 use Rattle.values.specs.Lists.{allFinite}
-use Rattle.svd_sweeps.specs.declared.Sweeps.{Sweeps}
-use Rattle.svd_sweeps.specs.Sweeping.{noSweeps}
+use Rattle.sweeps.specs.declared.Sweeps.{Sweeps}
+use Rattle.sweeps.specs.Sweeping.{noSweeps}
 use Rattle.factored.specs.declared.Factored.{Factored}
 use Rattle.factored.specs.Factored.{keptSweeps}
 use Rattle.factored.proofs.Laws.{kept-none, kept-by}
-use Rattle.svd.proofs.SvdLaws.{zeroed-all, join-end}
+use Rattle.svd.specs.Svd.{svdSweeps}
+use Rattle.svd.proofs.SvdLaws.{zeroed-all, join-end, side-tall, svd-ceiling}
+use Rattle.hermitian_eigen.specs.Shifted.{shiftedOf}
 use Rattle.hermitian_eigen.specs.Hermitian.{needVectors, hermitianScratch, hermitianTests, hermitianValues, hermitianVectors, hermitianSweeps, finiteResults, hermitianEnd, hermitianAnswer, Eigen, HermitianExact, HermitianFinished, HermitianWorked}
+use Rattle.sweeps.proofs.Ceiling.{Ceiling}
 
 -- ---- the refusals
 
@@ -179,3 +182,10 @@ eigen-refused a dim values vectors scratch q r i e′ h′ =
       scratch-is = worked-old (paper (r .answer) .0) _ scratch h b;
       sweeps-are = kept-none (r .answer) (hermitianSweeps a dim) h (i .1);
     }
+
+-- ---- the turned pairs
+
+pub hermitian-ceiling : (a : List Float) (dim : ℕ) → Ceiling 100 dim (hermitianSweeps a dim)
+unfolding hermitianSweeps
+hermitian-ceiling a dim =
+    subst (λ (k : ℕ). Ceiling 100 k (svdSweeps (shiftedOf a dim) dim dim)) (side-tall dim dim (omega arith) .0) (svd-ceiling (shiftedOf a dim) dim dim)

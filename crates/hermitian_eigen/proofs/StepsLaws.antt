@@ -17,9 +17,10 @@ use Rattle.complex.specs.Planes.{planeAt}
 use Rattle.svd_load.specs.Numbers.{numbersOf, filled}
 use Rattle.svd_load.proofs.NumbersLaws.{length-numbers, column-fits}
 use Rattle.svd_load.specs.Loading.{planesOf, unitPlanes}
-use Rattle.svd_sweeps.specs.declared.Sweeps.{Sweeps}
-use Rattle.svd_sweeps.specs.Sweeping.{State, state, settled}
-use Rattle.svd_sweeps.proofs.Values.{settled-alike}
+use Rattle.sweeps.specs.declared.Sweeps.{Sweeps}
+use Rattle.sweeps.specs.Sweeping.{State, state}
+use Rattle.svd_sweeps.specs.Sweeping.{settled}
+use Rattle.svd_sweeps.proofs.SweepingLaws.{settled-alike}
 use Rattle.stable_order.specs.Places.{placesOf, placesIn, Places, Below}
 use Rattle.stable_order.proofs.PlacesLaws.{places-back}
 use Rattle.stable_order.specs.Order.{orderTo}

@@ -14,7 +14,7 @@ use Rattle.complex.specs.Zeros.{zeros, zeroed}
 use Rattle.svd_load.specs.Numbers.{numbersOf}
 use Rattle.svd_columns.specs.Columns.{inColumns}
 use Rattle.values.specs.Lists.{allFinite}
-use Rattle.svd_sweeps.specs.declared.Sweeps.{Sweeps}
+use Rattle.sweeps.specs.declared.Sweeps.{Sweeps}
 use Rattle.factored.specs.declared.Factored.{Factored}
 use Rattle.factored.specs.Factored.{keptSweeps}
 use Rattle.svd.specs.Svd.{uOf, sOf, svdSweeps}

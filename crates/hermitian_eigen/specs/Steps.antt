@@ -8,8 +8,8 @@ use lib.Ieee.{Float}
 use Rattle.svd_load.specs.Loading.{planesOf}
 use Rattle.stable_order.specs.Places.{placesOf}
 use Rattle.svd_columns.specs.Columns.{directionsOf}
-use Rattle.svd_sweeps.specs.declared.Sweeps.{Sweeps}
-use Rattle.svd_sweeps.specs.Sweeping.{State}
+use Rattle.sweeps.specs.declared.Sweeps.{Sweeps}
+use Rattle.sweeps.specs.Sweeping.{State}
 use Rattle.svd_thin.specs.Thin.{swept, orderOf, valuesOf, orderPart}
 use Rattle.hermitian_eigen.specs.Shifted.{shiftedAt}
 use Rattle.hermitian_eigen.specs.Backward.{backward}

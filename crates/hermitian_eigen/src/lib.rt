@@ -4,7 +4,7 @@
 use answers::Answer;
 use complex::Complex;
 use factored::Factored;
-use svd_sweeps::Sweeps;
+use sweeps::Sweeps;
 ghost use mathlib.Core.Path.{_≡_};
 ghost use mathlib.Core.Bool.{false};
 ghost use Prim.Native.Nat.{_*_, _<_, _≤_};

@@ -1,11 +1,11 @@
 // Replays the published Rust's answers of the cut values. Standard input is a text of hexadecimal words: a case's kind and then the
 // arguments of the call in order. A slice that is read is its length and its words; a slice that is lent is its length alone and
 // holds 3.0 everywhere. Each case writes one line of words: the answer's number and place, the count, the sweeps begun, 1 where
-// the last was quiet and else 0, and the lent slices as they stand afterwards.
+// the last was quiet and else 0, the pairs turned, and the lent slices as they stand afterwards.
 //   1 state n list cap out scratch    dense_schmidt_values
-use svd_sweeps::Sweeps;
+use sweeps::Sweeps;
 
-// Writes how the sweeps went: those begun, and 1 where the last one was quiet.
+// Writes how the sweeps went: those begun, 1 where the last one was quiet, and the pairs turned.
 fn print_sweeps(s: Sweeps) {
     replay::print_word(replay::word_of(s.begun));
     if s.quiet {
@@ -13,6 +13,7 @@ fn print_sweeps(s: Sweeps) {
     } else {
         replay::print_word(0);
     }
+    replay::print_word(replay::word_of(s.turned));
 }
 
 fn values(

@@ -11,8 +11,8 @@ use Rattle.answers.specs.Paper.{Reply, paper, ifDone}
 use Rattle.answers.proofs.PaperLaws.{stays, worked-new, worked-old, done-old, end-old, end-worked}
 use Rattle.complex.specs.Zeros.{zeroed}
 use Rattle.svd_load.specs.Numbers.{filled}
-use Rattle.svd_sweeps.specs.declared.Sweeps.{Sweeps}
-use Rattle.svd_sweeps.specs.Sweeping.{noSweeps}
+use Rattle.sweeps.specs.declared.Sweeps.{Sweeps}
+use Rattle.sweeps.specs.Sweeping.{noSweeps}
 use Rattle.factored.specs.declared.Counted.{Counted}
 use Rattle.factored.specs.Factored.{keptSweeps}
 use Rattle.factored.proofs.Laws.{kept-none, kept-by}

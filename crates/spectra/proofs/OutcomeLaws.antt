@@ -23,16 +23,19 @@ use Rattle.svd_load.specs.Numbers.{numbersOf, filled}
 use Rattle.svd_load.proofs.NumbersLaws.{length-numbers}
 use Rattle.svd_load.specs.Loading.{planesOf}
 use Rattle.values.specs.Lists.{allFinite}
-use Rattle.svd_sweeps.specs.declared.Sweeps.{Sweeps}
-use Rattle.svd_sweeps.specs.Sweeping.{noSweeps}
+use Rattle.sweeps.specs.declared.Sweeps.{Sweeps}
+use Rattle.sweeps.specs.Sweeping.{noSweeps}
 use Rattle.factored.specs.declared.Factored.{Factored}
 use Rattle.factored.specs.Factored.{keptSweeps}
 use Rattle.factored.proofs.Laws.{kept-none, kept-by}
 use Rattle.eigen_pair.specs.CellPlanes.{asPlanes}
 use Rattle.eigen_pair.proofs.CellPlanesLaws.{planes-same}
-use Rattle.eigen_sweeps.specs.Sweeping.{EigenState, eigenState, diagonal, eigenSettled}
+use Rattle.sweeps.specs.Sweeping.{State}
+use Rattle.eigen_sweeps.specs.Sweeping.{eigenState, diagonal, eigenSettled}
 use Rattle.spectra.specs.Eigenvalues.{eigenvalue, eigenvaluesOf, eigenvaluesSweeps, eigenReply, squareRefusal, eigenAnswer}
 use Rattle.spectra.specs.Outcomes.{Given, SpectrumWorked, Eigenvalues}
+use Rattle.sweeps.proofs.Ceiling.{Ceiling}
+use Rattle.eigen_sweeps.proofs.SweepingLaws.{settled-ceiling}
 
 -- ---- the refusals
 
@@ -135,13 +138,13 @@ pub spectrum-made : (a : List Float) (n : ℕ) (old : List Float) {w1 w2 out : L
     → w1 ≡ planesOf (n * n) (cellAt a) → eigenState w2 s ≡ eigenSettled n w1 → out ≡ filled n (diagonal w2 n) old → out ≡ filled n (eigenvalue a n) old
 unfolding eigenvalue
 spectrum-made a n old {w1} {w2} e f g =
-    let h : w2 ≡ eigenSettled n (planesOf (n * n) (cellAt a)) .work = ap (λ (x : EigenState). x .work) f ∙ ap (λ (l : List Float). eigenSettled n l .work) e in
+    let h : w2 ≡ eigenSettled n (planesOf (n * n) (cellAt a)) .work = ap (λ (x : State). x .work) f ∙ ap (λ (l : List Float). eigenSettled n l .work) e in
     g ∙ ap (λ (l : List Float). filled n (diagonal l n) old) h
 
 pub spectrum-sweeps : (a : List Float) (n : ℕ) {w1 w2 : List Float} {s : Sweeps}
     → w1 ≡ planesOf (n * n) (cellAt a) → eigenState w2 s ≡ eigenSettled n w1 → s ≡ eigenvaluesSweeps a n
 unfolding eigenvaluesSweeps
-spectrum-sweeps a n e f = ap (λ (x : EigenState). x .sweeps) f ∙ ap (λ (l : List Float). eigenSettled n l .sweeps) e
+spectrum-sweeps a n e f = ap (λ (x : State). x .sweeps) f ∙ ap (λ (l : List Float). eigenSettled n l .sweeps) e
 
 -- work that was zeroed whole does not say what it held
 pub zeroed-other : (m : ℕ) (l l' : List Float) → length l ≤ m → length l' ≤ m → zeroed m l ≡ zeroed m l'
@@ -207,3 +210,9 @@ eigenvalues-worked a n out scratch r out′ scratch′ e w =
       cleared = rw e (w .cleared ∙ worked-new _ _ scratch (reply-worked a n));
       sweeps-are = w .sweeps-are;
     }
+
+-- ---- the turned pairs
+
+pub eigenvalues-ceiling : (a : List Float) (n : ℕ) → Ceiling 60 n (eigenvaluesSweeps a n)
+unfolding eigenvaluesSweeps
+eigenvalues-ceiling a n = settled-ceiling n (planesOf (n * n) (cellAt a))

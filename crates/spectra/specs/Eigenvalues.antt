@@ -10,7 +10,7 @@ use Rattle.complex.specs.Cells.{cellAt, components}
 use Rattle.svd_load.specs.Numbers.{numbersOf}
 use Rattle.svd_load.specs.Loading.{planesOf}
 use Rattle.values.specs.Lists.{allFinite}
-use Rattle.svd_sweeps.specs.declared.Sweeps.{Sweeps}
+use Rattle.sweeps.specs.declared.Sweeps.{Sweeps}
 use Rattle.eigen_sweeps.specs.Sweeping.{diagonal, eigenSettled}
 
 -- entry i of the diagonal that the sweeps end with

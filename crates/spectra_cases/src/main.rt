@@ -1,16 +1,17 @@
 // Replays the published Rust's answers of the spectra. Standard input is a text of hexadecimal words: a case's kind and then the
 // arguments of the call in order. A slice that is read is its length and its words; a slice that is lent is its length alone and
 // holds 3.0 everywhere. Each case writes one line of words: the answer's number and place, the count where the call has one, but
-// for the finish the sweeps begun and 1 where the last was quiet and else 0, and the lent slices as they stand afterwards.
+// for the finish the sweeps begun, 1 where the last was quiet and else 0, and the pairs turned; then the lent slices as they
+// stand afterwards.
 //   1 a dim out scratch      hermitian_eigenvalues
 //   2 values out             finish_schmidt_values
 //   3 rho dim out scratch    schmidt_values_from_density
 //   4 matrix dim values vectors scratch    hermitian_eigen
 use factored::Counted;
 use factored::Factored;
-use svd_sweeps::Sweeps;
+use sweeps::Sweeps;
 
-// Writes how the sweeps went: those begun, and 1 where the last one was quiet.
+// Writes how the sweeps went: those begun, 1 where the last one was quiet, and the pairs turned.
 fn print_sweeps(s: Sweeps) {
     replay::print_word(replay::word_of(s.begun));
     if s.quiet {
@@ -18,6 +19,7 @@ fn print_sweeps(s: Sweeps) {
     } else {
         replay::print_word(0);
     }
+    replay::print_word(replay::word_of(s.turned));
 }
 
 // Writes an answer and how its sweeps went.

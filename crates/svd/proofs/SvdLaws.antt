@@ -16,16 +16,18 @@ use Rattle.answers.proofs.PaperLaws.{refuse-done, andThen-done, stays, refuse-s
 use Rattle.complex.specs.Cells.{cellAt, components}
 use Rattle.complex.proofs.CellLaws.{components-small}
 use Rattle.complex.specs.Zeros.{zeros, zeroed}
-use Rattle.svd_load.specs.Loading.{planesOf, conjugateTransposed}
+use Rattle.svd_load.specs.Loading.{planesOf, unitPlanes, conjugateTransposed}
 use Rattle.values.specs.Lists.{allFinite}
-use Rattle.svd_sweeps.specs.declared.Sweeps.{Sweeps}
-use Rattle.svd_sweeps.specs.Sweeping.{noSweeps}
+use Rattle.sweeps.specs.declared.Sweeps.{Sweeps}
+use Rattle.sweeps.specs.Sweeping.{noSweeps}
 use Rattle.svd_thin.specs.Thin.{swept, Thin, Lent}
 use Rattle.svd_thin.proofs.ThinLaws.{side-fits}
 use Rattle.factored.specs.declared.Factored.{Factored}
 use Rattle.factored.specs.Factored.{keptSweeps}
 use Rattle.factored.proofs.Laws.{kept-none, kept-by}
 use Rattle.svd.specs.Svd.{sideOf, rowsOf, needU, needVt, svdScratch, svdSizes, svdLengths, svdTests, workOf, directions, vColumns, uOf, sOf, vtOf, svdSweeps, finiteFactors, svdEnd, svdAnswer, Svd, SvdExact, SvdFactored, SvdFinished, SvdWorked}
+use Rattle.sweeps.proofs.Ceiling.{Ceiling}
+use Rattle.svd_sweeps.proofs.SweepingLaws.{settled-ceiling}
 
 -- ---- the sizes
 
@@ -407,3 +409,9 @@ svd-refused a m n u s vt scratch q r i e′ h′ =
       scratch-is = worked-old (paper (r .answer) .0) _ scratch h b;
       sweeps-are = kept-none (r .answer) (svdSweeps a m n) h (i .1);
     }
+
+-- ---- the turned pairs
+
+pub svd-ceiling : (a : List Float) (m n : ℕ) → Ceiling 100 (sideOf m n) (svdSweeps a m n)
+unfolding svdSweeps swept
+svd-ceiling a m n = settled-ceiling (rowsOf m n) (sideOf m n) (workOf a m n) (unitPlanes (sideOf m n))

@@ -13,7 +13,7 @@ use Rattle.complex.specs.Zeros.{zeros, zeroed}
 use Rattle.svd_load.specs.Loading.{planesOf, conjugateTransposed}
 use Rattle.svd_columns.specs.Columns.{directionsOf, vColumnsOf}
 use Rattle.values.specs.Lists.{allFinite}
-use Rattle.svd_sweeps.specs.declared.Sweeps.{Sweeps}
+use Rattle.sweeps.specs.declared.Sweeps.{Sweeps}
 use Rattle.svd_thin.specs.Thin.{swept, orderOf, valuesOf}
 use Rattle.factored.specs.declared.Factored.{Factored}
 use Rattle.factored.specs.Factored.{keptSweeps}

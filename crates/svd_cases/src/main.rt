@@ -1,12 +1,12 @@
 // Replays the published Rust's answers of the SVD. Standard input is a text of hexadecimal words: a case is 1 and then the
 // arguments of the call in order. The slice that is read is its length and its words; a slice that is lent is its length alone
 // and holds 3.0 everywhere. Each case writes one line of words: the answer's number and place, the sweeps begun, 1 where the last
-// was quiet and else 0, and the lent slices as they stand afterwards.
+// was quiet and else 0, the pairs turned, and the lent slices as they stand afterwards.
 //   1 a m n u s vt scratch
 use factored::Factored;
-use svd_sweeps::Sweeps;
+use sweeps::Sweeps;
 
-// Writes how the sweeps went: those begun, and 1 where the last one was quiet.
+// Writes how the sweeps went: those begun, 1 where the last one was quiet, and the pairs turned.
 fn print_sweeps(s: Sweeps) {
     replay::print_word(replay::word_of(s.begun));
     if s.quiet {
@@ -14,6 +14,7 @@ fn print_sweeps(s: Sweeps) {
     } else {
         replay::print_word(0);
     }
+    replay::print_word(replay::word_of(s.turned));
 }
 
 // Writes an answer and how its sweeps went.

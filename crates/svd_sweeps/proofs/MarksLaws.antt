@@ -11,8 +11,9 @@ use lib.Seq.{getD-set-same, getD-set-other}
 use Rattle.svd_pair.specs.declared.Decision.{Decision}
 use Rattle.svd_pair.specs.declared.Decision.the-variants.{Leave, Turn}
 use Rattle.svd_pair.specs.Turns.{applied}
-use Rattle.svd_sweeps.specs.declared.Sweeps.{Sweeps}
-use Rattle.svd_sweeps.specs.Sweeping.{State, state, counted, pairBy, pairStep}
+use Rattle.sweeps.specs.declared.Sweeps.{Sweeps}
+use Rattle.sweeps.specs.Sweeping.{State, state, counted, pairBy, pairStep}
+use Rattle.svd_sweeps.specs.Sweeping.{svdPairing}
 use Rattle.svd_sweeps.specs.Untouched.{decisionAt}
 use Rattle.svd_sweeps.proofs.UntouchedLaws.{decision-other}
 use Rattle.svd_sweeps.specs.Marks.{look, Seen}
@@ -117,29 +118,29 @@ seen-at {m} {n} {marks = marks} {work = work} e = subst (λ (x : ℕ). Seen m n 
 pub seen-same : {m n t : ℕ} {marks : List ℕ} {work work′ : List Float} → work ≡ work′ → Seen m n t marks work → Seen m n t marks work′
 seen-same {m} {n} {t} {marks} e = subst (Seen m n t marks) e
 
-by-counts : (d : Decision) (m n p q : ℕ) (s : State) {work v : List Float} {t : Sweeps} → state work v t ≡ pairBy d m n p q s → t .turned ≡ s .sweeps .turned
+by-counts : (d : Decision) (m n p q : ℕ) (s : State) {work v : List Float} {t : Sweeps} → state work v t ≡ pairBy (svdPairing m n) d p q s → t .turned ≡ s .sweeps .turned
     → (Leave ≡ d) × (s .work ≡ work)
-unfolding pairBy counted applied
+unfolding svdPairing pairBy counted applied
 by-counts Leave m n p q s e h = (refl, sym (ap (λ (x : State). x .work) e))
 by-counts (Turn cosine sine phase) m n p q s e h = absurd (omega (arith, ap (λ (x : State). x .sweeps .turned) e))
 
 -- a pair that was not counted was left
-pub uncounted : (m n p q : ℕ) (s : State) {work v : List Float} {t : Sweeps} → state work v t ≡ pairStep m n p q s → t .turned ≡ s .sweeps .turned
+pub uncounted : (m n p q : ℕ) (s : State) {work v : List Float} {t : Sweeps} → state work v t ≡ pairStep (svdPairing m n) p q s → t .turned ≡ s .sweeps .turned
     → (Leave ≡ decisionAt m n p q (s .work)) × (s .work ≡ work)
-unfolding pairStep decisionAt
+unfolding svdPairing pairStep decisionAt
 uncounted m n p q s e h = by-counts (decisionAt m n p q (s .work)) m n p q s e h
 
 -- any pair is turned as decided
-pub done-to : (m n p q : ℕ) (s : State) {work v : List Float} {t : Sweeps} → state work v t ≡ pairStep m n p q s
+pub done-to : (m n p q : ℕ) (s : State) {work v : List Float} {t : Sweeps} → state work v t ≡ pairStep (svdPairing m n) p q s
     → work ≡ applied (decisionAt m n p q (s .work)) (n * m) (p * m) (q * m) m (s .work)
-unfolding pairStep pairBy decisionAt
+unfolding svdPairing pairStep pairBy decisionAt
 done-to m n p q s e = ap (λ (x : State). x .work) e
 
 -- a pair that would be left changes nothing
-leave-step : (d : Decision) (m n p q : ℕ) (s : State) → Leave ≡ d → s ≡ pairBy d m n p q s
-unfolding pairBy counted applied
+leave-step : (d : Decision) (m n p q : ℕ) (s : State) → Leave ≡ d → s ≡ pairBy (svdPairing m n) d p q s
+unfolding svdPairing pairBy counted applied
 leave-step d m n p q s e = rw (← e)
 
-pub passed-over : (m n p q : ℕ) (s : State) → Leave ≡ decisionAt m n p q (s .work) → s ≡ pairStep m n p q s
-unfolding pairStep decisionAt
+pub passed-over : (m n p q : ℕ) (s : State) → Leave ≡ decisionAt m n p q (s .work) → s ≡ pairStep (svdPairing m n) p q s
+unfolding svdPairing pairStep decisionAt
 passed-over m n p q s e = leave-step (decisionAt m n p q (s .work)) m n p q s e

@@ -7,7 +7,7 @@ use Prim.Native.Nat.{ℕ, _+_, _*_, _≤_, _<_}
 use lib.Ieee.{Float}
 use lib.ListN.{getD}
 use Rattle.svd_pair.specs.declared.Decision.the-variants.{Leave}
-use Rattle.svd_sweeps.specs.declared.Sweeps.{Sweeps}
+use Rattle.sweeps.specs.declared.Sweeps.{Sweeps}
 use Rattle.svd_sweeps.specs.Untouched.{decisionAt}
 
 -- the number of the look at the pair p, q in the sweep k

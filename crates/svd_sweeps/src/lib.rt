@@ -1,42 +1,18 @@
 // Inner: the one-sided Jacobi sweeps of the SVD, over a work matrix and V that are lent as planes.
 // Row r of column p of a matrix of m rows is its cell p * m + r.
 use svd_pair::Decision;
+use sweeps::Sweeps;
 ghost use mathlib.Core.Path.{_≡_};
 ghost use mathlib.Core.Bool.{true};
 ghost use mathlib.Core.List.{[]};
 ghost use Prim.Native.Nat.{_+_, _-_, _*_, _<_, _≤_};
 ghost use lib.ListN.{length, getD};
 ghost use Rattle.svd_pair.specs.Turns.{applied};
-ghost use Rattle.svd_sweeps.specs.Sweeping.{ValueRoom, VRoom, SweepRoom, state, counted, pairStep, pairsTo, sweepOf, settled};
+ghost use Rattle.sweeps.specs.Sweeping.{state, pairStep, pairsTo, sweepOf};
+ghost use Rattle.svd_sweeps.specs.Sweeping.{ValueRoom, VRoom, SweepRoom, svdPairing, svdPairings, settled};
 ghost use Rattle.svd_sweeps.specs.Marks.{look, Marked, Seen};
 
 const MAX_SVD_SWEEPS: usize = 100;
-
-// Sweeps begun, whether the last one turned nothing, and pairs turned in all.
-pub struct Sweeps {
-    pub begun: usize,
-    pub quiet: bool,
-    pub turned: usize,
-}
-
-// The counts after a decision.
-pub fn count(d: Decision, s: Sweeps) -> Sweeps
-    requires { ⌜ s .turned < 1000000 ⌝ }
-    ensures { λ r. ⌜ r ≡ counted d s ⌝ }
-{
-    match d {
-        Decision::Leave => s,
-        Decision::Turn {
-            cosine: _,
-            sine: _,
-            phase: _,
-        } => Sweeps {
-            begun: s.begun,
-            quiet: false,
-            turned: s.turned + 1,
-        },
-    }
-}
 
 // What is decided for the pair p, q is done to V too, where there is one.
 fn apply_to_v(v: &mut [f64], n: usize, p: usize, q: usize, d: Decision)
@@ -60,14 +36,14 @@ fn pair(
     s: Sweeps,
 ) -> Sweeps
     requires { ⌜ SweepRoom m n (length (now work)) (length (now v)) × (p < n) × (q < n) × (s .turned < 1000000) ⌝ }
-    ensures { λ r. ⌜ state (now (work .exit)) (now (v .exit)) r ≡ pairStep m n p q (state (now (work .entry)) (now (v .entry)) s) ⌝ }
+    ensures { λ r. ⌜ state (now (work .exit)) (now (v .exit)) r ≡ pairStep (svdPairing m n) p q (state (now (work .entry)) (now (v .entry)) s) ⌝ }
 {
     let a = p * m;
     let b = q * m;
     let d = svd_pair::decide(svd_gram::gram_of(work, n * m, a, b, m));
     svd_pair::apply(work, n * m, a, b, m, d);
     apply_to_v(v, n, p, q, d);
-    count(d, s)
+    sweeps::count(d, s)
 }
 
 // Whether neither column was turned since the look with the number `last`.
@@ -93,7 +69,7 @@ fn visit(
     s: Sweeps,
 ) -> Sweeps
     requires { ⌜ SweepRoom m n (length (now work)) (length (now v)) × Marked n p q s (length (now marks)) × Seen m n (look (s .begun) p q) (now marks) (now work) ⌝ }
-    ensures done { λ r. ⌜ state (now (work .exit)) (now (v .exit)) r ≡ pairStep m n p q (state (now (work .entry)) (now (v .entry)) s) ⌝ }
+    ensures done { λ r. ⌜ state (now (work .exit)) (now (v .exit)) r ≡ pairStep (svdPairing m n) p q (state (now (work .entry)) (now (v .entry)) s) ⌝ }
     ensures seen { λ _. ⌜ Seen m n (look (s .begun) p q + 1) (now (marks .exit)) (now (work .exit)) ⌝ }
 {
     let now = s.begun * 4096 + p * 64 + q;
@@ -121,7 +97,7 @@ fn column(
 ) -> Sweeps
     requires { ⌜ SweepRoom m n (length (now work)) (length (now v)) × (p < n) × (s .turned + n < 1000000) × (1 ≤ s .begun) × (s .begun ≤ 1000)
         × (length (now marks) ≡ 64) × Seen m n (look (s .begun) p 0) (now marks) (now work) ⌝ }
-    ensures done { λ r. ⌜ state (now (work .exit)) (now (v .exit)) r ≡ pairsTo m n p (n - (p + 1)) (state (now (work .entry)) (now (v .entry)) s) ⌝ }
+    ensures done { λ r. ⌜ state (now (work .exit)) (now (v .exit)) r ≡ pairsTo (svdPairing m n) p (n - (p + 1)) (state (now (work .entry)) (now (v .entry)) s) ⌝ }
     ensures seen { λ _. ⌜ Seen m n (look (s .begun) (p + 1) 0) (now (marks .exit)) (now (work .exit)) ⌝ }
 {
     let mut t = s;
@@ -142,7 +118,7 @@ fn sweep(
 ) -> Sweeps
     requires { ⌜ SweepRoom m n (length (now work)) (length (now v)) × (s .begun < 1000) × (s .turned < 900000)
         × (length (now marks) ≡ 64) × Seen m n (look (s .begun + 1) 0 0) (now marks) (now work) ⌝ }
-    ensures done { λ r. ⌜ state (now (work .exit)) (now (v .exit)) r ≡ sweepOf m n (state (now (work .entry)) (now (v .entry)) s) ⌝ }
+    ensures done { λ r. ⌜ state (now (work .exit)) (now (v .exit)) r ≡ sweepOf (svdPairings m n) n (state (now (work .entry)) (now (v .entry)) s) ⌝ }
     ensures seen { λ _. ⌜ Seen m n (look (s .begun + 2) 0 0) (now (marks .exit)) (now (work .exit)) ⌝ }
 {
     let mut t = Sweeps {
@@ -177,7 +153,7 @@ pub fn settle(work: &mut [f64], v: &mut [f64], m: usize, n: usize) -> Sweeps
 }
 
 // The same on the work matrix alone, where no V is wanted. The contract names an empty V; no V changes the work matrix or the
-// counts (`settled-alike`, proofs/Values.antt).
+// counts (`settled-alike`, proofs/SweepingLaws.antt).
 pub fn settle_alone(work: &mut [f64], m: usize, n: usize) -> Sweeps
     requires { ⌜ ValueRoom m n (length (now work)) ⌝ }
     ensures { λ r. ⌜ state (now (work .exit)) [] r ≡ settled m n (now (work .entry)) [] ⌝ }

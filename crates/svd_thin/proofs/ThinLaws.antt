@@ -9,8 +9,9 @@ use lib.ListN.{length, take, drop, length-drop}
 use lib.Seq.{length-take-le, take-at, drop-at}
 use borrow.Rule.Slice.PartMut.{putMid}
 use lib.Ieee.{Float}
-use Rattle.svd_sweeps.specs.declared.Sweeps.{Sweeps}
-use Rattle.svd_sweeps.specs.Sweeping.{State, state, settled}
+use Rattle.sweeps.specs.declared.Sweeps.{Sweeps}
+use Rattle.sweeps.specs.Sweeping.{State, state}
+use Rattle.svd_sweeps.specs.Sweeping.{settled}
 use Rattle.svd_load.specs.Loading.{unitPlanes}
 use Rattle.stable_order.specs.Places.{Places, placesOf, placesIn}
 use Rattle.stable_order.proofs.PlacesLaws.{places-back}

@@ -5,8 +5,9 @@ use mathlib.Core.List.{List}
 use Prim.Native.Nat.{ℕ, _+_, _-_, _*_, _≤_}
 use lib.ListN.{take, drop}
 use lib.Ieee.{Float}
-use Rattle.svd_sweeps.specs.declared.Sweeps.{Sweeps}
-use Rattle.svd_sweeps.specs.Sweeping.{State, settled}
+use Rattle.sweeps.specs.declared.Sweeps.{Sweeps}
+use Rattle.sweeps.specs.Sweeping.{State}
+use Rattle.svd_sweeps.specs.Sweeping.{settled}
 use Rattle.svd_load.specs.Loading.{unitPlanes}
 use Rattle.stable_order.specs.Places.{placesOf}
 use Rattle.stable_order.specs.Order.{orderTo}

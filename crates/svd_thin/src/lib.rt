@@ -1,11 +1,12 @@
 // Inner: the thin SVD of a work matrix of `side` columns of `rows` cells, at least as many rows as
 // columns, whose planes stand at the front of scratch. The factor on its own side comes out in `main`,
 // where V stands until then; the one on V's side in `other`, where the norms stand until then.
-use svd_sweeps::Sweeps;
+use sweeps::Sweeps;
 ghost use mathlib.Core.Path.{_≡_};
 ghost use Prim.Native.Nat.{_*_, _≤_};
 ghost use lib.ListN.{length, take};
-ghost use Rattle.svd_sweeps.specs.Sweeping.{SvdRoom, state};
+ghost use Rattle.sweeps.specs.Sweeping.{state};
+ghost use Rattle.svd_sweeps.specs.Sweeping.{SvdRoom};
 ghost use Rattle.stable_order.specs.Places.{placesOf, placesIn, Places};
 ghost use Rattle.stable_order.specs.Order.{orderTo};
 ghost use Rattle.svd_columns.specs.Columns.{sortedOf, directionsOf, vColumnsOf};

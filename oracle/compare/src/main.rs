@@ -1,5 +1,5 @@
 //! The port against the published Rust: the same calls to both, every answer, place, value, count of sweeps with whether the
-//! last was quiet, and lent cell compared.
+//! last was quiet, count of turned pairs, and lent cell compared.
 //!
 //!     compare SEED COUNT         every small shape, then COUNT drawn calls of each entry point, 40 times as many moduli
 //!     compare replay FILE        the calls of FILE, one to a line, as a mismatch prints them
@@ -72,7 +72,7 @@ fn missing() -> Vec<String> {
 
 fn show(ours: &Outcome, theirs: &Outcome) {
     let head = |outcome: &Outcome| {
-        let sweeps = outcome.sweeps.map_or(String::new(), |s| format!(" sweeps {} quiet {}", s.begun, s.quiet));
+        let sweeps = outcome.sweeps.map_or(String::new(), |s| format!(" sweeps {} quiet {} turned {}", s.begun, s.quiet, s.turned));
         format!("answer {} place {} value {:X}{sweeps}", outcome.number, outcome.place, outcome.value)
     };
     println!("  port {}; oracle {}", head(ours), head(theirs));

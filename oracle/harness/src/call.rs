@@ -131,12 +131,13 @@ impl Entry {
     }
 }
 
-/// The sweeps of a factorisation: how many were begun, the quiet one included, and whether the last was quiet. On a refusal
-/// 0 and no.
+/// The sweeps of a factorisation: how many were begun, the quiet one included, whether the last was quiet, and how many pairs
+/// were turned in all. On a refusal 0, no and 0.
 #[derive(Clone, Copy, Debug, Default, PartialEq, Eq)]
 pub struct Sweeps {
     pub begun: u64,
     pub quiet: bool,
+    pub turned: u64,
 }
 
 /// An argument: one word, or a slice of them.

@@ -288,7 +288,7 @@ pub fn outcome(call: &Call, build: Build) -> Outcome {
         Ok(result) if number == 0 => result.value,
         _ => 0,
     };
-    let swept = Sweeps { begun: count.sweeps as u64, quiet: count.turns_of_last == 0 };
+    let swept = Sweeps { begun: count.sweeps as u64, quiet: count.turns_of_last == 0, turned: count.turns as u64 };
     let sweeps = if number == 0 { counts.then_some(swept) } else { none };
     Outcome { number, place: 0, value, sweeps, slices }
 }

@@ -57,8 +57,8 @@ pub fn asked(kind: &str, call: &Call) -> String {
     line
 }
 
-/// What the case prints: number, place, the number handed back where there is one, the sweeps and whether the last was quiet
-/// (1 or 0) where the call sweeps, and each lent slice whole.
+/// What the case prints: number, place, the number handed back where there is one, the sweeps, whether the last was quiet
+/// (1 or 0) and the turned pairs where the call sweeps, and each lent slice whole.
 pub fn printed(kind: &str, call: &Call) -> String {
     if kind == "sites_cases" {
         return sites_sample::printed(call);
@@ -69,7 +69,7 @@ pub fn printed(kind: &str, call: &Call) -> String {
         words.push(outcome.value);
     }
     if let Some(sweeps) = outcome.sweeps {
-        words.extend([sweeps.begun, u64::from(sweeps.quiet)]);
+        words.extend([sweeps.begun, u64::from(sweeps.quiet), sweeps.turned]);
     }
     for (slice, at) in call.slices().into_iter().enumerate() {
         if matches!(call.entry.kinds()[at], Kind::MutFloats | Kind::MutWords) {

@@ -16,17 +16,17 @@ unsafe extern "C" {
     pub fn zg_traced_base(e: usize, list: *const usize, list_len: usize, n: usize, cap: usize, place: *mut usize, base: *mut usize) -> u32;
     pub fn zg_smaller_side(list: *const usize, list_len: usize, n: usize, cap: usize, others: *mut usize, others_len: usize, place: *mut usize) -> u32;
     pub fn zg_cut_matrix(state: *const f64, state_len: usize, n: usize, list: *const usize, list_len: usize, cap: usize, out: *mut f64, out_len: usize, place: *mut usize) -> u32;
-    pub fn zg_dense_schmidt_values(state: *const f64, state_len: usize, n: usize, list: *const usize, list_len: usize, cap: usize, out: *mut f64, out_len: usize, scratch: *mut f64, scratch_len: usize, place: *mut usize, count: *mut usize, sweeps: *mut usize, quiet: *mut bool) -> u32;
+    pub fn zg_dense_schmidt_values(state: *const f64, state_len: usize, n: usize, list: *const usize, list_len: usize, cap: usize, out: *mut f64, out_len: usize, scratch: *mut f64, scratch_len: usize, place: *mut usize, count: *mut usize, sweeps: *mut usize, quiet: *mut bool, turned: *mut usize) -> u32;
     pub fn zg_dense_reduced_density(state: *const f64, state_len: usize, n: usize, list: *const usize, list_len: usize, cap: usize, out: *mut f64, out_len: usize, scratch: *mut f64, scratch_len: usize, place: *mut usize) -> u32;
     pub fn zg_mirror_lower_triangle(rho: *mut f64, rho_len: usize, dim: usize, place: *mut usize) -> u32;
     pub fn zg_normalize_trace(rho: *mut f64, rho_len: usize, dim: usize, place: *mut usize) -> u32;
     pub fn zg_multiply_block_factor(rho: *mut f64, rho_len: usize, dim: usize, positions: *const usize, positions_len: usize, factor: *const f64, factor_len: usize, side: usize, place: *mut usize) -> u32;
-    pub fn zg_svd_jacobi(a: *const f64, a_len: usize, m: usize, n: usize, u: *mut f64, u_len: usize, s: *mut f64, s_len: usize, vt: *mut f64, vt_len: usize, scratch: *mut f64, scratch_len: usize, place: *mut usize, sweeps: *mut usize, quiet: *mut bool) -> u32;
+    pub fn zg_svd_jacobi(a: *const f64, a_len: usize, m: usize, n: usize, u: *mut f64, u_len: usize, s: *mut f64, s_len: usize, vt: *mut f64, vt_len: usize, scratch: *mut f64, scratch_len: usize, place: *mut usize, sweeps: *mut usize, quiet: *mut bool, turned: *mut usize) -> u32;
     pub fn zg_factorize_gram_schmidt(a: *const f64, a_len: usize, rows: usize, cols: usize, q: *mut f64, q_len: usize, r: *mut f64, r_len: usize, scratch: *mut f64, scratch_len: usize, place: *mut usize, rank: *mut usize) -> u32;
-    pub fn zg_hermitian_eigenvalues(a: *const f64, a_len: usize, dim: usize, out: *mut f64, out_len: usize, scratch: *mut f64, scratch_len: usize, place: *mut usize, sweeps: *mut usize, quiet: *mut bool) -> u32;
+    pub fn zg_hermitian_eigenvalues(a: *const f64, a_len: usize, dim: usize, out: *mut f64, out_len: usize, scratch: *mut f64, scratch_len: usize, place: *mut usize, sweeps: *mut usize, quiet: *mut bool, turned: *mut usize) -> u32;
     pub fn zg_finish_schmidt_values(values: *const f64, values_len: usize, out: *mut f64, out_len: usize, place: *mut usize, count: *mut usize) -> u32;
-    pub fn zg_schmidt_values_from_density(rho: *const f64, rho_len: usize, dim: usize, out: *mut f64, out_len: usize, scratch: *mut f64, scratch_len: usize, place: *mut usize, count: *mut usize, sweeps: *mut usize, quiet: *mut bool) -> u32;
-    pub fn zg_hermitian_eigen(matrix: *const f64, matrix_len: usize, dim: usize, values: *mut f64, values_len: usize, vectors: *mut f64, vectors_len: usize, scratch: *mut f64, scratch_len: usize, place: *mut usize, sweeps: *mut usize, quiet: *mut bool) -> u32;
+    pub fn zg_schmidt_values_from_density(rho: *const f64, rho_len: usize, dim: usize, out: *mut f64, out_len: usize, scratch: *mut f64, scratch_len: usize, place: *mut usize, count: *mut usize, sweeps: *mut usize, quiet: *mut bool, turned: *mut usize) -> u32;
+    pub fn zg_hermitian_eigen(matrix: *const f64, matrix_len: usize, dim: usize, values: *mut f64, values_len: usize, vectors: *mut f64, vectors_len: usize, scratch: *mut f64, scratch_len: usize, place: *mut usize, sweeps: *mut usize, quiet: *mut bool, turned: *mut usize) -> u32;
     pub fn zg_truncated_svd_rank(values: *const f64, values_len: usize, epsilon: f64, max_bond_dim: usize, place: *mut usize, rank: *mut usize) -> u32;
     pub fn zg_discards_resolvable_weight(values: *const f64, values_len: usize, chi: usize, place: *mut usize, yes: *mut bool) -> u32;
     pub fn zg_cut_rank(bond_left: usize, bond_mid: usize, bond_right: usize, place: *mut usize, rank: *mut u64) -> u32;
@@ -55,6 +55,7 @@ pub struct Ready<'a> {
     sweeps: usize,
     /// 0 or 1 once a call has said it.
     quiet: u8,
+    turned: usize,
 }
 
 #[allow(dead_code)]
@@ -62,7 +63,7 @@ impl<'a> Ready<'a> {
     pub fn new(call: &'a Call) -> Ready<'a> {
         let fenced = |slice: &[u64]| [&[GUARD; GUARDS], slice, &[GUARD; GUARDS]].concat();
         let words = call.slices().iter().map(|&at| fenced(call.many(at))).collect();
-        Ready { call, words, place: usize::MAX, value: u64::MAX, sweeps: usize::MAX, quiet: 2 }
+        Ready { call, words, place: usize::MAX, value: u64::MAX, sweeps: usize::MAX, quiet: 2, turned: usize::MAX }
     }
 
     fn pointer(&mut self, slice: usize) -> *mut u64 {
@@ -88,7 +89,7 @@ impl<'a> Ready<'a> {
             slices.push(slice.to_vec());
         }
         let value = if self.call.entry.returns() { self.value } else { 0 };
-        let said = Sweeps { begun: self.sweeps as u64, quiet: self.quiet == 1 };
+        let said = Sweeps { begun: self.sweeps as u64, quiet: self.quiet == 1, turned: self.turned as u64 };
         let sweeps = self.call.entry.sweeps().then_some(said);
         Some(Outcome { number, place: self.place as u64, value, sweeps, slices })
     }
@@ -144,7 +145,7 @@ impl Ready<'_> {
         let one = |at: usize| call.one(at);
         let p = &raw mut self.place;
         let v = &raw mut self.value;
-        let (s, q) = (&raw mut self.sweeps, (&raw mut self.quiet).cast::<bool>());
+        let (s, q, t) = (&raw mut self.sweeps, (&raw mut self.quiet).cast::<bool>(), &raw mut self.turned);
         // A slice's pointer to floats, its pointer to whole numbers, its length.
         macro_rules! f { ($slice:literal) => { self.pointer($slice).cast::<f64>() } }
         macro_rules! w { ($slice:literal) => { self.pointer($slice).cast::<usize>() } }
@@ -157,7 +158,7 @@ impl Ready<'_> {
             smaller_side => ask!(has_zg_smaller_side, zg_smaller_side(w!(0), l!(0), one(1), one(2), w!(1), l!(1), p)),
             cut_matrix => ask!(has_zg_cut_matrix, zg_cut_matrix(f!(0), l!(0), one(1), w!(1), l!(1), one(3), f!(2), l!(2), p)),
             dense_schmidt_values => ask!(has_zg_dense_schmidt_values,
-                zg_dense_schmidt_values(f!(0), l!(0), one(1), w!(1), l!(1), one(3), f!(2), l!(2), f!(3), l!(3), p, v.cast(), s, q)),
+                zg_dense_schmidt_values(f!(0), l!(0), one(1), w!(1), l!(1), one(3), f!(2), l!(2), f!(3), l!(3), p, v.cast(), s, q, t)),
             dense_reduced_density => ask!(has_zg_dense_reduced_density,
                 zg_dense_reduced_density(f!(0), l!(0), one(1), w!(1), l!(1), one(3), f!(2), l!(2), f!(3), l!(3), p)),
             mirror_lower_triangle => ask!(has_zg_mirror_lower_triangle, zg_mirror_lower_triangle(f!(0), l!(0), one(1), p)),
@@ -165,17 +166,17 @@ impl Ready<'_> {
             multiply_block_factor => ask!(has_zg_multiply_block_factor,
                 zg_multiply_block_factor(f!(0), l!(0), one(1), w!(1), l!(1), f!(2), l!(2), one(4), p)),
             svd_jacobi => ask!(has_zg_svd_jacobi,
-                zg_svd_jacobi(f!(0), l!(0), one(1), one(2), f!(1), l!(1), f!(2), l!(2), f!(3), l!(3), f!(4), l!(4), p, s, q)),
+                zg_svd_jacobi(f!(0), l!(0), one(1), one(2), f!(1), l!(1), f!(2), l!(2), f!(3), l!(3), f!(4), l!(4), p, s, q, t)),
             factorize_gram_schmidt => ask!(has_zg_factorize_gram_schmidt,
                 zg_factorize_gram_schmidt(f!(0), l!(0), one(1), one(2), f!(1), l!(1), f!(2), l!(2), f!(3), l!(3), p, v.cast())),
             hermitian_eigenvalues => ask!(has_zg_hermitian_eigenvalues,
-                zg_hermitian_eigenvalues(f!(0), l!(0), one(1), f!(1), l!(1), f!(2), l!(2), p, s, q)),
+                zg_hermitian_eigenvalues(f!(0), l!(0), one(1), f!(1), l!(1), f!(2), l!(2), p, s, q, t)),
             finish_schmidt_values => ask!(has_zg_finish_schmidt_values,
                 zg_finish_schmidt_values(f!(0), l!(0), f!(1), l!(1), p, v.cast())),
             schmidt_values_from_density => ask!(has_zg_schmidt_values_from_density,
-                zg_schmidt_values_from_density(f!(0), l!(0), one(1), f!(1), l!(1), f!(2), l!(2), p, v.cast(), s, q)),
+                zg_schmidt_values_from_density(f!(0), l!(0), one(1), f!(1), l!(1), f!(2), l!(2), p, v.cast(), s, q, t)),
             hermitian_eigen => ask!(has_zg_hermitian_eigen,
-                zg_hermitian_eigen(f!(0), l!(0), one(1), f!(1), l!(1), f!(2), l!(2), f!(3), l!(3), p, s, q)),
+                zg_hermitian_eigen(f!(0), l!(0), one(1), f!(1), l!(1), f!(2), l!(2), f!(3), l!(3), p, s, q, t)),
             truncated_svd_rank => ask!(has_zg_truncated_svd_rank,
                 zg_truncated_svd_rank(f!(0), l!(0), call.float(1), one(2), p, v.cast())),
             discards_resolvable_weight => ask!(has_zg_discards_resolvable_weight, {

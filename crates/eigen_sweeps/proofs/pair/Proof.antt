@@ -78,7 +78,7 @@ returns c =
     let start = z .before .before .before in
     let a = start .args in
     let xs = now (a .xs) in
-    (pair-made _ _ _ _ _ _ _ _ _ _ _ (z .read-cell .ensures ∙ plane-read _ _ xs (pq start)) (plane-re _ _ xs (pp start)) (plane-re _ _ xs (qq start)) (verdict-one _ _ (c .before .before .before .before .before .decide .ensures)) (c .before .before .before .apply .ensures) (c .count .ensures .0), (c .count .ensures .1, c .count .ensures .2))
+    pair-made _ _ _ _ _ _ _ _ _ _ _ _ (z .read-cell .ensures ∙ plane-read _ _ xs (pq start)) (plane-re _ _ xs (pp start)) (plane-re _ _ xs (qq start)) (verdict-one _ _ (c .before .before .before .before .before .decide .ensures)) (c .before .before .before .apply .ensures) (c .count .ensures)
 
 pub pair-spec : {M : Type 1} → statement M
 pair-spec =

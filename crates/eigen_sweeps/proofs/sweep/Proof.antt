@@ -1,17 +1,19 @@
 -- `eigen_sweeps::sweep` meets its contract. The loop's invariant: the rows below p are done. Assumes nothing.
-use mathlib.Core.Path.{_≡_, refl, _∙_}
+use mathlib.Core.Path.{_≡_, refl, ap, _∙_}
 use Prim.Native.Nat.{_+_, _-_, _*_, _≤_}
 use native.Mathlib.Omega.{arith}
 use lib.ListN.{length}
 use Rattle.eigen_pair.specs.CellPlanes.{asPlanes}
-use Rattle.eigen_sweeps.specs.Sweeping.{eigenState, rowsTo}
-use Rattle.eigen_sweeps.proofs.SweepingLaws.{rows-none, rows-more, sweep-made}
+use Rattle.sweeps.specs.Sweeping.{columnsTo}
+use Rattle.sweeps.proofs.Counts.{pairsBelow, pairs-few, pairs-after, turned-more}
+use Rattle.sweeps.proofs.SweepingLaws.{sweep-made, columns-none, columns-more}
+use Rattle.eigen_sweeps.specs.Sweeping.{eigenState, eigenPairing, eigenPairings}
 use borrow.Author.Needs.{needs}
 use Rattle.eigen_sweeps.proofs.sweep.Statement.{statement}
 use Rattle.eigen_sweeps.proofs.sweep.Tie as tie
 
 abbrev Inv-loop : tie.InvT-loop
-Inv-loop xs₀ n largest t₀ p₀ xs t p = (p ≤ n) × (length xs ≡ length xs₀) × (t .turned ≤ t₀ .turned + p * 64) × (t .begun ≡ t₀ .begun) × (eigenState (asPlanes (n * n) xs) t ≡ rowsTo n largest p (eigenState (asPlanes (n * n) xs₀) t₀))
+Inv-loop xs₀ n largest t₀ p₀ xs t p = (p ≤ n) × (length xs ≡ length xs₀) × (t .turned ≤ t₀ .turned + pairsBelow n p) × (t .begun ≡ t₀ .begun) × (eigenState (asPlanes (n * n) xs) t ≡ columnsTo (eigenPairing n largest) n p (eigenState (asPlanes (n * n) xs₀) t₀))
 
 abbrev μ-loop : tie.MeasureT-loop
 μ-loop xs₀ n largest t₀ p₀ xs t p = n - p
@@ -23,10 +25,10 @@ add-t9 : tie.Need-add-t9 Inv-loop μ-loop
 add-t9 c = omega (arith, c .before .before .before .before .pre .1)
 
 loop-holds : tie.Need-loop-holds Inv-loop μ-loop
-loop-holds c = (omega arith, refl, omega arith, refl, rows-none _ _ _)
+loop-holds c = (omega arith, refl, omega arith, refl, columns-none _ _ _)
 
 row-requires : tie.Need-row-requires Inv-loop μ-loop
-row-requires c κs = (record { cells = c .before .before .loop .inv .1 ∙ c .before .before .before .before .before .before .before .pre .0 .cells; rows = c .before .before .before .before .before .before .before .pre .0 .rows }, c .before .loop-test .taken, omega (arith, c .before .before .loop .inv .2, c .before .before .before .before .before .before .before .pre .2, c .before .before .before .before .before .before .before .pre .0 .rows, c .before .loop-test .taken))
+row-requires c κs = (record { cells = c .before .before .loop .inv .1 ∙ c .before .before .before .before .before .before .before .pre .0 .cells; rows = c .before .before .before .before .before .before .before .pre .0 .rows }, c .before .loop-test .taken, omega (arith, c .before .before .loop .inv .2, pairs-few _ (c .before .before .loop .p) (c .before .before .before .before .before .before .before .pre .0 .rows), c .before .before .before .before .before .before .before .pre .2, c .before .before .before .before .before .before .before .pre .0 .rows, c .before .loop-test .taken))
 
 add-p : tie.Need-add-p Inv-loop μ-loop
 add-p c = omega (arith, c .before .before .before .before .before .before .before .before .before .before .pre .0 .rows, c .before .before .before .before .loop-test .taken)
@@ -35,13 +37,13 @@ loop-less : tie.Need-loop-less Inv-loop μ-loop
 loop-less c = omega (arith, c .before .before .before .before .loop-test .taken)
 
 loop-again : tie.Need-loop-again Inv-loop μ-loop
-loop-again c = let l = c .before .before .before .before .before .loop .inv in let e = c .before .before .row .ensures in (omega (arith, c .before .before .before .before .loop-test .taken), c .before .before .row .kept .0 ∙ l .1, omega (arith, l .2, e .1 .0), e .1 .1 ∙ l .3, rows-more _ _ _ _ (l .4) (e .0))
+loop-again c = let l = c .before .before .before .before .before .loop .inv in let e = c .before .before .row .ensures in let w = pairs-after _ _ _ _ e in (omega (arith, c .before .before .before .before .loop-test .taken), c .before .before .row .kept .0 ∙ l .1, turned-more _ _ _ (l .2) w, w .begun ∙ l .3, columns-more _ _ _ _ (l .4) e)
 
 same-length : tie.Need-same-length Inv-loop μ-loop
 same-length c = search needs
 
 returns : tie.Need-returns Inv-loop μ-loop
-returns c = let e : c .before .loop .p ≡ c .before .before .before .before .before .before .args .n = omega (arith, c .before .loop .inv .0, c .loop-test .left) in (sweep-made _ _ (c .before .before .before .largest-diagonal .ensures) (rw e at (c .before .loop .inv .4)), (omega (arith, c .before .loop .inv .2, c .before .loop .inv .0, c .before .before .before .before .before .before .pre .0 .rows), c .before .loop .inv .3))
+returns c = let e : c .before .loop .p ≡ c .before .before .before .before .before .before .args .n = omega (arith, c .before .loop .inv .0, c .loop-test .left) in sweep-made (eigenPairings _) _ _ (ap (eigenPairing _) (c .before .before .before .largest-diagonal .ensures)) (rw e at (c .before .loop .inv .4))
 
 pub sweep-spec : {M : Type 1} → statement M
 sweep-spec =

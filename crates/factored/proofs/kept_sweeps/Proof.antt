@@ -8,14 +8,14 @@ use Rattle.factored.proofs.kept_sweeps.Tie as tie
 enum-told : tie.Need-enum-told
 enum-told c = search needs
 
-no-sweeps-requires : tie.Need-no-sweeps-requires
-no-sweeps-requires c κs = search needs
+none-requires : tie.Need-none-requires
+none-requires c κs = search needs
 
 returns : tie.Need-returns
 returns c = kept-done _ _ (c .enum-told .given .1)
 
 returns-2 : tie.Need-returns-2
-returns-2 c = kept-none (c .before .before .args .answer) _ (stopped-number (c .before .before .args .answer) (c .before .match .keys2)) (c .no-sweeps .ensures)
+returns-2 c = kept-none (c .before .before .args .answer) _ (stopped-number (c .before .before .args .answer) (c .before .match .keys2)) (c .none .ensures)
 
 pub kept-sweeps-spec : {M : Type 1} → statement M
-kept-sweeps-spec = tie.close (tie.spec enum-told no-sweeps-requires returns returns-2)
+kept-sweeps-spec = tie.close (tie.spec enum-told none-requires returns returns-2)

@@ -3,16 +3,18 @@ use mathlib.Core.Path.{_≡_, refl, _∙_}
 use Prim.Native.Nat.{_+_, _-_, _≤_, _<_}
 use lib.ListN.{length}
 use native.Mathlib.Omega.{arith}
-use Rattle.svd_sweeps.proofs.Counts.{pair-after}
-use Rattle.svd_sweeps.specs.Sweeping.{state, pairsTo}
-use Rattle.svd_sweeps.proofs.SweepingLaws.{pairs-none, pairs-more, v-kept}
+use Rattle.sweeps.specs.Sweeping.{state, pairsTo}
+use Rattle.sweeps.proofs.Counts.{pair-after}
+use Rattle.sweeps.proofs.SweepingLaws.{pairs-none, pairs-more}
+use Rattle.svd_sweeps.specs.Sweeping.{svdPairing}
+use Rattle.svd_sweeps.proofs.SweepingLaws.{v-kept}
 use Rattle.svd_sweeps.specs.Marks.{look, Seen}
 use Rattle.svd_sweeps.proofs.MarksLaws.{seen-into, seen-column, seen-at}
 use Rattle.svd_sweeps.proofs.column.Statement.{statement}
 use Rattle.svd_sweeps.proofs.column.Tie as tie
 
 abbrev Inv-loop : tie.InvT-loop
-Inv-loop work₀ v₀ marks₀ m n p t₀ q₀ work v marks t q = (p < q) × (q ≤ n) × (length work ≡ length work₀) × (length v ≡ length v₀) × (length marks ≡ length marks₀) × (state work v t ≡ pairsTo m n p (q - (p + 1)) (state work₀ v₀ t₀)) × (t .turned ≤ t₀ .turned + (q - (p + 1))) × (t .begun ≡ t₀ .begun) × Seen m n (look (t₀ .begun) p q) marks work
+Inv-loop work₀ v₀ marks₀ m n p t₀ q₀ work v marks t q = (p < q) × (q ≤ n) × (length work ≡ length work₀) × (length v ≡ length v₀) × (length marks ≡ length marks₀) × (state work v t ≡ pairsTo (svdPairing m n) p (q - (p + 1)) (state work₀ v₀ t₀)) × (t .turned ≤ t₀ .turned + (q - (p + 1))) × (t .begun ≡ t₀ .begun) × Seen m n (look (t₀ .begun) p q) marks work
 
 abbrev μ-loop : tie.MeasureT-loop
 μ-loop work₀ v₀ marks₀ m n p t₀ q₀ work v marks t q = n - q
@@ -23,7 +25,7 @@ add-q c = omega (arith, c .before .before .before .pre .1, c .before .before .be
 loop-holds : tie.Need-loop-holds Inv-loop μ-loop
 loop-holds c =
     let s = c .before .before .before in
-    (omega arith, omega (arith, s .pre .1), refl, refl, refl, pairs-none _ _ _ _, omega arith, refl, seen-into _ _ _ _ _ _ (s .pre .0 .columns) (s .pre .1) (s .pre .6))
+    (omega arith, omega (arith, s .pre .1), refl, refl, refl, pairs-none _ _ _, omega arith, refl, seen-into _ _ _ _ _ _ (s .pre .0 .columns) (s .pre .1) (s .pre .6))
 
 visit-requires : tie.Need-visit-requires Inv-loop μ-loop
 visit-requires c κs =
@@ -46,13 +48,13 @@ loop-again c =
     let i = c .before .before .before .before .before .before .before .before .before .before .before .loop .inv in
     let l = c .before .before .before .before .before .before .before .before .before .before .loop-test .taken in
     let r = c .before .before .before .before .before .before .visit in
-    let w = pair-after _ _ _ _ _ (r .ensures .0) in (
+    let w = pair-after _ _ _ _ (r .ensures .0) in (
       omega (arith, i .0),
       omega (arith, l),
       r .kept .0 ∙ i .2,
       r .kept .1 .0 ∙ i .3,
       r .kept .1 .1 .0 ∙ i .4,
-      pairs-more _ _ _ _ _ (i .0) (i .5) (r .ensures .0),
+      pairs-more _ _ _ _ (i .0) (i .5) (r .ensures .0),
       omega (arith, w .turned, i .6, i .0),
       w .begun ∙ i .7,
       seen-at (omega (arith, i .7)) (r .ensures .1),

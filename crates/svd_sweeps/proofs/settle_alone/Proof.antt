@@ -1,6 +1,6 @@
 -- `svd_sweeps::settle_alone` meets its contract: the sweeps keep an empty V empty. Assumes nothing.
 use borrow.Author.Needs.{needs}
-use Rattle.svd_sweeps.proofs.SweepingLaws.{state-alone}
+use Rattle.sweeps.proofs.SweepingLaws.{state-alone}
 use Rattle.svd_sweeps.proofs.settle_alone.Statement.{statement}
 use Rattle.svd_sweeps.proofs.settle_alone.Tie as tie
 

@@ -3,9 +3,11 @@ use mathlib.Core.Path.{_≡_, refl, _∙_}
 use Prim.Native.Nat.{_+_, _-_, _≤_}
 use lib.ListN.{length}
 use native.Mathlib.Omega.{arith}
-use Rattle.svd_sweeps.proofs.Counts.{pairsBelow, pairs-few, pairs-after, turned-more}
-use Rattle.svd_sweeps.specs.Sweeping.{state, columnsTo}
-use Rattle.svd_sweeps.proofs.SweepingLaws.{sweep-made, columns-none, columns-more, v-kept}
+use Rattle.sweeps.specs.Sweeping.{state, columnsTo}
+use Rattle.sweeps.proofs.Counts.{pairsBelow, pairs-few, pairs-after, turned-more}
+use Rattle.sweeps.proofs.SweepingLaws.{sweep-made, columns-none, columns-more}
+use Rattle.svd_sweeps.specs.Sweeping.{svdPairing, svdPairings}
+use Rattle.svd_sweeps.proofs.SweepingLaws.{v-kept}
 use Rattle.svd_sweeps.specs.Marks.{look, Seen}
 use Rattle.svd_sweeps.proofs.MarksLaws.{seen-sweep, seen-at}
 use borrow.Author.Needs.{needs}
@@ -13,7 +15,7 @@ use Rattle.svd_sweeps.proofs.sweep.Statement.{statement}
 use Rattle.svd_sweeps.proofs.sweep.Tie as tie
 
 abbrev Inv-loop : tie.InvT-loop
-Inv-loop work₀ v₀ marks₀ m n t₀ p₀ work v marks t p = (p ≤ n) × (length work ≡ length work₀) × (length v ≡ length v₀) × (length marks ≡ length marks₀) × (state work v t ≡ columnsTo m n p (state work₀ v₀ t₀)) × (t .turned ≤ t₀ .turned + pairsBelow n p) × (t .begun ≡ t₀ .begun) × Seen m n (look (t₀ .begun) p 0) marks work
+Inv-loop work₀ v₀ marks₀ m n t₀ p₀ work v marks t p = (p ≤ n) × (length work ≡ length work₀) × (length v ≡ length v₀) × (length marks ≡ length marks₀) × (state work v t ≡ columnsTo (svdPairing m n) n p (state work₀ v₀ t₀)) × (t .turned ≤ t₀ .turned + pairsBelow n p) × (t .begun ≡ t₀ .begun) × Seen m n (look (t₀ .begun) p 0) marks work
 
 abbrev μ-loop : tie.MeasureT-loop
 μ-loop work₀ v₀ marks₀ m n t₀ p₀ work v marks t p = n - p
@@ -52,7 +54,7 @@ loop-again c =
     let i = c .before .before .before .before .before .before .before .before .before .before .before .loop .inv in
     let l = c .before .before .before .before .before .before .before .before .before .before .loop-test .taken in
     let r = c .before .before .before .before .before .before .column in
-    let w = pairs-after _ _ _ _ _ (r .ensures .0) in (
+    let w = pairs-after _ _ _ _ (r .ensures .0) in (
       omega (arith, l),
       r .kept .0 ∙ i .1,
       r .kept .1 .0 ∙ i .2,
@@ -77,7 +79,7 @@ returns c =
     let s = c .before .before .before .before .before .before in
     let i = c .before .loop .inv in
     let e : c .before .loop .p ≡ s .args .n = omega (arith, i .0, c .loop-test .left) in
-    (sweep-made _ _ _ (rw e at (i .4)), seen-at (omega arith) (seen-sweep _ _ (s .args .s .begun + 1) _ _ (s .pre .0 .columns) (seen-at (omega (arith, e)) (i .7))))
+    (sweep-made (svdPairings _ _) _ _ refl (rw e at (i .4)), seen-at (omega arith) (seen-sweep _ _ (s .args .s .begun + 1) _ _ (s .pre .0 .columns) (seen-at (omega (arith, e)) (i .7))))
 
 pub sweep-spec : {M : Type 1} → statement M
 sweep-spec =

@@ -1,8 +1,8 @@
--- `svd_sweeps::count` meets its contract: one case of the definition for each case of the decision. Assumes nothing.
-use Rattle.svd_sweeps.specs.Sweeping.{counted}
+-- `sweeps::count` meets its contract: one case of the definition for each case of the decision. Assumes nothing.
+use Rattle.sweeps.specs.Sweeping.{counted}
 use borrow.Author.Needs.{needs}
-use Rattle.svd_sweeps.proofs.count.Statement.{statement}
-use Rattle.svd_sweeps.proofs.count.Tie as tie
+use Rattle.sweeps.proofs.count.Statement.{statement}
+use Rattle.sweeps.proofs.count.Tie as tie
 
 enum-told : tie.Need-enum-told
 enum-told c = search needs
