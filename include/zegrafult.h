@@ -46,6 +46,9 @@ extern "C" {
 double zg_sqrt(double x);
 /* The same on bit patterns; a NaN is 7FF8000000000000. */
 uint64_t zg_sqrt_bits(uint64_t bits);
+/* The root of zg_sqrt, and whether it came out even: whether its square, as real numbers, is x. Both zeros yes; an infinity, a NaN
+ * and a negative x no. */
+double zg_sqrt_marked(double x, bool *exact);
 /* The modulus of re + i*im: both parts scaled by the power of two that brings the larger to at least 1 and under 2, the
  * root of the sum of their squares, and that scaled back, each step rounded once. Two zeros give +0.0; with a part that is
  * not finite it is the root of the sum of the squares unscaled. */
@@ -169,11 +172,12 @@ uint32_t zg_hermitian_eigen(const double *matrix, size_t matrix_len, size_t dim,
                             size_t *sweeps, bool *quiet, size_t *turned);
 
 /* Slices: state 0 (exactly 2*2^n numbers), list 1, out 2 (2^side), scratch 3 (8*2^n + 2*2^side). The Schmidt values of the
- * cut: the singular values of its matrix, 9 where one is not finite, then the finish. The sweeps are those of the SVD.
- * Refused as a cut by 1 to 5, then by 6 to 9. */
+ * cut: the singular values of its matrix, 9 where one is not finite, then the finish. The sweeps are those of the SVD. exact says
+ * whether the root of every column's norm after the sweeps, of those that the floor drops too, and the root of the final scale came
+ * out even as zg_sqrt_marked has it; on a refusal no. Refused as a cut by 1 to 5, then by 6 to 9. */
 uint32_t zg_dense_schmidt_values(const double *state, size_t state_len, size_t n, const size_t *list, size_t list_len,
                                  size_t cap, double *out, size_t out_len, double *scratch, size_t scratch_len,
-                                 size_t *place, size_t *count, size_t *sweeps, bool *quiet, size_t *turned);
+                                 size_t *place, size_t *count, size_t *sweeps, bool *quiet, size_t *turned, bool *exact);
 
 /* ---- ranks and sites */
 

@@ -20,10 +20,10 @@ static unsigned tiny_answer(void) {
     const size_t named[] = {0};
     double out[2], scratch[8 * 4 + 2 * 2];
     size_t place, count, sweeps, turned;
-    bool quiet;
+    bool quiet, exact;
 
     return (unsigned)zg_dense_schmidt_values(state, 8, 2, named, 1, 13, out, 2, scratch, 36, &place, &count, &sweeps, &quiet,
-                                             &turned);
+                                             &turned, &exact);
 }
 
 static void environments(void) {
@@ -78,12 +78,12 @@ static void *work(void *room) {
     const size_t named[] = {1, 3, 5, 7};
     double scratch[8 * CELLS + 2 * SIDE];
     size_t place, count, sweeps, turned;
-    bool quiet;
+    bool quiet, exact;
     int i;
 
     for (i = 0; i < 50; i++)
         zg_dense_schmidt_values(shared, 2 * CELLS, N, named, 4, 13, room, SIDE, scratch, 8 * CELLS + 2 * SIDE, &place, &count, &sweeps, &quiet,
-                                &turned);
+                                &turned, &exact);
     return NULL;
 }
 

@@ -16,7 +16,7 @@ static double scratch[8 * CELLS + 128], factor[2 * CELLS];
 static const size_t six[] = {0, 2, 4, 6, 8, 10}, low[] = {0, 1, 2, 3, 4, 5};
 static const size_t eleven[] = {0, 1, 2, 3, 4, 5, 6, 7, 8, 9, 10};
 static size_t offsets[CELLS], place, count, sweeps, turned;
-static bool quiet;
+static bool quiet, exact;
 static uint64_t wide;
 static uint32_t answer;
 static volatile double number;
@@ -25,7 +25,7 @@ static bool yes;
 
 static void nothing(void) {}
 static void numbers(void) {
-    number = zg_sqrt(2.0) + zg_modulus(3.0, 4.0) + zg_magnitude(-1.0) + zg_sign(-0.0);
+    number = zg_sqrt(2.0) + zg_sqrt_marked(2.0, &exact) + zg_modulus(3.0, 4.0) + zg_magnitude(-1.0) + zg_sign(-0.0);
     bits = zg_sqrt_bits(0x4000000000000000u) + zg_is_finite(1.0) + zg_component_allowed(1.0) + zg_total_less(0.0, 1.0) + zg_total_order(0.0, 1.0);
     answer = 0;
 }
@@ -63,7 +63,7 @@ static void eigen(void) {
     answer = zg_hermitian_eigen(matrix, 2 * CELLS, 64, more, 64, out, 2 * CELLS, scratch, 6 * CELLS + 128, &place, &sweeps, &quiet, &turned);
 }
 static void cut_values(void) {
-    answer = zg_dense_schmidt_values(state, 2 * CELLS, 12, six, 6, 13, out, 64, scratch, 8 * CELLS + 128, &place, &count, &sweeps, &quiet, &turned);
+    answer = zg_dense_schmidt_values(state, 2 * CELLS, 12, six, 6, 13, out, 64, scratch, 8 * CELLS + 128, &place, &count, &sweeps, &quiet, &turned, &exact);
 }
 static void ranks(void) {
     answer = zg_truncated_svd_rank(factor, 64, 1e-3, 8, &place, &count) + zg_discards_resolvable_weight(factor, 64, 8, &place, &yes) +

@@ -1,7 +1,7 @@
 //! Copies the published files into the build folder, where the compiler finds them. Their text stays as it is, except that
 //! a module is added at the end that opens their private calls to the harness (`doors.rs`), and that the build named
 //! `replaced` has the modulus of `modulus.rs` for each call of `norm`. The build named `counting` has that too, and counts
-//! the sweeps begun and the pairs turned.
+//! the sweeps begun, the pairs turned, and the roots of columns' norms and of the final scale that do not come out even.
 
 use std::path::{Path, PathBuf};
 use std::{env, fs};
@@ -43,6 +43,15 @@ fn main() {
                 let sweeping = matches!(name, "svd" | "schmidt");
                 assert_eq!(text.matches(mark).count(), usize::from(sweeping), "{mark} in {file}");
                 text = text.replace(mark, &format!("{mark} crate::count::{call}();"));
+            }
+        }
+        if build == "counting" {
+            for (file, mark, call) in [
+                ("svd", "let norm = norm_sq.sqrt();", "root(norm_sq, norm)"),
+                ("schmidt", "let scale = 1.0 / total.sqrt();", "root(total, total.sqrt())"),
+            ] {
+                assert_eq!(text.matches(mark).count(), usize::from(name == file), "{mark} in {file}");
+                text = text.replace(mark, &format!("{mark} crate::count::{call};"));
             }
         }
         text.push_str(&format!("\npub mod door {{\n{}}}\n", door_of(&doors, name)));

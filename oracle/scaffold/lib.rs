@@ -47,12 +47,14 @@ pub mod gates {
 pub mod count {
     use std::cell::Cell;
 
-    /// Sweeps begun, pairs turned, and pairs turned since the last sweep began.
+    /// Sweeps begun, pairs turned, pairs turned since the last sweep began, and roots that did not come out even: of columns'
+    /// norms and of the final scale.
     #[derive(Clone, Copy, Debug, Default, PartialEq, Eq)]
     pub struct Count {
         pub sweeps: usize,
         pub turns: usize,
         pub turns_of_last: usize,
+        pub uneven: usize,
     }
 
     thread_local! {
@@ -67,6 +69,30 @@ pub mod count {
     pub fn turn() {
         let count = COUNT.get();
         COUNT.set(Count { turns: count.turns + 1, turns_of_last: count.turns_of_last + 1, ..count });
+    }
+
+    pub fn root(x: f64, root: f64) {
+        let count = COUNT.get();
+        COUNT.set(Count { uneven: count.uneven + usize::from(!even(x, root)), ..count });
+    }
+
+    /// A finite float above zero as an odd whole number and the power of two that it is times.
+    fn odd(x: f64) -> (u128, i64) {
+        let (field, low) = ((x.to_bits() >> 52) as i64, x.to_bits() & ((1 << 52) - 1));
+        let (digits, power) = if field == 0 { (low, -1074) } else { (low | 1 << 52, field - 1075) };
+        (u128::from(digits >> digits.trailing_zeros()), power + i64::from(digits.trailing_zeros()))
+    }
+
+    /// Whether the square of `root` is `x`, in whole numbers. Both zeros are even, an infinity, a NaN and a negative number not.
+    pub fn even(x: f64, root: f64) -> bool {
+        if x == 0.0 {
+            return true;
+        }
+        if !x.is_finite() || x < 0.0 {
+            return false;
+        }
+        let ((square, twice), (side, once)) = (odd(x), odd(root));
+        side * side == square && 2 * once == twice
     }
 
     /// The counts since it was last asked.

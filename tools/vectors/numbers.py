@@ -45,6 +45,13 @@ def root(bits):
     return (drop << 52) + (nearest >> drop)
 
 
+def even(bits):
+    """1 where the square of the root is the pattern's float: both zeros are, an infinity, a NaN and a negative number are not."""
+    if bits in (0, SIGN):
+        return 1
+    return int(bits < INF and units(root(bits)) ** 2 == units(bits) << 1074)
+
+
 def rounded(p, q):
     """The pattern of the float nearest to p / q, which is at least 0; ties to even, +infinity above the floats."""
     p <<= 1074
@@ -157,7 +164,7 @@ def moduli():
         yield bits_of(random.uniform(-1, 1)), bits_of(random.uniform(-1, 1))
 
 
-cases = [(1, [b], [root(b), root(NAN if float_of(b) != float_of(b) else b)]) for b in root_inputs()]
+cases = [(1, [b], [root(b), root(NAN if float_of(b) != float_of(b) else b), even(b)]) for b in root_inputs()]
 drawn = SPECIAL + [random.randrange(INF) | random.choice([0, SIGN]) for _ in range(40)]
 cases += [(2, [b], helpers(b)) for b in drawn]
 cases += [(3, [a, b], [order(a, b)]) for a in drawn[:24] for b in drawn[:24]]

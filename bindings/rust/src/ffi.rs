@@ -3,6 +3,7 @@
 extern "C" {
     pub fn zg_sqrt(x: f64) -> f64;
     pub fn zg_sqrt_bits(bits: u64) -> u64;
+    pub fn zg_sqrt_marked(x: f64, exact: &mut bool) -> f64;
     pub fn zg_modulus(re: f64, im: f64) -> f64;
     pub fn zg_magnitude(x: f64) -> f64;
     pub fn zg_sign(x: f64) -> f64;
@@ -195,6 +196,7 @@ extern "C" {
         sweeps: &mut usize,
         quiet: &mut bool,
         turned: &mut usize,
+        exact: &mut bool,
     ) -> u32;
     pub fn zg_truncated_svd_rank(
         values: *const f64,

@@ -12,6 +12,19 @@ pub fn sqrt(x: f64) -> f64 {
     unsafe { ffi::zg_sqrt(x) }
 }
 
+/// [`sqrt`], and whether it came out even: whether the root's square, as real numbers, is `x`.
+///
+/// ```
+/// assert_eq!(zegrafult::sqrt_marked(2.25), (1.5, true));
+/// assert_eq!(zegrafult::sqrt_marked(2.0), (zegrafult::sqrt(2.0), false));
+/// assert_eq!(zegrafult::sqrt_marked(f64::INFINITY), (f64::INFINITY, false));
+/// ```
+pub fn sqrt_marked(x: f64) -> (f64, bool) {
+    let mut exact = false;
+    let root = unsafe { ffi::zg_sqrt_marked(x, &mut exact) };
+    (root, exact)
+}
+
 /// [`sqrt`] on bit patterns.
 pub fn sqrt_bits(bits: u64) -> u64 {
     unsafe { ffi::zg_sqrt_bits(bits) }

@@ -11,13 +11,24 @@ pub struct Swept {
     pub turned: usize,
 }
 
+/// The values of a cut, the sweeps that gave them as in [`Swept`], and whether every root on the way came out even: `exact` says
+/// that of the root of every column's norm, of those that the floor drops too, and of the root of the final scale.
+#[derive(Clone, Debug, PartialEq)]
+pub struct CutValues {
+    pub values: Vec<f64>,
+    pub sweeps: usize,
+    pub quiet: bool,
+    pub turned: usize,
+    pub exact: bool,
+}
+
 /// The Schmidt values of the cut between the listed qubits and the rest, falling, their squares summing to 1: the
 /// singular values of [`crate::cut_matrix`], finished as by [`finish_schmidt_values`]. At most 100 sweeps.
-pub fn dense_schmidt_values(state: &[Complex], n: usize, list: &[usize], cap: usize) -> Result<Swept, Refusal> {
+pub fn dense_schmidt_values(state: &[Complex], n: usize, list: &[usize], cap: usize) -> Result<CutValues, Refusal> {
     let side = list.len().min(n.saturating_sub(list.len()));
     let mut out = vec![0.0; power(side)];
     let mut scratch = vec![0.0; 8 * power(n) + 2 * power(side)];
-    let (mut place, mut count, mut sweeps, mut quiet, mut turned) = (0, 0, 0, false, 0);
+    let (mut place, mut count, mut sweeps, mut quiet, mut turned, mut exact) = (0, 0, 0, false, 0, false);
     let (s, s_len) = numbers_of(state);
     let number = unsafe {
         ffi::zg_dense_schmidt_values(
@@ -36,10 +47,11 @@ pub fn dense_schmidt_values(state: &[Complex], n: usize, list: &[usize], cap: us
             &mut sweeps,
             &mut quiet,
             &mut turned,
+            &mut exact,
         )
     };
     out.truncate(count);
-    answered(number, place, Swept { values: out, sweeps, quiet, turned })
+    answered(number, place, CutValues { values: out, sweeps, quiet, turned, exact })
 }
 
 /// Sorted downward, cut at the floor, scaled to unit length.

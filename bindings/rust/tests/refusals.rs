@@ -81,6 +81,6 @@ fn the_papers_file() {
     let mut amplitudes = vec![0.0; 16];
     [0, 5, 10, 15].map(|i| amplitudes[i] = 1.0);
     let found = dense_schmidt_values(&state(&amplitudes), 4, &[0, 1], 10);
-    assert_eq!(found, Ok(Swept { values: vec![0.5; 4], sweeps: 1, quiet: true, turned: 0 }));
+    assert_eq!(found, Ok(CutValues { values: vec![0.5; 4], sweeps: 1, quiet: true, turned: 0, exact: true }));
     assert_eq!(smaller_side(&[0, 1], 4, 10), Ok(vec![0, 1]));
 }

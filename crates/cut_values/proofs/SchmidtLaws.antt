@@ -1,10 +1,10 @@
 -- Laws of the Schmidt values of a cut: each step hands on what the next asks, the call at each way out, and that only one outcome meets
 -- its contract. Assumes nothing.
-use mathlib.Core.Bool.{Bool, true, false, not}
+use mathlib.Core.Bool.{Bool, true, false, not, _&&_}
 use mathlib.Core.Path.{_≡_, refl, sym, ap, ap₂, subst, _∙_}
 use mathlib.Core.Logic.{_⊎_, ⊎-elim}
 use mathlib.Core.List.{List, [], _∷_, _++_, append-nil}
-use Prim.Native.Nat.{ℕ, suc, _+_, _-_, _*_, _^_, _≤_, _<_, min}
+use Prim.Native.Nat.{ℕ, zero, suc, _+_, _-_, _*_, _^_, _≤_, _<_, min}
 use native.Mathlib.Nat.{min-le-left, min-le-right, eq-or-lt-of-le, mul-comm, mul-le-mul-right}
 use native.Mathlib.Omega.{arith}
 use borrow.Author.Tests.{lt-ltb, le-ltb, ltb-false, eq-eqb, ne-eqb, eqb-true, not-false}
@@ -31,22 +31,22 @@ use Rattle.svd_sweeps.specs.Sweeping.{settled}
 use Rattle.svd_sweeps.proofs.SweepingLaws.{settled-alike}
 use Rattle.svd_load.specs.Loading.{unitPlanes}
 use Rattle.stable_order.specs.Order.{orderTo}
-use Rattle.svd_columns.specs.Columns.{normsOf, sortedOf}
+use Rattle.svd_columns.specs.Columns.{normsOf, normsExact, sortedOf}
 use Rattle.values.specs.Lists.{allFinite}
 use Rattle.values.specs.Sort.{sortedDown}
 use Rattle.sweeps.specs.Sweeping.{noSweeps}
-use Rattle.factored.specs.declared.Counted.{Counted}
+use Rattle.cut_values.specs.declared.CutCounted.{CutCounted}
 use Rattle.factored.specs.Factored.{keptSweeps}
 use Rattle.factored.proofs.Laws.{kept-none, kept-by}
-use Rattle.finish.specs.declared.Kept.{Kept}
-use Rattle.finish.specs.Finish.{finishOf, finishReply, padded}
-use Rattle.finish.specs.Outcome.{FinishedOutcome}
+use Rattle.finish.specs.declared.Finished.{Finished}
+use Rattle.finish.specs.Finish.{finishOf, finishExact, finishReply, padded}
+use Rattle.finish.specs.Outcome.{MarkedOutcome}
 use Rattle.finish.proofs.OutcomeLaws.{reply-worked}
 use Rattle.svd_thin.specs.Thin.{swept, orderOf, valuesOf}
 use Rattle.svd.specs.Svd.{sideOf, workOf, sOf, svdSweeps}
 use Rattle.svd.specs.Svd as svd
 use Rattle.svd.proofs.SvdLaws.{side-wide, side-tall, svd-ceiling}
-use Rattle.cut_values.specs.Schmidt.{cutRows, cutColumns, singularValues, cutSweeps, cutValuesScratch, cutValuesLengths, cutValuesRest, cutValuesTests, valuesReply, cutValuesAnswer, Schmidt, CutValuesSized, sidesMatrix, normsAfter, singularOf, sweepsOf, CutValuesFinished, CutValuesWorked}
+use Rattle.cut_values.specs.Schmidt.{cutRows, cutColumns, singularValues, cutSweeps, columnsExact, cutExact, columnsExactOf, cutValuesScratch, cutValuesLengths, cutValuesRest, cutValuesTests, valuesReply, cutValuesAnswer, Schmidt, CutValuesSized, sidesMatrix, normsAfter, singularOf, sweepsOf, CutValuesFinished, CutValuesWorked}
 use Rattle.sweeps.proofs.Ceiling.{Ceiling}
 
 -- ---- the lengths
@@ -192,6 +192,17 @@ sweeps-made s n z {w} r p e h =
     ∙ ap (λ (y : ℕ). swept y (z .rows) a .sweeps) (sym (k .1))
     ∙ ap (λ (y : ℕ). swept (svd.rowsOf (z .rows) (z .columns)) y a .sweeps) (sym (k .0))
 
+-- the marks of the roots of the norms
+pub marks-made : (s : List Float) (n : ℕ) (z : Sides) {w x : List Float} {b : Bool} (r : Sweeps) → CutValuesSized n z s
+    → w ≡ workOf (sidesMatrix s n z) (z .rows) (z .columns) → state x [] r ≡ settled (z .columns) (z .rows) w []
+    → b ≡ normsExact x (z .columns) (z .rows) → b ≡ columnsExactOf s n z
+unfolding columnsExactOf columnsExact
+marks-made s n z {w} {x} r p e h i =
+    let k = sizes (z .rows) (z .columns) (p .wide) in
+    i
+    ∙ ap (λ (y : List Float). normsExact y (z .columns) (z .rows)) (swept-alone (z .columns) (z .rows) w x r h ∙ ap (λ (y : List Float). swept (z .columns) (z .rows) y .work) e)
+    ∙ rw (k .0, k .1)
+
 pub values-made : (s : List Float) (n : ℕ) (z : Sides) {norms values : List Float} → CutValuesSized n z s → norms ≡ normsAfter s n z
     → values ≡ sortedOf norms (orderTo norms (z .rows)) (z .rows) → values ≡ singularOf s n z
 unfolding singularOf sOf valuesOf orderOf normsAfter
@@ -206,15 +217,16 @@ module _ (values old : List Float) (b : Bool) (f : b ≡ allFinite values) where
   unfolding valuesReply
   tested t h = ap (λ (x : Bool). refuse (not x) (9, 0) (finishReply values)) (sym f ∙ h)
 
-  pub finished-good : (r : Kept) (end : List Float) → b ≡ true → FinishedOutcome values old r end → CutValuesFinished values old r end
+  pub finished-good : (r : Finished) (end : List Float) → b ≡ true → MarkedOutcome values old r end → CutValuesFinished values old r end
   finished-good r end h o = record {
     answer = o .answer ∙ sym (tested true h);
     count = rw (o .answer) (o .count);
     out-is = rw (o .answer) (o .out);
+    exact-is = rw (o .answer) (o .exact-is);
   }
 
-  pub finished-bad : (end : List Float) → b ≡ false → end ≡ zeroed (length values) old → CutValuesFinished values old (record { answer = NotFinite; count = 0 }) end
-  finished-bad end h e = record { answer = sym (tested false h); count = refl; out-is = e }
+  pub finished-bad : (end : List Float) → b ≡ false → end ≡ zeroed (length values) old → CutValuesFinished values old (record { answer = NotFinite; count = 0; exact = false }) end
+  finished-bad end h e = record { answer = sym (tested false h); count = refl; out-is = e; exact-is = refl }
 
 -- 0, 8 or 9
 values-number : (values : List Float) → Ended (valuesReply values .0)
@@ -223,12 +235,19 @@ values-number values = nine-ended (allFinite values) (finishReply values) (reply
 
 -- ---- the work
 
-pub worked : (s : List Float) (n : ℕ) (z : Sides) (old values mid : List Float) (r : Kept) (q : Counted) {out scratch : List Float} {sweeps : Sweeps} (k : ℕ)
-    → values ≡ singularOf s n z → length values ≡ z .rows → sweeps ≡ sweepsOf s n z → CutValuesFinished values old r out
+-- a refusal's mark is no
+and-done : (x : ℕ) (a b : Bool) → (a && ifDone x b false) ≡ ifDone x (a && b) false
+and-done zero a b = refl
+and-done (suc x) true b = refl
+and-done (suc x) false b = refl
+
+pub worked : (s : List Float) (n : ℕ) (z : Sides) (old values mid : List Float) (r : Finished) (q : CutCounted) {out scratch : List Float} {sweeps : Sweeps} {b : Bool} (k : ℕ)
+    → values ≡ singularOf s n z → length values ≡ z .rows → sweeps ≡ sweepsOf s n z → b ≡ columnsExactOf s n z → CutValuesFinished values old r out
     → length mid ≡ cutValuesScratch n (z .rows) → k ≡ cutValuesScratch n (z .rows) → scratch ≡ zeroed k mid
-    → (q .answer ≡ r .answer) × (q .count ≡ r .count) × (q .sweeps ≡ keptSweeps (r .answer) sweeps) → CutValuesWorked s n z old q out scratch
+    → (q .answer ≡ r .answer) × (q .count ≡ r .count) × (q .sweeps ≡ keptSweeps (r .answer) sweeps) → q .exact ≡ (b && r .exact)
+    → CutValuesWorked s n z old q out scratch
 unfolding zeroed
-worked s n z old values mid r q k e l g f lm ek h i =
+worked s n z old values mid r q k e l g y f lm ek h i t =
     let m : length mid ≤ k = omega arith in
     record {
       answer = rw (i .0) (f .answer ∙ ap valuesReply e);
@@ -236,6 +255,9 @@ worked s n z old values mid r q k e l g f lm ek h i =
       out-is = rw (i .0) (f .out-is ∙ ap₂ (λ (x : ℕ) (y : List Float). ifDone (paper (r .answer) .0) (padded x (finishOf y) old) (zeroed x old)) l e);
       scratch-is = h ∙ rw (drop-of-length-le mid m, append-nil, ek);
       sweeps-are = kept-by (i .0) g (i .2);
+      exact-is =
+          rw (i .0)
+          (t ∙ ap₂ _&&_ y (f .exact-is ∙ ap (λ (x : List Float). ifDone (paper (r .answer) .0) (finishExact x) false) e) ∙ and-done (paper (r .answer) .0) (columnsExactOf s n z) (finishExact (singularOf s n z)));
     }
 
 -- ---- the call
@@ -273,8 +295,8 @@ tests-small s n l cap out scratch =
     after-small (cutRefusal l n cap .0) (cutRefusal l n cap) (cutValuesRest s n (cutRows n l) out scratch) (cut-small l n cap) (rest-small s n (cutRows n l) out scratch)
 
 -- refused: nothing lent changes
-pub schmidt-refused : (s : List Float) (n : ℕ) (l : List ℕ) (cap : ℕ) (out scratch : List Float) (r : Answer) (q : Counted)
-    → (q .answer ≡ r) × (q .count ≡ 0) × (q .sweeps ≡ noSweeps)
+pub schmidt-refused : (s : List Float) (n : ℕ) (l : List ℕ) (cap : ℕ) (out scratch : List Float) (r : Answer) (q : CutCounted)
+    → (q .answer ≡ r) × (q .count ≡ 0) × (q .sweeps ≡ noSweeps) × (q .exact ≡ false)
     → paper r ≡ cutValuesTests s n l cap (length out) (length scratch) → (paper r .0 ≡ 0 → ⊥)
     → Schmidt s n l cap out scratch q out scratch
 unfolding cutValuesAnswer
@@ -286,6 +308,7 @@ schmidt-refused s n l cap out scratch r q i e h =
       out-is = rw (i .0) (end-old (paper r .0) _ _ out h b);
       scratch-is = rw (i .0) (worked-old (paper r .0) _ scratch h b);
       sweeps-are = rw (i .0) (kept-none r (cutSweeps s n l) h (i .2));
+      exact-is = i .3 ∙ rw (i .0) (done-old (paper r .0) _ false h);
     }
 
 -- 1 to 5 do not refuse: 6 and 7 decide, and past them the work on the needed part of scratch
@@ -304,7 +327,11 @@ module _ (s : List Float) (n : ℕ) (l : List ℕ) (cap : ℕ) (out scratch : Li
   unfolding sweepsOf cutSweeps
   sweeps-sides = ap (λ (y : Sides). svdSweeps (sidesMatrix s n y) (y .rows) (y .columns)) e
 
-  pub schmidt-worked : (r : Counted) {out' scratch' : List Float} (k : ℕ) → k ≡ cutValuesScratch n (z .rows)
+  exact-sides : (columnsExactOf s n z && finishExact (singularOf s n z)) ≡ cutExact s n l
+  unfolding columnsExactOf cutExact
+  exact-sides = ap₂ _&&_ (ap (λ (y : Sides). columnsExact (sidesMatrix s n y) (y .rows) (y .columns)) e) (ap (λ (v : List Float). finishExact v) singular-sides)
+
+  pub schmidt-worked : (r : CutCounted) {out' scratch' : List Float} (k : ℕ) → k ≡ cutValuesScratch n (z .rows)
       → cutValuesRest s n (z .rows) (length out) (length scratch) .0 ≡ 0
       → CutValuesWorked s n z out r out' scratch' → Schmidt s n l cap out scratch r out' (scratch' ++ drop k scratch)
   unfolding cutValuesAnswer zeroed
@@ -328,7 +355,12 @@ module _ (s : List Float) (n : ℕ) (l : List ℕ) (cap : ℕ) (out scratch : Li
             ∙ ap (λ (y : ℕ). zeros (cutValuesScratch n y) ++ drop (cutValuesScratch n y) scratch) m
             ∙ worked-new x _ scratch p;
         sweeps-are = w .sweeps-are ∙ ap (keptSweeps (r .answer)) sweeps-sides;
+        exact-is = w .exact-is ∙ ap (λ (y : Bool). ifDone x y false) exact-sides;
       }
+
+-- two with the same parts are the same
+pub cut-counted-one : (r q : CutCounted) → r .answer ≡ q .answer → r .count ≡ q .count → r .sweeps ≡ q .sweeps → r .exact ≡ q .exact → r ≡ q
+cut-counted-one r q e f g h = rw (← e, ← f, ← g, ← h)
 
 -- ---- the turned pairs
 

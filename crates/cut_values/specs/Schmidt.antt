@@ -1,6 +1,6 @@
 -- The Schmidt values of a cut: the singular values of the cut matrix, 9 where one is not finite, then the finish. Definitions only.
 use mathlib.Core.Path.{_≡_}
-use mathlib.Core.Bool.{not}
+use mathlib.Core.Bool.{Bool, false, not, _&&_}
 use mathlib.Core.List.{List}
 use Prim.Native.Nat.{ℕ, _+_, _-_, _*_, _^_, _≤_, _<_}
 use lib.Dec.{ltb, eqb}
@@ -12,15 +12,15 @@ use Rattle.complex.specs.Zeros.{zeros, zeroed}
 use Rattle.cut_sides.specs.declared.Sides.{Sides}
 use Rattle.cut_sides.specs.Sides.{cutRefusal, side}
 use Rattle.cuts.specs.Cut.{cellOf, cutCell}
-use Rattle.svd_columns.specs.Columns.{normsOf}
+use Rattle.svd_columns.specs.Columns.{normsOf, normsExact}
 use Rattle.values.specs.Lists.{allFinite}
-use Rattle.finish.specs.declared.Kept.{Kept}
-use Rattle.finish.specs.Finish.{finishOf, finishReply, padded}
+use Rattle.finish.specs.declared.Finished.{Finished}
+use Rattle.finish.specs.Finish.{finishOf, finishExact, finishReply, padded}
 use Rattle.svd_thin.specs.Thin.{swept}
 use Rattle.sweeps.specs.declared.Sweeps.{Sweeps}
-use Rattle.factored.specs.declared.Counted.{Counted}
+use Rattle.cut_values.specs.declared.CutCounted.{CutCounted}
 use Rattle.factored.specs.Factored.{keptSweeps}
-use Rattle.svd.specs.Svd.{workOf, sOf, svdSweeps}
+use Rattle.svd.specs.Svd.{rowsOf, sideOf, workOf, sOf, svdSweeps}
 
 -- ---- the values
 
@@ -38,6 +38,14 @@ singularValues s n l = sOf (cellsOf (2 ^ n) (cutCell s n l)) (cutRows n l) (cutC
 -- how the SVD's sweeps on it went
 unfoldable pub cutSweeps : List Float → ℕ → List ℕ → Sweeps
 cutSweeps s n l = svdSweeps (cellsOf (2 ^ n) (cutCell s n l)) (cutRows n l) (cutColumns n l)
+
+-- whether the root of the norm of every column of a matrix's work matrix after the sweeps is exact
+unfoldable pub columnsExact : List Float → ℕ → ℕ → Bool
+columnsExact a m n = normsExact (swept (rowsOf m n) (sideOf m n) (workOf a m n) .work) (rowsOf m n) (sideOf m n)
+
+-- the mark: every root of a column's norm is exact, those of columns that the floor drops too, and so is the root of the final scale
+unfoldable pub cutExact : List Float → ℕ → List ℕ → Bool
+cutExact s n l = columnsExact (cellsOf (2 ^ n) (cutCell s n l)) (cutRows n l) (cutColumns n l) && finishExact (singularValues s n l)
 
 -- ---- the answer
 
@@ -64,13 +72,14 @@ valuesReply values = refuse (not (allFinite values)) (9, 0) (finishReply values)
 unfoldable pub cutValuesAnswer : List Float → ℕ → List ℕ → ℕ → ℕ → ℕ → Reply
 cutValuesAnswer s n l cap out scratch = andThen (cutValuesTests s n l cap out scratch) (valuesReply (singularValues s n l))
 
--- the answer, the count, the sweeps, and what out and scratch hold at the end
-pub record Schmidt (s : List Float) (n : ℕ) (l : List ℕ) (cap : ℕ) (out scratch : List Float) (r : Counted) (out' scratch' : List Float) : Type 0 where
+-- the answer, the count, the sweeps, the mark, and what out and scratch hold at the end
+pub record Schmidt (s : List Float) (n : ℕ) (l : List ℕ) (cap : ℕ) (out scratch : List Float) (r : CutCounted) (out' scratch' : List Float) : Type 0 where
   pub answer : paper (r .answer) ≡ cutValuesAnswer s n l cap (length out) (length scratch)
   pub count : r .count ≡ ifDone (paper (r .answer) .0) (length (finishOf (singularValues s n l))) 0
   pub out-is : out' ≡ atEnd (paper (r .answer) .0) (padded (cutRows n l) (finishOf (singularValues s n l)) out) (zeroed (cutRows n l) out) out
   pub scratch-is : scratch' ≡ ifWorked (paper (r .answer) .0) (zeroed (cutValuesScratch n (cutRows n l)) scratch) scratch
   pub sweeps-are : r .sweeps ≡ keptSweeps (r .answer) (cutSweeps s n l)
+  pub exact-is : r .exact ≡ ifDone (paper (r .answer) .0) (cutExact s n l) false
 
 -- ---- the steps, over the sides of an accepted cut
 
@@ -98,15 +107,20 @@ singularOf s n z = sOf (sidesMatrix s n z) (z .rows) (z .columns)
 unfoldable pub sweepsOf : List Float → ℕ → Sides → Sweeps
 sweepsOf s n z = svdSweeps (sidesMatrix s n z) (z .rows) (z .columns)
 
+unfoldable pub columnsExactOf : List Float → ℕ → Sides → Bool
+columnsExactOf s n z = columnsExact (sidesMatrix s n z) (z .rows) (z .columns)
+
 -- the values finished, or 9
-pub record CutValuesFinished (values old : List Float) (r : Kept) (end : List Float) : Type 0 where
+pub record CutValuesFinished (values old : List Float) (r : Finished) (end : List Float) : Type 0 where
   pub answer : paper (r .answer) ≡ valuesReply values
   pub count : r .count ≡ ifDone (paper (r .answer) .0) (length (finishOf values)) 0
   pub out-is : end ≡ ifDone (paper (r .answer) .0) (padded (length values) (finishOf values) old) (zeroed (length values) old)
+  pub exact-is : r .exact ≡ ifDone (paper (r .answer) .0) (finishExact values) false
 
-pub record CutValuesWorked (s : List Float) (n : ℕ) (z : Sides) (old : List Float) (r : Counted) (out scratch : List Float) : Type 0 where
+pub record CutValuesWorked (s : List Float) (n : ℕ) (z : Sides) (old : List Float) (r : CutCounted) (out scratch : List Float) : Type 0 where
   pub answer : paper (r .answer) ≡ valuesReply (singularOf s n z)
   pub count : r .count ≡ ifDone (paper (r .answer) .0) (length (finishOf (singularOf s n z))) 0
   pub out-is : out ≡ ifDone (paper (r .answer) .0) (padded (z .rows) (finishOf (singularOf s n z)) old) (zeroed (z .rows) old)
   pub scratch-is : scratch ≡ zeros (cutValuesScratch n (z .rows))
   pub sweeps-are : r .sweeps ≡ keptSweeps (r .answer) (sweepsOf s n z)
+  pub exact-is : r .exact ≡ ifDone (paper (r .answer) .0) (columnsExactOf s n z && finishExact (singularOf s n z)) false

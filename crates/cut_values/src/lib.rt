@@ -1,14 +1,30 @@
 // The Schmidt values of a cut of a state: the singular values of its cut matrix, and then the finish.
 use answers::Answer;
 use cut_sides::Sides;
-use factored::Counted;
-use finish::Kept;
+use finish::Finished;
 use sweeps::Sweeps;
 ghost use mathlib.Core.Path.{_≡_};
+ghost use mathlib.Core.Bool.{false};
 ghost use Prim.Native.Nat.{_+_, _*_, _^_, _≤_};
 ghost use lib.ListN.{length};
 ghost use Rattle.answers.specs.Paper.{paper};
-ghost use Rattle.cut_values.specs.Schmidt.{cutValuesLengths, cutValuesRest, normsAfter, singularOf, sweepsOf, CutValuesSized, CutValuesFinished, CutValuesWorked, Schmidt};
+ghost use Rattle.sweeps.specs.Sweeping.{noSweeps};
+ghost use Rattle.cut_values.specs.Schmidt.{cutValuesLengths, cutValuesRest, normsAfter, singularOf, sweepsOf, columnsExactOf, CutValuesSized, CutValuesFinished, CutValuesWorked, Schmidt};
+
+// The answer, how many values were kept, the sweeps, and whether every root of a column's norm and the root of the final scale
+// came out even.
+pub struct CutCounted {
+    pub answer: Answer,
+    pub count: usize,
+    pub sweeps: Sweeps,
+    pub exact: bool,
+}
+
+// How the sweeps went, and whether every root of a column's norm came out even.
+struct SweptNorms {
+    sweeps: Sweeps,
+    exact: bool,
+}
 
 // The first slice of a wrong length, or too short: 6.
 fn check_lengths(n: usize, rows: usize, state: usize, out: usize, scratch: usize) -> Answer
@@ -40,15 +56,16 @@ fn check(state: &[f64], n: usize, rows: usize, out: usize, scratch: usize) -> An
     components::check_components(state)
 }
 
-// The norms of the work matrix's columns after the sweeps, which need no V, and how the sweeps went.
-fn sweep(state: &[f64], n: usize, cut: Sides, work: &mut [f64], norms: &mut [f64]) -> Sweeps
+// The norms of the work matrix's columns after the sweeps, which need no V.
+fn sweep(state: &[f64], n: usize, cut: Sides, work: &mut [f64], norms: &mut [f64]) -> SweptNorms
     requires { ⌜ CutValuesSized n cut (now state) × (length (now work) ≡ 2 * 2 ^ n) × (length (now norms) ≡ cut .rows) ⌝ }
-    ensures { λ r. ⌜ (now (norms .exit) ≡ normsAfter (now (state .entry)) n cut) × (r ≡ sweepsOf (now (state .entry)) n cut) ⌝ }
+    ensures { λ r. ⌜ (now (norms .exit) ≡ normsAfter (now (state .entry)) n cut) × (r .sweeps ≡ sweepsOf (now (state .entry)) n cut)
+        × (r .exact ≡ columnsExactOf (now (state .entry)) n cut) ⌝ }
 {
     cut_planes::gather_work(state, n, cut, work);
     let sweeps = svd_sweeps::settle_alone(work, cut.columns, cut.rows);
-    svd_columns::norms(work, cut.columns, cut.rows, norms);
-    sweeps
+    let exact = svd_columns::norms_marked(work, cut.columns, cut.rows, norms);
+    SweptNorms { sweeps, exact }
 }
 
 // The singular values of the cut matrix, falling. Scratch holds the work matrix, and after it the order.
@@ -58,48 +75,72 @@ fn singular_values(
     cut: Sides,
     values: &mut [f64],
     scratch: &mut [f64],
-) -> Sweeps
+) -> SweptNorms
     requires { ⌜ CutValuesSized n cut (now state) × (length (now values) ≡ cut .rows) × (2 * 2 ^ n ≤ length (now scratch)) ⌝ }
-    ensures { λ r. ⌜ (now (values .exit) ≡ singularOf (now (state .entry)) n cut) × (r ≡ sweepsOf (now (state .entry)) n cut) ⌝ }
+    ensures { λ r. ⌜ (now (values .exit) ≡ singularOf (now (state .entry)) n cut) × (r .sweeps ≡ sweepsOf (now (state .entry)) n cut)
+        × (r .exact ≡ columnsExactOf (now (state .entry)) n cut) ⌝ }
 {
     let rows = cut.rows;
     let all = 2 * submasks::bit(n);
     let mut norms = [0.0f64; 64];
-    let sweeps = sweep(state, n, cut, &mut scratch[..all], &mut norms[..rows]);
+    let swept = sweep(state, n, cut, &mut scratch[..all], &mut norms[..rows]);
     svd_thin::sort(&norms[..rows], rows, values, &mut scratch[..rows]);
-    sweeps
+    swept
 }
 
 // 9 where a singular value is not finite, before any floor is taken; else the finish decides.
-fn finish_finite(values: &[f64], out: &mut [f64]) -> Kept
+fn finish_finite(values: &[f64], out: &mut [f64]) -> Finished
     requires { ⌜ length (now values) ≤ length (now out) ⌝ }
     ensures { λ r. ⌜ CutValuesFinished (now (values .entry)) (now (out .entry)) r (now (out .exit)) ⌝ }
 {
     if values::all_finite(values) {
-        return finish::finish_values(values, out);
+        return finish::finish_marked(values, out);
     }
     complex::zero_first(out, values.len());
-    Kept {
+    Finished {
         answer: Answer::NotFinite,
         count: 0,
+        exact: false,
     }
 }
 
 // The work of an accepted call, over scratch of exactly the needed length: 0, 8 or 9.
-fn work(state: &[f64], n: usize, cut: Sides, out: &mut [f64], scratch: &mut [f64]) -> Counted
+fn work(state: &[f64], n: usize, cut: Sides, out: &mut [f64], scratch: &mut [f64]) -> CutCounted
     requires { ⌜ CutValuesSized n cut (now state) × (cut .rows ≤ length (now out)) × (length (now scratch) ≡ 8 * 2 ^ n + 2 * cut .rows) ⌝ }
     ensures { λ r. ⌜ CutValuesWorked (now (state .entry)) n cut (now (out .entry)) r (now (out .exit)) (now (scratch .exit)) ⌝ }
 {
     let rows = cut.rows;
     let mut values = [0.0f64; 64];
-    let sweeps = singular_values(state, n, cut, &mut values[..rows], scratch);
+    let swept = singular_values(state, n, cut, &mut values[..rows], scratch);
     complex::zero_first(scratch, scratch.len());
     let kept = finish_finite(&values[..rows], out);
+    let exact = swept.exact & kept.exact;
     let answer = kept.answer;
-    factored::answered_count(answer, kept.count, sweeps)
+    let begun = swept.sweeps;
+    let counted = factored::answered_count(answer, kept.count, begun);
+    let sweeps = counted.sweeps;
+    CutCounted {
+        answer,
+        count: counted.count,
+        sweeps,
+        exact,
+    }
 }
 
-// The Schmidt values of the cut at the front of out, how many they are, and how the sweeps went.
+// A refusal before the work: no value, no sweep, and the mark is no.
+fn refused(answer: Answer) -> CutCounted
+    ensures { λ r. ⌜ (r .answer ≡ answer) × (r .count ≡ 0) × (r .sweeps ≡ noSweeps) × (r .exact ≡ false) ⌝ }
+{
+    let none = sweeps::none();
+    CutCounted {
+        answer,
+        count: 0,
+        sweeps: none,
+        exact: false,
+    }
+}
+
+// The Schmidt values of the cut at the front of out, how many they are, how the sweeps went, and the mark of the roots.
 pub fn dense_schmidt_values(
     state: &[f64],
     n: usize,
@@ -107,18 +148,18 @@ pub fn dense_schmidt_values(
     cap: usize,
     out: &mut [f64],
     scratch: &mut [f64],
-) -> Counted
+) -> CutCounted
     ensures { λ r. ⌜ Schmidt (now (state .entry)) n (now (list .entry)) cap (now (out .entry)) (now (scratch .entry)) r
         (now (out .exit)) (now (scratch .exit)) ⌝ }
 {
     let first = cut_sides::cut_refusal(list, n, cap);
     let Answer::Done = first else {
-        return factored::refused_count(first);
+        return refused(first);
     };
     let cut = cut_sides::sides_of(list, n);
     let second = check(state, n, cut.rows, out.len(), scratch.len());
     let Answer::Done = second else {
-        return factored::refused_count(second);
+        return refused(second);
     };
     let need = 8 * submasks::bit(n) + 2 * cut.rows;
     work(state, n, cut, out, &mut scratch[..need])

@@ -17,13 +17,15 @@ use Rattle.decode.proofs.TablesLaws.{take-filled}
 use Rattle.sweeps.specs.Sweeping.{noSweeps}
 use Rattle.factored.specs.declared.Counted.{Counted}
 use Rattle.finish.specs.Finish.{padded}
+use Rattle.cut_values.specs.declared.CutCounted.{CutCounted}
 use Rattle.cut_values.specs.Schmidt.{cutRows, cutSweeps, cutValuesAnswer, Schmidt}
 use Rattle.cutfile_result.specs.Result.{listOf, stateOf, cutReply, valuesOf, valuesAt, libraryReply, fileReply, fileList, fileValues, fileSweeps, Valued, FileValued, Result}
 
 -- ---- the library's call over the room that is lent here
 
-pub valued : (state : List Float) (n : ℕ) (list : List ℕ) (values scratch : List Float) → length values ≡ 16 → length scratch ≡ 4128 → (r : Counted)
-    (end scratch' : List Float) → Schmidt state n list 10 values scratch r end scratch' → Valued state n list values r end
+pub valued : (state : List Float) (n : ℕ) (list : List ℕ) (values scratch : List Float) → length values ≡ 16 → length scratch ≡ 4128 → (r : CutCounted)
+    (end scratch' : List Float) → Schmidt state n list 10 values scratch r end scratch'
+    → Valued state n list values (record { answer = r .answer; count = r .count; sweeps = r .sweeps }) end
 unfolding cutReply
 valued state n list values scratch lv ls r end scratch' is =
     let e : paper (r .answer) ≡ cutReply state n list = is .answer ∙ ap₂ (cutValuesAnswer state n list 10) lv ls in

@@ -19,13 +19,20 @@ pub struct CutResult {
     pub sweeps: Sweeps,
 }
 
-// The cut values of a state.
+// The cut values of a state; the mark of their roots is not printed.
 fn values_of(state: &[f64], n: usize, list: &[usize], values: &mut [f64]) -> Counted
     requires { ⌜ length (now values) ≡ 16 ⌝ }
     ensures { λ r. ⌜ Valued (now (state .entry)) n (now (list .entry)) (now (values .entry)) r (now (values .exit)) ⌝ }
 {
     let mut scratch = [0.0f64; 4128];
-    cut_values::dense_schmidt_values(state, n, list, 10, values, &mut scratch)
+    let all = cut_values::dense_schmidt_values(state, n, list, 10, values, &mut scratch);
+    let answer = all.answer;
+    let sweeps = all.sweeps;
+    Counted {
+        answer,
+        count: all.count,
+        sweeps,
+    }
 }
 
 // The list and the values of a file whose header was answered 0.

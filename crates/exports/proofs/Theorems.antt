@@ -1,6 +1,6 @@
 -- THE C FACE has one outcome for each call: its number, its place, each stored result, and every lent cell. From the theorem of the
 -- call behind it, by one law. Assumes nothing.
-use mathlib.Core.Path.{_≡_, ap}
+use mathlib.Core.Path.{_≡_, sym, ap, _∙_}
 use mathlib.Core.Bool.{Bool}
 use mathlib.Core.List.{List}
 use Prim.Native.Nat.{ℕ}
@@ -46,7 +46,10 @@ use Rattle.spectra.specs.Density.{DensityValues}
 use Rattle.spectra.proofs.Theorems.{hermitian-eigenvalues-one, schmidt-values-from-density-one}
 use Rattle.hermitian_eigen.specs.Hermitian.{Eigen}
 use Rattle.hermitian_eigen.proofs.Theorems.{hermitian-eigen-one}
+use Rattle.numbers.specs.Root.{sqrtOf}
+use Rattle.exact_roots.specs.Exact.{exactRoot}
 use Rattle.cut_values.specs.Schmidt.{Schmidt}
+use Rattle.cut_values.specs.declared.CutCounted.{CutCounted}
 use Rattle.cut_values.proofs.Theorems.{dense-schmidt-values-one}
 use Rattle.site_ranks.specs.declared.CutRank.{CutRank}
 use Rattle.site_ranks.specs.Ranks.{Ranked}
@@ -58,6 +61,11 @@ use Rattle.slabs.proofs.Theorems.{put-one, drop-one, replace-one}
 use Rattle.countersign.specs.declared.Countersigned.{Countersigned}
 use Rattle.countersign.specs.Verdict.{Says as Verdict, says, Countersign}
 use Rattle.countersign.proofs.Theorems.{countersign-one}
+
+-- Only one outcome meets the contract of `zg_sqrt_marked`.
+pub zg-sqrt-marked-one : (x r r' : Float) (exact exact' : Bool)
+    → (r ≡ sqrtOf x) × (exact ≡ exactRoot x) → (r' ≡ sqrtOf x) × (exact' ≡ exactRoot x) → (r ≡ r') × (exact ≡ exact')
+zg-sqrt-marked-one x r r' exact exact' a b = (a .0 ∙ sym (b .0), a .1 ∙ sym (b .1))
 
 -- Only one outcome meets the contract of `zg_validate_qubit_set`.
 pub zg-validate-qubit-set-one : (l : List ℕ) (n : ℕ) {number place number' place' : ℕ}
@@ -190,12 +198,12 @@ zg-hermitian-eigen-one matrix dim values vectors scratch values' values″ vecto
     exported-with-one (λ k l' c d. let e = hermitian-eigen-one matrix dim values vectors scratch k l' values' vectors' scratch' values″ vectors″ scratch″ c d in (ap (λ (x : Swept). x .answer) (e .0), ap (λ (x : Swept). (x .sweeps .begun, x .sweeps .quiet, x .sweeps .turned)) (e .0), (e .1, e .2, e .3)))
 
 -- Only one outcome meets the contract of `zg_dense_schmidt_values`.
-pub zg-dense-schmidt-values-one : (state : List Float) (n : ℕ) (l : List ℕ) (cap : ℕ) (out scratch : List Float) (out' out″ : List Float) (scratch' scratch″ : List Float) {number place number' place' : ℕ} {value value' : ℕ × ℕ × Bool × ℕ}
-    → ExportedWith {R = Counted} {W = ℕ × ℕ × Bool × ℕ} (λ k. k .answer) (λ k. (k .count, k .sweeps .begun, k .sweeps .quiet, k .sweeps .turned)) (λ k. Schmidt state n l cap out scratch k out' scratch') number place value
-    → ExportedWith {R = Counted} {W = ℕ × ℕ × Bool × ℕ} (λ k. k .answer) (λ k. (k .count, k .sweeps .begun, k .sweeps .quiet, k .sweeps .turned)) (λ k. Schmidt state n l cap out scratch k out″ scratch″) number' place' value'
+pub zg-dense-schmidt-values-one : (state : List Float) (n : ℕ) (l : List ℕ) (cap : ℕ) (out scratch : List Float) (out' out″ : List Float) (scratch' scratch″ : List Float) {number place number' place' : ℕ} {value value' : ℕ × ℕ × Bool × ℕ × Bool}
+    → ExportedWith {R = CutCounted} {W = ℕ × ℕ × Bool × ℕ × Bool} (λ k. k .answer) (λ k. (k .count, k .sweeps .begun, k .sweeps .quiet, k .sweeps .turned, k .exact)) (λ k. Schmidt state n l cap out scratch k out' scratch') number place value
+    → ExportedWith {R = CutCounted} {W = ℕ × ℕ × Bool × ℕ × Bool} (λ k. k .answer) (λ k. (k .count, k .sweeps .begun, k .sweeps .quiet, k .sweeps .turned, k .exact)) (λ k. Schmidt state n l cap out scratch k out″ scratch″) number' place' value'
     → (number ≡ number') × (place ≡ place') × (value ≡ value') × ((out' ≡ out″) × (scratch' ≡ scratch″))
 zg-dense-schmidt-values-one state n l cap out scratch out' out″ scratch' scratch″ =
-    exported-with-one (λ k l' c d. let e = dense-schmidt-values-one state n l cap out scratch k l' out' scratch' out″ scratch″ c d in (ap (λ (x : Counted). x .answer) (e .0), ap (λ (x : Counted). (x .count, x .sweeps .begun, x .sweeps .quiet, x .sweeps .turned)) (e .0), (e .1, e .2)))
+    exported-with-one (λ k l' c d. let e = dense-schmidt-values-one state n l cap out scratch k l' out' scratch' out″ scratch″ c d in (ap (λ (x : CutCounted). x .answer) (e .0), ap (λ (x : CutCounted). (x .count, x .sweeps .begun, x .sweeps .quiet, x .sweeps .turned, x .exact)) (e .0), (e .1, e .2)))
 
 -- Only one outcome meets the contract of `zg_cut_rank` and of `zg_widest_block_cut`.
 pub zg-ranked-one : (reply : Reply) (v : ℕ) {number place number' place' : ℕ} {value value' : ℕ}

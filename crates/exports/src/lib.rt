@@ -12,6 +12,7 @@ ghost use lib.ListN.{length};
 ghost use Rattle.told.specs.Told.{Exported, ExportedWith};
 ghost use lib.Ieee.{binary64, toBits, ofBits};
 ghost use Rattle.numbers.specs.Root.{sqrtOf};
+ghost use Rattle.exact_roots.specs.Exact.{exactRoot};
 ghost use Rattle.complex.specs.Arithmetic.{complexOf};
 ghost use Rattle.modulus.specs.Modulus.{modulusOf};
 ghost use Rattle.numbers.specs.Numbers.{magnitudeOf, signOf, isFinite, totalOrder, orderNumber, allowed, totalLess};
@@ -44,6 +45,7 @@ ghost use Rattle.countersign.specs.declared.Countersigned.{Countersigned};
 ghost use Rattle.slabs.specs.Slab.{Put, Dropped, Replaced};
 ghost use Rattle.hermitian_eigen.specs.Hermitian.{Eigen};
 ghost use Rattle.cut_values.specs.Schmidt.{Schmidt};
+ghost use Rattle.cut_values.specs.declared.CutCounted.{CutCounted};
 
 // ---- numbers: nothing is refused
 
@@ -52,6 +54,16 @@ pub extern "C" fn zg_sqrt(x: f64) -> f64
     ensures { λ r. ⌜ r ≡ sqrtOf x ⌝ }
 {
     numbers::sqrt(x)
+}
+
+// The root, and whether its square is exactly x.
+#[no_mangle]
+pub extern "C" fn zg_sqrt_marked(x: f64, exact: &mut bool) -> f64
+    ensures { λ r. ⌜ (r ≡ sqrtOf x) × (now (exact .exit) ≡ exactRoot x) ⌝ }
+{
+    let m = exact_roots::sqrt_marked(x);
+    *exact = m.exact;
+    m.root
 }
 
 #[no_mangle]
@@ -449,9 +461,10 @@ pub extern "C" fn zg_dense_schmidt_values(
     sweeps: &mut usize,
     quiet: &mut bool,
     turned: &mut usize,
+    exact: &mut bool,
 ) -> u32
-    ensures { λ r. ⌜ ExportedWith {R = Counted} {W = ℕ × ℕ × Bool × ℕ} (λ k. k .answer) (λ k. (k .count, k .sweeps .begun, k .sweeps .quiet, k .sweeps .turned))
-        (λ k. Schmidt (now (state .entry)) n (now (list .entry)) cap (now (out .entry)) (now (scratch .entry)) k (now (out .exit)) (now (scratch .exit))) r (now (place .exit)) (now (count .exit), now (sweeps .exit), now (quiet .exit), now (turned .exit)) ⌝ }
+    ensures { λ r. ⌜ ExportedWith {R = CutCounted} {W = ℕ × ℕ × Bool × ℕ × Bool} (λ k. k .answer) (λ k. (k .count, k .sweeps .begun, k .sweeps .quiet, k .sweeps .turned, k .exact))
+        (λ k. Schmidt (now (state .entry)) n (now (list .entry)) cap (now (out .entry)) (now (scratch .entry)) k (now (out .exit)) (now (scratch .exit))) r (now (place .exit)) (now (count .exit), now (sweeps .exit), now (quiet .exit), now (turned .exit), now (exact .exit)) ⌝ }
 {
     let k = cut_values::dense_schmidt_values(state, n, list, cap, out, scratch);
     *count = k.count;
@@ -459,6 +472,7 @@ pub extern "C" fn zg_dense_schmidt_values(
     *sweeps = t.begun;
     *quiet = t.quiet;
     *turned = t.turned;
+    *exact = k.exact;
     let answer = k.answer;
     told::told(answer, place)
 }

@@ -1,6 +1,7 @@
 -- Two lists that name opposite sides of an accepted cut: masks, sizes and cells. Assumes nothing.
 use mathlib.Core.Path.{_≡_, sym, ap, ap₂, _∙_}
 use mathlib.Core.Logic.{⊎-elim}
+use mathlib.Core.Bool.{_&&_}
 use mathlib.Core.List.{List}
 use Prim.Native.Nat.{ℕ, _+_, _-_, _*_, _/_, _%_, _^_, _≤_, _<_, min}
 use native.Mathlib.Nat.{min-eq-left, min-eq-right, div-lt-iff-lt-mul, div-add-mod', mod-lt}
@@ -23,7 +24,8 @@ use Rattle.cut_naming.proofs.ReorderedLaws.{same-mask, same-length, cut-kept, s
 use Rattle.cut_naming.proofs.Theorems.{other-accepted, other-mask, other-length}
 use Rattle.cuts.specs.Cut.{cutAnswer, cutLengths, cutCell}
 use Rattle.svd.specs.Svd.{sOf, svdSweeps}
-use Rattle.cut_values.specs.Schmidt.{singularValues, cutSweeps, cutValuesRest, cutValuesTests, valuesReply, cutValuesAnswer}
+use Rattle.finish.specs.Finish.{finishExact}
+use Rattle.cut_values.specs.Schmidt.{singularValues, cutSweeps, columnsExact, cutExact, cutValuesRest, cutValuesTests, valuesReply, cutValuesAnswer}
 use Rattle.far_end.specs.FarEnd.{Opposite, acrossOf}
 
 module _ (n cap : ℕ) (l l' : List ℕ) (far : Opposite n l l') (ok : cutRefusal l n cap .0 ≡ 0) where
@@ -140,6 +142,13 @@ module _ (n cap : ℕ) (l l' : List ℕ) (far : Opposite n l l') (ok : cutRefusa
     unfolding cutSweeps
     same-sweeps s =
         sym (ap₂ (λ (f : ℕ → Complex) (d : ℕ). svdSweeps (cellsOf (2 ^ n) f) (2 ^ d) (2 ^ (n - d))) (same-cells differ s) same-side)
+
+    pub same-exact : (s : List Float) → cutExact s n l ≡ cutExact s n l'
+    unfolding cutExact
+    same-exact s =
+        ap₂ _&&_
+        (sym (ap₂ (λ (f : ℕ → Complex) (d : ℕ). columnsExact (cellsOf (2 ^ n) f) (2 ^ d) (2 ^ (n - d))) (same-cells differ s) same-side))
+        (ap (λ (v : List Float). finishExact v) (same-singular s))
 
     pub values-answer : (s : List Float) (o w : ℕ) → cutValuesAnswer s n l cap o w ≡ cutValuesAnswer s n l' cap o w
     unfolding cutValuesAnswer

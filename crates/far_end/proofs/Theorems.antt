@@ -1,7 +1,7 @@
 -- Two stations name opposite sides of one cut: l, and l' in any order. From the calls' contracts alone. Assumes nothing.
 use mathlib.Core.Path.{_≡_, sym, ap, ap₂, _∙_}
 use mathlib.Core.Logic.{⊎-elim}
-use mathlib.Core.Bool.{true, false}
+use mathlib.Core.Bool.{Bool, true, false}
 use mathlib.Core.List.{List}
 use Prim.Native.Nat.{ℕ, _+_, _-_, _*_, _^_, _≤_, _<_}
 use native.Mathlib.Omega.{arith}
@@ -27,12 +27,12 @@ use Rattle.cut_naming.proofs.Theorems.{other-accepted}
 use Rattle.cuts.specs.Cut.{cutAnswer, cutCell, CutMatrix}
 use Rattle.agreement.proofs.AgreementLaws.{written-same, done-same}
 use Rattle.agreement.proofs.Theorems.{cut-left}
-use Rattle.factored.specs.declared.Counted.{Counted}
 use Rattle.factored.specs.Factored.{keptSweeps}
-use Rattle.factored.proofs.Laws.{counted-one}
+use Rattle.cut_values.specs.declared.CutCounted.{CutCounted}
 use Rattle.cut_values.specs.Schmidt.{cutValuesTests, Schmidt}
+use Rattle.cut_values.proofs.SchmidtLaws.{cut-counted-one}
 use Rattle.far_end.specs.FarEnd.{Opposite, acrossOf}
-use Rattle.far_end.proofs.FarEndLaws.{accepted, same-side, same-cells, across-lt, transposed, matrix-answer, values-tests, same-singular, same-sweeps, values-answer}
+use Rattle.far_end.proofs.FarEndLaws.{accepted, same-side, same-cells, across-lt, transposed, matrix-answer, values-tests, same-singular, same-sweeps, same-exact, values-answer}
 
 -- The cell of row j and column i is across the diagonal from that of row i and column j.
 pub across : (d i j : ℕ) → i < d → acrossOf d (j * d + i) ≡ i * d + j
@@ -94,16 +94,17 @@ module _ (n cap : ℕ) (l l' : List ℕ) (far : Opposite n l l') (ok : cutRefusa
   pub same-tests : (s : List Float) (o w : ℕ) → cutValuesTests s n l cap o w ≡ cutValuesTests s n l' cap o w
   same-tests s o w = values-tests n cap l l' far ok s o w
 
-  -- Sides of different size: `dense_schmidt_values` gives the same answer, count, sweeps and values, and leaves the same scratch.
-  pub same-values : (length l ≡ n - length l → ⊥) → (s o w : List Float) (r r' : Counted) (v v' z z' : List Float)
+  -- Sides of different size: `dense_schmidt_values` gives the same answer, count, sweeps, mark and values, and leaves the same scratch.
+  pub same-values : (length l ≡ n - length l → ⊥) → (s o w : List Float) (r r' : CutCounted) (v v' z z' : List Float)
       → Schmidt s n l cap o w r v z → Schmidt s n l' cap o w r' v' z' → (r ≡ r') × (v ≡ v') × (z ≡ z')
   same-values differ s o w r r' v v' z z' c c' =
       let e : r .answer ≡ r' .answer
       = paper-one (r .answer) (r' .answer) (c .answer ∙ values-answer n cap l l' far ok differ s (length o) (length w) ∙ sym (c' .answer)) in
       let t = same-singular n cap l l' far ok differ s in
       let d = same-side n cap l l' far ok in (
-        counted-one r r' e (c .count ∙ rw (e, t) (sym (c' .count)))
-            (c .sweeps-are ∙ ap₂ keptSweeps e (same-sweeps n cap l l' far ok differ s) ∙ sym (c' .sweeps-are)),
+        cut-counted-one r r' e (c .count ∙ rw (e, t) (sym (c' .count)))
+            (c .sweeps-are ∙ ap₂ keptSweeps e (same-sweeps n cap l l' far ok differ s) ∙ sym (c' .sweeps-are))
+            (c .exact-is ∙ ap₂ (λ (a : Answer) (b : Bool). ifDone (paper a .0) b false) e (same-exact n cap l l' far ok differ s) ∙ sym (c' .exact-is)),
         c .out-is ∙ rw (e, t, ← d) (sym (c' .out-is)),
         c .scratch-is ∙ rw (e, ← d) (sym (c' .scratch-is)),
       )

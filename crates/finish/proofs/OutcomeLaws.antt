@@ -23,8 +23,10 @@ use Rattle.values.proofs.ListLaws.{kept-front, kept-le, length-scaled}
 use Rattle.values.specs.Sort.{sortedDown}
 use Rattle.values.proofs.SortLaws.{length-sort}
 use Rattle.finish.specs.declared.Kept.{Kept}
-use Rattle.finish.specs.Finish.{valueFloor, floorOf, normalised, keptValues, finishSorted, sortedReply, finishOf, finishReply, padded, finishRefusal, finishAnswer}
-use Rattle.finish.specs.Outcome.{SortedOutcome, FinishedOutcome, Outcome}
+use Rattle.finish.specs.declared.Finished.{Finished}
+use Rattle.exact_roots.specs.Exact.{exactRoot}
+use Rattle.finish.specs.Finish.{valueFloor, floorOf, normalised, scaleExact, keptValues, finishSorted, sortedReply, finishOf, finishReply, padded, finishRefusal, finishAnswer}
+use Rattle.finish.specs.Outcome.{SortedOutcome, MarkedOutcome, FinishedOutcome, Outcome}
 
 -- ---- the floor and the scaling
 
@@ -42,6 +44,10 @@ pub scaled-made : (l : List Float) {total root : Float} {ys : List Float} → to
     → ys ≡ scaledBy (div binary64 oneFloat root) l → ys ≡ normalised l
 unfolding normalised
 scaled-made l e f g = rw (← e, ← f) g
+
+pub exact-made : (l : List Float) {total : Float} {b : Bool} → total ≡ squaresFrom minusZero l → b ≡ exactRoot total → b ≡ scaleExact l
+unfolding scaleExact
+exact-made l e f = f ∙ ap exactRoot e
 
 length-finish : (s : List Float) → length (finishSorted s) ≡ length (keptValues s)
 unfolding finishSorted normalised
@@ -94,10 +100,10 @@ module _ (s : List Float) (f : Float) (n : ℕ) (floor : f ≡ floorOf s) (count
   pub within : n ≤ length s
   within = rw count (kept-le f s)
 
-  pub sorted-none : n ≡ 0 → (end : List Float) → end ≡ zeroed (length s) s → SortedOutcome s (record { answer = NoWeight; count = 0 }) end
+  pub sorted-none : n ≡ 0 → (end : List Float) → end ≡ zeroed (length s) s → SortedOutcome s (record { answer = NoWeight; count = 0; exact = false }) end
   sorted-none z end e =
       let r = reply-8 s (sym count-is ∙ z) in
-      record { answer = sym r; count = rw r; values = rw r e }
+      record { answer = sym r; count = rw r; values = rw r e; exact-is = rw r }
 
   module _ (some : n ≡ 0 → ⊥) where
     left : length (keptValues s) ≡ 0 → ⊥
@@ -105,12 +111,12 @@ module _ (s : List Float) (f : Float) (n : ℕ) (floor : f ≡ floorOf s) (count
 
     -- the scaled values are not all finite
     pub sorted-infinite : (b : Bool) → b ≡ allFinite (normalised (take n s)) → b ≡ false → (mid end : List Float) → length mid ≡ length s → end ≡ zeroed (length s) mid
-        → SortedOutcome s (record { answer = NotFinite; count = 0 }) end
+        → SortedOutcome s (record { answer = NotFinite; count = 0; exact = false }) end
     unfolding finishSorted
     sorted-infinite b e z mid end l g =
         let r = reply-9 s left (rw front-is at (sym e ∙ z)) in
         let w : zeroed (length s) mid ≡ zeroed (length s) s = zeroed-whole (length s) mid (omega arith) ∙ sym (zeroed-whole (length s) s (omega arith)) in
-        record { answer = sym r; count = rw r; values = rw r (g ∙ w) }
+        record { answer = sym r; count = rw r; values = rw r (g ∙ w); exact-is = rw r }
 
     module _ (mid ys : List Float) (scales : mid ≡ normalised (take n s) ++ drop n s) where
       front : mid ≡ finishSorted s ++ drop n s
@@ -137,11 +143,12 @@ module _ (s : List Float) (f : Float) (n : ℕ) (floor : f ≡ floorOf s) (count
 
       pub sorted-done : (b : Bool) → b ≡ allFinite (normalised (take n s)) → b ≡ true
           → ys ≡ zeroed (length s - n) (take (length mid - n) (drop n mid))
-          → SortedOutcome s (record { answer = Done; count = n }) (putMid n (length mid - n) mid ys)
+          → (x : Bool) → x ≡ scaleExact (take n s)
+          → SortedOutcome s (record { answer = Done; count = n; exact = x }) (putMid n (length mid - n) mid ys)
       unfolding finishSorted
-      sorted-done b e z g =
+      sorted-done b e z g x h =
           let r = reply-0 s left (rw front-is at (sym e ∙ z)) in
-          record { answer = sym r; count = rw r (sym length-front'); values = rw r (put g) }
+          record { answer = sym r; count = rw r (sym length-front'); values = rw r (put g); exact-is = rw r (h ∙ ap scaleExact front-is) }
 
 -- ---- values that need no check
 
@@ -163,16 +170,26 @@ longer : (n : ℕ) (s old e : List Float) (x : ℕ) (l : List Float) → length 
 longer n s old e x l h i = rw (← h, i, ifDone-append, padded-longer, zeroed-longer)
 
 -- the values were sorted into the front of the output, and finished there
-pub finished-made : (values old s e : List Float) (r : Kept) → s ≡ sortedDown values
+pub finished-made : (values old s e : List Float) (r : Finished) → s ≡ sortedDown values
     → SortedOutcome (take (length values) (s ++ drop (length values) old)) r e
-    → FinishedOutcome values old r (e ++ drop (length values) (s ++ drop (length values) old))
+    → MarkedOutcome values old r (e ++ drop (length values) (s ++ drop (length values) old))
 finished-made values old s e r i o =
     let n = length values in
     let l : length s ≡ n = rw i (length-sort values n) in
     let t : take n (s ++ drop n old) ≡ s = take-at s (drop n old) n l in
     let u : drop n (s ++ drop n old) ≡ drop n old = drop-at s (drop n old) n l in
     let p : SortedOutcome (sortedDown values) r e = rw (t, i) at o in
-    record { answer = p .answer; count = p .count; out = rw u (longer n (sortedDown values) old e (finishReply values .0) (finishOf values) (length-sort values n) (p .values)) }
+    record {
+      answer = p .answer;
+      count = p .count;
+      out = rw u (longer n (sortedDown values) old e (finishReply values .0) (finishOf values) (length-sort values n) (p .values));
+      exact-is = p .exact-is;
+    }
+
+-- the mark dropped
+pub unmarked : (values old end : List Float) (r : Finished) → MarkedOutcome values old r end
+    → FinishedOutcome values old (record { answer = r .answer; count = r .count }) end
+unmarked values old end r o = record { answer = o .answer; count = o .count; out = o .out }
 
 -- ---- the entry point
 

@@ -1,6 +1,6 @@
 -- The finish of Schmidt values as 01 has it: sort downward, floor = first times 1e-14, cut at the first value at or below the floor,
 -- sum the squares in order, multiply each by 1/√total. Definitions only.
-use mathlib.Core.Bool.{not}
+use mathlib.Core.Bool.{Bool, not}
 use mathlib.Core.List.{List, [], _∷_, _++_}
 use Prim.Native.Nat.{ℕ, _-_}
 use lib.Dec.{eqb, ltb}
@@ -10,6 +10,7 @@ use Rattle.answers.specs.Paper.{Reply, done, refuse, andThen}
 use Rattle.numbers.specs.Numbers.{oneFloat}
 use Rattle.numbers.specs.Root.{sqrtOf}
 use Rattle.complex.specs.Zeros.{zeroFloat, zeros}
+use Rattle.exact_roots.specs.Exact.{exactRoot}
 use Rattle.values.specs.Lists.{valuesAllowed, allFinite, keptAbove, squaresFrom, scaledBy, minusZero}
 use Rattle.values.specs.Sort.{sortedDown}
 
@@ -26,6 +27,10 @@ floorOf (x ∷ l) = mul binary64 x valueFloor
 unfoldable pub normalised : List Float → List Float
 normalised l = scaledBy (div binary64 oneFloat (sqrtOf (squaresFrom minusZero l))) l
 
+-- whether that root is exact
+unfoldable pub scaleExact : List Float → Bool
+scaleExact l = exactRoot (squaresFrom minusZero l)
+
 -- what is left of values that are sorted downward
 unfoldable pub keptValues : List Float → List Float
 keptValues s = keptAbove (floorOf s) s
@@ -36,6 +41,10 @@ finishSorted s = normalised (keptValues s)
 -- the Schmidt values of a list of values
 abbrev pub finishOf : List Float → List Float
 finishOf values = finishSorted (sortedDown values)
+
+-- whether the root of the final scale of a list of values is exact
+abbrev pub finishExact : List Float → Bool
+finishExact values = scaleExact (keptValues (sortedDown values))
 
 -- 8 where none is left, 9 where a result is not finite
 unfoldable pub sortedReply : List Float → Reply

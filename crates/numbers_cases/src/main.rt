@@ -1,6 +1,6 @@
 // Replays cases of the number helpers and of the complex record. Standard input is a text of hexadecimal
 // words: a case's kind and then its bit patterns. Each case writes one line of words.
-//   1 x            sqrt_bits of the pattern, then the bits of sqrt of the float
+//   1 x            sqrt_bits of the pattern, then of sqrt_marked of the float the bits of the root and its mark (0 or 1)
 //   2 x            magnitude, sign, finite (0 or 1), allowed (0 or 1)
 //   3 x y          the number of the total order of x and y
 //   4 a b (4 words)  product, sum, difference of a and b; negation, conjugate, norm_sqr and modulus of a;
@@ -23,7 +23,9 @@ fn print_yes(b: bool) {
 fn roots(text: &[u8], at: usize) -> usize {
     let word = replay::next_word(text, at);
     replay::print_word(numbers::sqrt_bits(word.value));
-    replay::print_word(bits::bits_of(numbers::sqrt(replay::float_of(word.value))));
+    let marked = exact_roots::sqrt_marked(replay::float_of(word.value));
+    replay::print_word(bits::bits_of(marked.root));
+    print_yes(marked.exact);
     word.next
 }
 

@@ -1,18 +1,24 @@
 // Replays the published Rust's answers of the cut values. Standard input is a text of hexadecimal words: a case's kind and then the
 // arguments of the call in order. A slice that is read is its length and its words; a slice that is lent is its length alone and
 // holds 3.0 everywhere. Each case writes one line of words: the answer's number and place, the count, the sweeps begun, 1 where
-// the last was quiet and else 0, the pairs turned, and the lent slices as they stand afterwards.
+// the last was quiet and else 0, the pairs turned, 1 where every root came out even and else 0, and the lent slices as they stand
+// afterwards.
 //   1 state n list cap out scratch    dense_schmidt_values
 use sweeps::Sweeps;
 
-// Writes how the sweeps went: those begun, 1 where the last one was quiet, and the pairs turned.
-fn print_sweeps(s: Sweeps) {
-    replay::print_word(replay::word_of(s.begun));
-    if s.quiet {
+// Writes 1 for yes and 0 for no.
+fn print_yes(yes: bool) {
+    if yes {
         replay::print_word(1);
     } else {
         replay::print_word(0);
     }
+}
+
+// Writes how the sweeps went: those begun, 1 where the last one was quiet, and the pairs turned.
+fn print_sweeps(s: Sweeps) {
+    replay::print_word(replay::word_of(s.begun));
+    print_yes(s.quiet);
     replay::print_word(replay::word_of(s.turned));
 }
 
@@ -30,6 +36,7 @@ fn values(
     replay::print_answer(answer);
     replay::print_word(replay::word_of(r.count));
     print_sweeps(sweeps);
+    print_yes(r.exact);
     replay::print_floats(out);
     replay::print_floats(scratch);
 }

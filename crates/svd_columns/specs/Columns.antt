@@ -13,6 +13,7 @@ use Rattle.complex.specs.Cells.{cellsOf}
 use Rattle.complex.specs.Planes.{planeAt}
 use Rattle.complex.specs.Zeros.{zeroFloat}
 use Rattle.svd_load.specs.Numbers.{numbersOf}
+use Rattle.exact_roots.specs.Exact.{allExact}
 use Rattle.numbers.specs.Numbers.{oneFloat}
 
 -- the squares of the first k cells from the cell `at` on, summed in order from +0.0
@@ -23,6 +24,10 @@ squaresTo work c at (suc k) = Ieee.add binary64 (squaresTo work c at k) (normSqr
 -- the norm of each of `side` columns of `rows` cells
 unfoldable pub normsOf : List Float → ℕ → ℕ → List Float
 normsOf work rows side = numbersOf side (λ j. sqrtOf (squaresTo work (side * rows) (j * rows) rows))
+
+-- whether the root of each of these norms is exact
+unfoldable pub normsExact : List Float → ℕ → ℕ → Bool
+normsExact work rows side = allExact side (λ j. squaresTo work (side * rows) (j * rows) rows)
 
 -- a norm at or below this leaves its column zero. The paper does not give the value: it stands in, and only that it is positive is used
 unfoldable pub normClampMin : Float

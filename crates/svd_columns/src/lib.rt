@@ -7,7 +7,7 @@ ghost use lib.ListN.{length};
 ghost use Rattle.complex.specs.Cells.{written};
 ghost use Rattle.complex.specs.Planes.{planeAt};
 ghost use Rattle.stable_order.specs.Places.{placesIn, Places};
-ghost use Rattle.svd_columns.specs.Columns.{squaresTo, normsOf, normClampMin, unitLength, directionOf, directionsOf, vCell, vColumnsOf, sortedOf};
+ghost use Rattle.svd_columns.specs.Columns.{squaresTo, normsOf, normsExact, normClampMin, unitLength, directionOf, directionsOf, vCell, vColumnsOf, sortedOf};
 
 // The sum of the squares of a column's cells, from the cell `at` on, row after row from +0.0.
 fn squares(work: &[f64], c: usize, at: usize, rows: usize) -> f64
@@ -30,6 +30,21 @@ pub fn norms(work: &[f64], rows: usize, side: usize, s: &mut [f64])
     for j in 0..side {
         s[j] = numbers::sqrt(squares(work, c, j * rows, rows));
     }
+}
+
+// The norm of each column of the work matrix, and whether every root among them came out even.
+pub fn norms_marked(work: &[f64], rows: usize, side: usize, s: &mut [f64]) -> bool
+    requires { ⌜ (side * rows ≤ 4096) × (length (now work) ≡ 2 * (side * rows)) × (length (now s) ≡ side) ⌝ }
+    ensures { λ r. ⌜ (now (s .exit) ≡ normsOf (now (work .entry)) rows side) × (r ≡ normsExact (now (work .entry)) rows side) ⌝ }
+{
+    let c = side * rows;
+    let mut exact = true;
+    for j in 0..side {
+        let one = exact_roots::sqrt_marked(squares(work, c, j * rows, rows));
+        s[j] = one.root;
+        exact = exact & one.exact;
+    }
+    exact
 }
 
 // The one place that names the least norm whose column is scaled.

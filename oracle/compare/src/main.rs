@@ -1,11 +1,11 @@
 //! The port against the published Rust: the same calls to both, every answer, place, value, count of sweeps with whether the
-//! last was quiet, count of turned pairs, and lent cell compared.
+//! last was quiet, count of turned pairs, mark of even roots, and lent cell compared.
 //!
 //!     compare SEED COUNT         every small shape, then COUNT drawn calls of each entry point, 40 times as many moduli
 //!     compare replay FILE        the calls of FILE, one to a line, as a mismatch prints them
 //!
 //! It ends with status 1 on a mismatch and where the library lacks an entry point. The last lines have the count of calls that
-//! gave up, which is those whose last sweep still turned a pair, the count of all calls and the seed.
+//! gave up, which is those whose last sweep still turned a pair, of those whose roots all came out even, of all calls, and the seed.
 
 use std::collections::BTreeMap;
 use std::process::exit;
@@ -28,6 +28,7 @@ struct Tally {
     wrong: usize,
     answers: BTreeMap<(Entry, u32), usize>,
     gave_up: BTreeMap<Entry, usize>,
+    even: BTreeMap<Entry, usize>,
 }
 
 impl Tally {
@@ -37,6 +38,9 @@ impl Tally {
         self.calls += 1;
         if theirs.gave_up() {
             *self.gave_up.entry(call.entry).or_insert(0) += 1;
+        }
+        if theirs.exact == Some(true) {
+            *self.even.entry(call.entry).or_insert(0) += 1;
         }
         *self.answers.entry((call.entry, theirs.number)).or_insert(0) += 1;
         if ours.as_ref() == Some(&theirs) {
@@ -60,8 +64,10 @@ impl Tally {
         for (entry, answers) in by_entry {
             println!("{:<28} {answers}", entry.name());
         }
-        let each: Vec<String> = self.gave_up.iter().map(|(entry, count)| format!("{} {count}", entry.name())).collect();
-        println!("gave up: {} calls; {}", self.gave_up.values().sum::<usize>(), each.join(", "));
+        for (what, counts) in [("gave up", &self.gave_up), ("all roots even", &self.even)] {
+            let each: Vec<String> = counts.iter().map(|(entry, count)| format!("{} {count}", entry.name())).collect();
+            println!("{what}: {} calls; {}", counts.values().sum::<usize>(), each.join(", "));
+        }
     }
 }
 
@@ -73,7 +79,8 @@ fn missing() -> Vec<String> {
 fn show(ours: &Outcome, theirs: &Outcome) {
     let head = |outcome: &Outcome| {
         let sweeps = outcome.sweeps.map_or(String::new(), |s| format!(" sweeps {} quiet {} turned {}", s.begun, s.quiet, s.turned));
-        format!("answer {} place {} value {:X}{sweeps}", outcome.number, outcome.place, outcome.value)
+        let exact = outcome.exact.map_or(String::new(), |exact| format!(" exact {exact}"));
+        format!("answer {} place {} value {:X}{sweeps}{exact}", outcome.number, outcome.place, outcome.value)
     };
     println!("  port {}; oracle {}", head(ours), head(theirs));
     for (slice, (a, b)) in ours.slices.iter().zip(&theirs.slices).enumerate() {

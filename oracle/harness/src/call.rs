@@ -42,6 +42,7 @@ entries! {
     fill_scaled_vt_data,
     sqrt,
     sqrt_bits,
+    sqrt_marked,
     magnitude,
     sign,
     is_finite,
@@ -93,7 +94,7 @@ impl Entry {
             fill_scaled_u_site_data => &[Floats, Floats, Word, Word, Word, MutFloats],
             fill_vt_site_data => &[Floats, Word, Word, Word, Word, MutFloats],
             fill_scaled_vt_data => &[Floats, Floats, Word, Word, Word, Word, MutFloats],
-            sqrt | magnitude | sign | is_finite | component_allowed => &[Float],
+            sqrt | sqrt_marked | magnitude | sign | is_finite | component_allowed => &[Float],
             sqrt_bits => &[Word],
             total_less | total_order | modulus => &[Float, Float],
         }
@@ -128,6 +129,13 @@ impl Entry {
             self,
             svd_jacobi | hermitian_eigenvalues | schmidt_values_from_density | hermitian_eigen | dense_schmidt_values
         )
+    }
+}
+
+impl Entry {
+    /// Whether a call says if its roots came out even.
+    pub fn marks(self) -> bool {
+        matches!(self, dense_schmidt_values | sqrt_marked)
     }
 }
 
@@ -237,13 +245,14 @@ impl Call {
 }
 
 /// What a call leaves: its answer, the number that it hands back, its sweeps where it has them and the build counts them,
-/// and every slice as it stands afterwards.
+/// whether its roots came out even where it says so and the build counts, and every slice as it stands afterwards.
 #[derive(Clone, Debug, PartialEq, Eq)]
 pub struct Outcome {
     pub number: u32,
     pub place: u64,
     pub value: u64,
     pub sweeps: Option<Sweeps>,
+    pub exact: Option<bool>,
     pub slices: Vec<Vec<u64>>,
 }
 

@@ -597,6 +597,13 @@ pub fn accepted(rng: &mut Random, entry: Entry, bounds: Bounds) -> Call {
         sqrt | magnitude | sign | is_finite | component_allowed | sqrt_bits => {
             Call::new(entry, vec![Arg::One(any_bits(rng))])
         }
+        sqrt_marked => {
+            // A quarter are squares of up to 27 digits times a power of four, or their neighbours.
+            let near = (rng.below(1 << 27) as f64).powi(2).to_bits().wrapping_add(rng.below(3) as u64).wrapping_sub(1);
+            let power = (rng.below(1000) as u64) << 53;
+            let word = if rng.chance(4) { near.wrapping_add(power) & !(1 << 63) } else { any_bits(rng) };
+            Call::new(entry, vec![Arg::One(word)])
+        }
         total_less | total_order => {
             let a = any_bits(rng);
             let b = if rng.chance(3) { a.wrapping_add(rng.below(3) as u64).wrapping_sub(1) } else { any_bits(rng) };

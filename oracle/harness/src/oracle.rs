@@ -63,7 +63,8 @@ macro_rules! build {
                     fill_isometry_site_data | fill_scaled_u_site_data | fill_vt_site_data | fill_scaled_vt_data => {
                         fills(call)
                     }
-                    sqrt | sqrt_bits | magnitude | sign | is_finite | component_allowed | total_less | total_order => {
+                    sqrt | sqrt_bits | sqrt_marked | magnitude | sign | is_finite | component_allowed | total_less
+                    | total_order => {
                         done(number_helper(call), vec![])
                     }
                     modulus => done(one_nan(svd::norm(Complex64::new(call.float(0), call.float(1)))), vec![]),
@@ -190,7 +191,7 @@ fn done(value: u64, written: Vec<Vec<u64>>) -> Result {
 fn number_helper(call: &Call) -> u64 {
     let x = call.float(0);
     match call.entry {
-        sqrt | sqrt_bits => one_nan(x.sqrt()),
+        sqrt | sqrt_bits | sqrt_marked => one_nan(x.sqrt()),
         magnitude => one_nan(x.abs()),
         sign => one_nan(x.signum()),
         is_finite => u64::from(x.is_finite()),
@@ -246,9 +247,10 @@ fn writes_floats(call: &Call) -> bool {
 pub fn outcome(call: &Call, build: Build) -> Outcome {
     let counts = build == Build::Counting && call.entry.sweeps();
     let none = counts.then(Sweeps::default);
+    let marks = build == Build::Counting && call.entry.marks();
     let mut slices: Vec<Vec<u64>> = call.slices().iter().map(|&at| call.many(at).to_vec()).collect();
     if let Some((number, place)) = table::refusal(call) {
-        return Outcome { number, place, value: 0, sweeps: none, slices };
+        return Outcome { number, place, value: 0, sweeps: none, exact: marks.then_some(false), slices };
     }
     counting::count::taken();
     let ran = catch_unwind(AssertUnwindSafe(|| match build {
@@ -290,5 +292,9 @@ pub fn outcome(call: &Call, build: Build) -> Outcome {
     };
     let swept = Sweeps { begun: count.sweeps as u64, quiet: count.turns_of_last == 0, turned: count.turns as u64 };
     let sweeps = if number == 0 { counts.then_some(swept) } else { none };
-    Outcome { number, place: 0, value, sweeps, slices }
+    let even = match call.entry {
+        sqrt_marked => counting::count::even(call.float(0), call.float(0).sqrt()),
+        _ => number == 0 && count.uneven == 0,
+    };
+    Outcome { number, place: 0, value, sweeps, exact: marks.then_some(even), slices }
 }

@@ -58,7 +58,8 @@ pub fn asked(kind: &str, call: &Call) -> String {
 }
 
 /// What the case prints: number, place, the number handed back where there is one, the sweeps, whether the last was quiet
-/// (1 or 0) and the turned pairs where the call sweeps, and each lent slice whole.
+/// (1 or 0) and the turned pairs where the call sweeps, whether its roots came out even (1 or 0) where it says so, and each lent
+/// slice whole.
 pub fn printed(kind: &str, call: &Call) -> String {
     if kind == "sites_cases" {
         return sites_sample::printed(call);
@@ -71,6 +72,7 @@ pub fn printed(kind: &str, call: &Call) -> String {
     if let Some(sweeps) = outcome.sweeps {
         words.extend([sweeps.begun, u64::from(sweeps.quiet), sweeps.turned]);
     }
+    words.extend(outcome.exact.map(u64::from));
     for (slice, at) in call.slices().into_iter().enumerate() {
         if matches!(call.entry.kinds()[at], Kind::MutFloats | Kind::MutWords) {
             words.extend_from_slice(&outcome.slices[slice]);

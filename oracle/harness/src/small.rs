@@ -314,7 +314,7 @@ fn on_numbers(entry: Entry, see: &mut impl FnMut(Call)) {
     if entry == modulus {
         pairs_at_edges(see);
     }
-    if matches!(entry, sqrt | sqrt_bits) {
+    if matches!(entry, sqrt | sqrt_bits | sqrt_marked) {
         // Squares and their neighbours, where a root is exact or just not.
         for x in 1..=2000u64 {
             let square = ((x * x) as f64).to_bits();
@@ -374,7 +374,8 @@ pub fn each(entry: Entry, see: &mut impl FnMut(Call)) {
         | fill_scaled_u_site_data
         | fill_vt_site_data
         | fill_scaled_vt_data => on_bonds(rng, entry, see),
-        sqrt | sqrt_bits | magnitude | sign | is_finite | component_allowed | total_less | total_order | modulus => {
+        sqrt | sqrt_bits | sqrt_marked | magnitude | sign | is_finite | component_allowed | total_less | total_order
+        | modulus => {
             on_numbers(entry, see)
         }
     }

@@ -97,6 +97,7 @@ fn sizes_allowed(call: &Call) -> bool {
         | discards_resolvable_weight
         | sqrt
         | sqrt_bits
+        | sqrt_marked
         | magnitude
         | sign
         | is_finite
@@ -153,7 +154,8 @@ pub fn roles(call: &Call) -> Vec<Role> {
             vec![Free]
         }
         cut_rank | widest_block_cut => vec![],
-        sqrt | sqrt_bits | magnitude | sign | is_finite | component_allowed | total_less | total_order | modulus => {
+        sqrt | sqrt_bits | sqrt_marked | magnitude | sign | is_finite | component_allowed | total_less | total_order
+        | modulus => {
             vec![]
         }
         _ => list_roles(call),

@@ -227,7 +227,7 @@ fn whole_states_that_never_grow_quiet() {
     assert_eq!((gave_up.len(), gave_up.iter().map(|code| code.count_ones()).min(), gave_up[0]), (16384, Some(4), 275));
 }
 
-/// The counted build has the bits of the one that is not, and the sweeps of a refused call are 0 and no.
+/// The counted build has the bits of the one that is not; the sweeps of a refused call are 0 and no, and so is its mark.
 #[test]
 fn counting_changes_no_bit() {
     use harness::call::{ENTRIES, Sweeps};
@@ -238,9 +238,10 @@ fn counting_changes_no_bit() {
         for _ in 0..if entry.sweeps() { 2000 } else { 20 } {
             let call = cases::any(rng, entry, Bounds { qubits: 5, side: 6 });
             let [plain, mut counted] = [Build::Replaced, Build::Counting].map(|build| outcome(&call, build));
-            let sweeps = counted.sweeps.take();
+            let (sweeps, exact) = (counted.sweeps.take(), counted.exact.take());
             assert_eq!(plain, counted, "{}", call.line());
-            assert_eq!(sweeps.is_some(), entry.sweeps());
+            assert_eq!((sweeps.is_some(), exact.is_some()), (entry.sweeps(), entry.marks()));
+            assert!(plain.number == 0 || exact != Some(true), "{}", call.line());
             if let Some(sweeps) = sweeps {
                 let cap = if matches!(entry.name().as_str(), "hermitian_eigenvalues" | "schmidt_values_from_density") {
                     60
@@ -253,7 +254,7 @@ fn counting_changes_no_bit() {
                         "{}",
                         call.line()
                     ),
-                    _ => assert_eq!(sweeps, Sweeps { begun: 0, quiet: false }, "{}", call.line()),
+                    _ => assert_eq!(sweeps, Sweeps::default(), "{}", call.line()),
                 }
             }
         }

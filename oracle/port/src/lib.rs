@@ -16,7 +16,7 @@ unsafe extern "C" {
     pub fn zg_traced_base(e: usize, list: *const usize, list_len: usize, n: usize, cap: usize, place: *mut usize, base: *mut usize) -> u32;
     pub fn zg_smaller_side(list: *const usize, list_len: usize, n: usize, cap: usize, others: *mut usize, others_len: usize, place: *mut usize) -> u32;
     pub fn zg_cut_matrix(state: *const f64, state_len: usize, n: usize, list: *const usize, list_len: usize, cap: usize, out: *mut f64, out_len: usize, place: *mut usize) -> u32;
-    pub fn zg_dense_schmidt_values(state: *const f64, state_len: usize, n: usize, list: *const usize, list_len: usize, cap: usize, out: *mut f64, out_len: usize, scratch: *mut f64, scratch_len: usize, place: *mut usize, count: *mut usize, sweeps: *mut usize, quiet: *mut bool, turned: *mut usize) -> u32;
+    pub fn zg_dense_schmidt_values(state: *const f64, state_len: usize, n: usize, list: *const usize, list_len: usize, cap: usize, out: *mut f64, out_len: usize, scratch: *mut f64, scratch_len: usize, place: *mut usize, count: *mut usize, sweeps: *mut usize, quiet: *mut bool, turned: *mut usize, exact: *mut bool) -> u32;
     pub fn zg_dense_reduced_density(state: *const f64, state_len: usize, n: usize, list: *const usize, list_len: usize, cap: usize, out: *mut f64, out_len: usize, scratch: *mut f64, scratch_len: usize, place: *mut usize) -> u32;
     pub fn zg_mirror_lower_triangle(rho: *mut f64, rho_len: usize, dim: usize, place: *mut usize) -> u32;
     pub fn zg_normalize_trace(rho: *mut f64, rho_len: usize, dim: usize, place: *mut usize) -> u32;
@@ -37,6 +37,7 @@ unsafe extern "C" {
     pub fn zg_fill_scaled_vt_data(s: *const f64, s_len: usize, vt: *const f64, vt_len: usize, row_len: usize, chi: usize, physical_dim: usize, bond_right: usize, out: *mut f64, out_len: usize, place: *mut usize) -> u32;
     pub fn zg_sqrt(x: f64) -> f64;
     pub fn zg_sqrt_bits(b: u64) -> u64;
+    pub fn zg_sqrt_marked(x: f64, exact: *mut bool) -> f64;
     pub fn zg_magnitude(x: f64) -> f64;
     pub fn zg_sign(x: f64) -> f64;
     pub fn zg_is_finite(x: f64) -> bool;
@@ -56,6 +57,8 @@ pub struct Ready<'a> {
     /// 0 or 1 once a call has said it.
     quiet: u8,
     turned: usize,
+    /// 0 or 1 once a call has said it.
+    exact: u8,
 }
 
 #[allow(dead_code)]
@@ -63,7 +66,7 @@ impl<'a> Ready<'a> {
     pub fn new(call: &'a Call) -> Ready<'a> {
         let fenced = |slice: &[u64]| [&[GUARD; GUARDS], slice, &[GUARD; GUARDS]].concat();
         let words = call.slices().iter().map(|&at| fenced(call.many(at))).collect();
-        Ready { call, words, place: usize::MAX, value: u64::MAX, sweeps: usize::MAX, quiet: 2, turned: usize::MAX }
+        Ready { call, words, place: usize::MAX, value: u64::MAX, sweeps: usize::MAX, quiet: 2, turned: usize::MAX, exact: 2 }
     }
 
     fn pointer(&mut self, slice: usize) -> *mut u64 {
@@ -76,7 +79,7 @@ impl<'a> Ready<'a> {
 
     /// What the call left, or none where a guard word was written or a yes or no was not.
     pub fn outcome(self, number: u32) -> Option<Outcome> {
-        if self.call.entry.sweeps() && self.quiet > 1 {
+        if self.call.entry.sweeps() && self.quiet > 1 || self.call.entry.marks() && self.exact > 1 {
             return None;
         }
         let mut slices = vec![];
@@ -91,7 +94,8 @@ impl<'a> Ready<'a> {
         let value = if self.call.entry.returns() { self.value } else { 0 };
         let said = Sweeps { begun: self.sweeps as u64, quiet: self.quiet == 1, turned: self.turned as u64 };
         let sweeps = self.call.entry.sweeps().then_some(said);
-        Some(Outcome { number, place: self.place as u64, value, sweeps, slices })
+        let exact = self.call.entry.marks().then_some(self.exact == 1);
+        Some(Outcome { number, place: self.place as u64, value, sweeps, exact, slices })
     }
 }
 
@@ -146,6 +150,7 @@ impl Ready<'_> {
         let p = &raw mut self.place;
         let v = &raw mut self.value;
         let (s, q, t) = (&raw mut self.sweeps, (&raw mut self.quiet).cast::<bool>(), &raw mut self.turned);
+        let e = (&raw mut self.exact).cast::<bool>();
         // A slice's pointer to floats, its pointer to whole numbers, its length.
         macro_rules! f { ($slice:literal) => { self.pointer($slice).cast::<f64>() } }
         macro_rules! w { ($slice:literal) => { self.pointer($slice).cast::<usize>() } }
@@ -158,7 +163,7 @@ impl Ready<'_> {
             smaller_side => ask!(has_zg_smaller_side, zg_smaller_side(w!(0), l!(0), one(1), one(2), w!(1), l!(1), p)),
             cut_matrix => ask!(has_zg_cut_matrix, zg_cut_matrix(f!(0), l!(0), one(1), w!(1), l!(1), one(3), f!(2), l!(2), p)),
             dense_schmidt_values => ask!(has_zg_dense_schmidt_values,
-                zg_dense_schmidt_values(f!(0), l!(0), one(1), w!(1), l!(1), one(3), f!(2), l!(2), f!(3), l!(3), p, v.cast(), s, q, t)),
+                zg_dense_schmidt_values(f!(0), l!(0), one(1), w!(1), l!(1), one(3), f!(2), l!(2), f!(3), l!(3), p, v.cast(), s, q, t, e)),
             dense_reduced_density => ask!(has_zg_dense_reduced_density,
                 zg_dense_reduced_density(f!(0), l!(0), one(1), w!(1), l!(1), one(3), f!(2), l!(2), f!(3), l!(3), p)),
             mirror_lower_triangle => ask!(has_zg_mirror_lower_triangle, zg_mirror_lower_triangle(f!(0), l!(0), one(1), p)),
@@ -197,6 +202,7 @@ impl Ready<'_> {
                 zg_fill_scaled_vt_data(f!(0), l!(0), f!(1), l!(1), one(2), one(3), one(4), one(5), f!(2), l!(2), p)),
             sqrt => ask!(has_zg_sqrt, { self.value = zg_sqrt(call.float(0)).to_bits(); never(p) }),
             sqrt_bits => ask!(has_zg_sqrt_bits, { self.value = zg_sqrt_bits(one(0) as u64); never(p) }),
+            sqrt_marked => ask!(has_zg_sqrt_marked, { self.value = zg_sqrt_marked(call.float(0), e).to_bits(); never(p) }),
             magnitude => ask!(has_zg_magnitude, { self.value = one_nan(zg_magnitude(call.float(0))); never(p) }),
             sign => ask!(has_zg_sign, { self.value = one_nan(zg_sign(call.float(0))); never(p) }),
             is_finite => ask!(has_zg_is_finite, { self.value = u64::from(zg_is_finite(call.float(0))); never(p) }),

@@ -39,14 +39,14 @@ cut-refusal-requires c κs = search needs
 enum-told : tie.Need-enum-told
 enum-told c = search needs
 
-refused-count-requires : tie.Need-refused-count-requires
-refused-count-requires c κs = search needs
+refused-requires : tie.Need-refused-requires
+refused-requires c κs = search needs
 
 returns : tie.Need-returns
 unfolding cutValuesTests
 returns c =
     let r = c .before .before .cut-refusal .result in
-    schmidt-refused _ _ _ _ _ _ r _ (c .refused-count .ensures) (refused r _ _ (c .before .before .cut-refusal .ensures) (c .before .match .keys2)) (stopped-number r (c .before .match .keys2))
+    schmidt-refused _ _ _ _ _ _ r _ (c .refused .ensures) (refused r _ _ (c .before .before .cut-refusal .ensures) (c .before .match .keys2)) (stopped-number r (c .before .match .keys2))
 
 sides-of-requires : tie.Need-sides-of-requires
 sides-of-requires c κs = parted c
@@ -57,14 +57,14 @@ check-requires c κs = (parted (c .before) .listed .small, few c)
 enum-told-2 : tie.Need-enum-told-2
 enum-told-2 c = search needs
 
-refused-count-requires-2 : tie.Need-refused-count-requires-2
-refused-count-requires-2 c κs = search needs
+refused-requires-2 : tie.Need-refused-requires-2
+refused-requires-2 c κs = search needs
 
 returns-2 : tie.Need-returns-2
 returns-2 c =
     let r = c .before .before .check .result in
     let a = c .before .before .before .before .before .before .before .before .before .before .before .args in
-    schmidt-refused _ _ _ _ _ _ r _ (c .refused-count2 .ensures) (c .before .before .check .ensures ∙ tests-rest _ _ _ _ (now (a .out)) (now (a .scratch)) _ (c .before .before .before .sides-of .ensures) (cut-passed (c .before .before .before .before))) (stopped-number r (c .before .match2 .keys2))
+    schmidt-refused _ _ _ _ _ _ r _ (c .refused2 .ensures) (c .before .before .check .ensures ∙ tests-rest _ _ _ _ (now (a .out)) (now (a .scratch)) _ (c .before .before .before .sides-of .ensures) (cut-passed (c .before .before .before .before))) (stopped-number r (c .before .match2 .keys2))
 
 bit-requires : tie.Need-bit-requires
 bit-requires c κs = omega (arith, parted (c .before .before .before .before) .listed .small)
@@ -106,12 +106,12 @@ dense-schmidt-values-spec =
     (tie.spec
     cut-refusal-requires
     enum-told
-    refused-count-requires
+    refused-requires
     returns
     sides-of-requires
     check-requires
     enum-told-2
-    refused-count-requires-2
+    refused-requires-2
     returns-2
     bit-requires
     mul-need

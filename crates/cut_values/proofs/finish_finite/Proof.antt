@@ -7,14 +7,14 @@ use Rattle.cut_values.proofs.finish_finite.Tie as tie
 all-finite-requires : tie.Need-all-finite-requires
 all-finite-requires c κs = search needs
 
-finish-values-requires : tie.Need-finish-values-requires
-finish-values-requires c κs = c .before .before .before .before .before .pre
+finish-marked-requires : tie.Need-finish-marked-requires
+finish-marked-requires c κs = c .before .before .before .before .before .pre
 
 same-length : tie.Need-same-length
 same-length c = search needs
 
 returns : tie.Need-returns
-returns c = finished-good _ _ _ (c .before .before .before .before .before .all-finite .ensures) (c .before .before .finish-values .result) _ (c .before .before .before .before .if1 .taken) (c .before .before .finish-values .ensures)
+returns c = finished-good _ _ _ (c .before .before .before .before .before .all-finite .ensures) (c .before .before .finish-marked .result) _ (c .before .before .before .before .if1 .taken) (c .before .before .finish-marked .ensures)
 
 zero-first-requires : tie.Need-zero-first-requires
 zero-first-requires c κs = search needs
@@ -30,7 +30,7 @@ finish-finite-spec =
     tie.close
     (tie.spec
     all-finite-requires
-    finish-values-requires
+    finish-marked-requires
     same-length
     returns
     zero-first-requires

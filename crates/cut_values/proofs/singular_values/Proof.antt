@@ -67,7 +67,7 @@ returns : tie.Need-returns
 returns c =
     let p = c .before .before .before .before .before .before .before .before .before .before .before .before .before .before .before .before .before .before .pre in
     let t = c .before .before .before .before .before .before .before .before .before .before .before .sweep in
-    (values-made _ _ _ (p .0) (take-at _ _ _ (t .kept .1 .1 .1 .1 .0 ∙ length-take-le _ _ (p .0 .few)) ∙ t .ensures .0) (c .before .before .before .before .sort .ensures .1), t .ensures .1)
+    (values-made _ _ _ (p .0) (take-at _ _ _ (t .kept .1 .1 .1 .1 .0 ∙ length-take-le _ _ (p .0 .few)) ∙ t .ensures .0) (c .before .before .before .before .sort .ensures .1), t .ensures .1, t .ensures .2)
 
 pub singular-values-spec : {M : Type 1} → statement M
 singular-values-spec =

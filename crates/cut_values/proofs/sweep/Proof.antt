@@ -1,7 +1,7 @@
 -- `cut_values::sweep` meets its contract: the planes, the sweeps on them, the norms. Assumes nothing.
 use native.Mathlib.Omega.{arith}
 use Rattle.qubits.proofs.NamedLaws.{pow-small}
-use Rattle.cut_values.proofs.SchmidtLaws.{sized-ready, all-cells, norms-made, sweeps-made}
+use Rattle.cut_values.proofs.SchmidtLaws.{sized-ready, all-cells, norms-made, sweeps-made, marks-made}
 use borrow.Author.Needs.{needs}
 use Rattle.cut_values.proofs.sweep.Statement.{statement}
 use Rattle.cut_values.proofs.sweep.Tie as tie
@@ -15,8 +15,8 @@ settle-alone-requires c κs =
     let a = all-cells _ _ _ (p .0) in
     record { work = omega (arith, c .before .before .before .gather-work .kept .1 .1 .1 .0, p .1, a); columns = p .0 .few; cells = omega (arith, a, pow-small _ (p .0 .small)) }
 
-norms-requires : tie.Need-norms-requires
-norms-requires c κs =
+norms-marked-requires : tie.Need-norms-marked-requires
+norms-marked-requires c κs =
     let p = c .before .before .before .before .before .before .before .before .before .before .before .before .before .pre in
     let a = all-cells _ _ _ (p .0) in
     (omega (arith, a, pow-small _ (p .0 .small)), omega (arith, c .before .before .before .before .settle-alone .kept .0, c .before .before .before .before .before .before .before .before .gather-work .kept .1 .1 .1 .0, p .1, a), omega (arith, p .2))
@@ -31,7 +31,9 @@ returns : tie.Need-returns
 returns c =
     let t = c .before .before .before .before .before .before .before .settle-alone in
     let g = c .before .before .before .before .before .before .before .before .before .before .before .gather-work .ensures in
-    (norms-made _ _ _ (t .result) g (t .ensures) (c .before .before .norms .ensures), sweeps-made _ _ _ (t .result) (c .before .before .before .before .before .before .before .before .before .before .before .before .before .before .before .before .pre .0) g (t .ensures))
+    let p = c .before .before .before .before .before .before .before .before .before .before .before .before .before .before .before .before .pre .0 in
+    let m = c .before .before .norms-marked .ensures in
+    (norms-made _ _ _ (t .result) g (t .ensures) (m .0), sweeps-made _ _ _ (t .result) p g (t .ensures), marks-made _ _ _ (t .result) p g (t .ensures) (m .1))
 
 pub sweep-spec : {M : Type 1} → statement M
 sweep-spec =
@@ -39,7 +41,7 @@ sweep-spec =
     (tie.spec
     gather-work-requires
     settle-alone-requires
-    norms-requires
+    norms-marked-requires
     same-length
     same-length-2
     returns)

@@ -1,5 +1,5 @@
 -- `cut_values::work` meets its contract: the singular values, scratch zeroed, and the finish. Assumes nothing.
-use mathlib.Core.Path.{sym, _∙_}
+use mathlib.Core.Path.{refl, sym, _∙_}
 use native.Mathlib.Omega.{arith}
 use lib.Seq.{length-take-le, take-at}
 use Rattle.cut_values.proofs.SchmidtLaws.{front-length, front-in, same-le, worked}
@@ -41,12 +41,13 @@ same-length-2 c = search needs
 
 returns : tie.Need-returns
 returns c =
-    let p = c .before .before .before .before .before .before .before .before .before .before .before .before .before .before .before .before .before .before .before .pre in
-    let v = c .before .before .before .before .before .before .before .before .before .before .before .before .before .singular-values in
-    let f = c .before .before .before .finish-finite in
+    let p = c .before .before .before .before .before .before .before .before .before .before .before .before .before .before .before .before .before .before .before .before .before .before .before .pre in
+    let v = c .before .before .before .before .before .before .before .before .before .before .before .before .before .before .before .before .before .singular-values in
+    let f = c .before .before .before .before .before .before .before .finish-finite in
     let k = v .kept .1 .1 .1 .0 ∙ length-take-le _ _ (p .0 .few) in
     let m = v .kept .1 .1 .1 .1 .0 ∙ p .2 in
-    worked _ _ _ _ _ _ (f .result) _ _ (take-at _ _ _ k ∙ v .ensures .0) (front-length _ (v .last .1 .1 .1 .0) _ k) (v .ensures .1) (f .ensures) m m (c .before .before .before .before .before .before .before .before .zero-first .ensures) (c .answered-count .ensures)
+    let t = c .before .answered-count .ensures in
+    worked _ _ _ _ _ _ (f .result) _ _ (take-at _ _ _ k ∙ v .ensures .0) (front-length _ (v .last .1 .1 .1 .0) _ k) (v .ensures .1) (v .ensures .2) (f .ensures) m m (c .before .before .before .before .before .before .before .before .before .before .before .before .zero-first .ensures) (refl, t .1, t .2) refl
 
 pub work-spec : {M : Type 1} → statement M
 work-spec =

@@ -45,7 +45,7 @@ same-length-2 : tie.Need-same-length-2
 same-length-2 c = search needs
 
 returns-2 : tie.Need-returns-2
-returns-2 c = sorted-done _ _ _ (c .before .before .before .before .before .before .before .before .before .before .before .floor-of .ensures) (c .before .before .before .before .before .before .before .before .before .before .kept-count .ensures) (c .before .before .before .before .before .before .before .before .before .if1 .left) _ _ (c .before .before .before .before .before .before .before .scale-kept .ensures .0) _ (c .before .before .before .before .before .before .before .scale-kept .ensures .1) (c .before .before .before .before .if2 .taken) (c .before .before .zero-first2 .ensures)
+returns-2 c = sorted-done _ _ _ (c .before .before .before .before .before .before .before .before .before .before .before .floor-of .ensures) (c .before .before .before .before .before .before .before .before .before .before .kept-count .ensures) (c .before .before .before .before .before .before .before .before .before .if1 .left) _ _ (c .before .before .before .before .before .before .before .scale-kept .ensures .0) _ (c .before .before .before .before .before .before .before .scale-kept .ensures .1 .0) (c .before .before .before .before .if2 .taken) (c .before .before .zero-first2 .ensures) _ (c .before .before .before .before .before .before .before .scale-kept .ensures .1 .1)
 
 zero-first-requires-3 : tie.Need-zero-first-requires-3
 zero-first-requires-3 c κs = search needs
@@ -54,7 +54,7 @@ same-length-3 : tie.Need-same-length-3
 same-length-3 c = search needs
 
 returns-3 : tie.Need-returns-3
-returns-3 c = sorted-infinite _ _ _ (c .before .before .before .before .before .before .before .before .before .before .before .floor-of .ensures) (c .before .before .before .before .before .before .before .before .before .before .kept-count .ensures) (c .before .before .before .before .before .before .before .before .before .if1 .left) _ (c .before .before .before .before .before .before .before .scale-kept .ensures .1) (c .before .before .before .before .if2 .left) _ _ (c .before .before .before .before .before .before .before .scale-kept .kept .0) (c .before .before .zero-first3 .ensures)
+returns-3 c = sorted-infinite _ _ _ (c .before .before .before .before .before .before .before .before .before .before .before .floor-of .ensures) (c .before .before .before .before .before .before .before .before .before .before .kept-count .ensures) (c .before .before .before .before .before .before .before .before .before .if1 .left) _ (c .before .before .before .before .before .before .before .scale-kept .ensures .1 .0) (c .before .before .before .before .if2 .left) _ _ (c .before .before .before .before .before .before .before .scale-kept .kept .0) (c .before .before .zero-first3 .ensures)
 
 pub finish-sorted-spec : {M : Type 1} → statement M
 finish-sorted-spec =

@@ -1,0 +1,2 @@
+-- What the contracts of `exact_roots` cite.
+pub mod Exact
