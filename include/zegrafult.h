@@ -208,6 +208,21 @@ uint32_t zg_fill_scaled_vt_data(const double *s, size_t s_len, const double *vt,
                                 size_t chi, size_t physical_dim, size_t bond_right, double *out, size_t out_len,
                                 size_t *place);
 
+/* ---- the chain of sites */
+
+/* Slices: state 0 (exactly 2*2^n), sites 1 (2*sum over j<n of 2*B(j)*B(j+1)), bonds 2 (n+1), starts 3 (n+1), marks 4
+ * (3*(n-1)), matrix 5 (2*2^n), u 6 (2*2^n), vt 7 (2*2^n), scratch 8 (6*2^n + 2*2^floor(n/2)). B(0) = B(n) = 1, B(j) =
+ * min(limit, 2^j, 2^(n-j)). Site j has shape (bonds[j], 2, bonds[j+1]) and stands at cells starts[j] .. starts[j+1] of
+ * sites; cell (alpha, i, beta) is cell alpha*2*bonds[j+1] + i*bonds[j+1] + beta of it. bonds[j+1] is the kept rank of
+ * cut j (0 <= j < n-1). Past starts[n]: +0.0. marks[3j..]: of cut j's SVD the sweeps begun, 1 where the last was quiet
+ * else 0, the turned pairs. dropped: the cuts that dropped a resolvable value. Refused by 1 (limit 0, then n), 6, 7
+ * (above 2^190), 8 (every component zero), 9. */
+uint32_t zg_chain_of_sites(const double *state, size_t state_len, size_t n, double epsilon, size_t limit, double *sites,
+                           size_t sites_len, size_t *bonds, size_t bonds_len, size_t *starts, size_t starts_len,
+                           size_t *marks, size_t marks_len, double *matrix, size_t matrix_len, double *u, size_t u_len,
+                           double *vt, size_t vt_len, double *scratch, size_t scratch_len, size_t *place,
+                           size_t *dropped);
+
 /* ---- sites in one slab */
 
 /* A slab is 8,192 numbers (4,096 cells) and an index of 193 numbers: how many sites are held, then three for each: site

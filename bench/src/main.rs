@@ -113,6 +113,43 @@ fn eigen_row(rng: &mut Random, dim: usize) -> Row {
     })
 }
 
+/// A chain of sites by the published functions in the paper's order: what the last site holds, and the ranks.
+fn chain(state: &[Complex64], n: usize, epsilon: f64, limit: usize) -> (Vec<Vec<Complex64>>, Vec<usize>, usize) {
+    let mut carried: Vec<Complex64> = (0..1usize << n).map(|x| state[x.reverse_bits() >> (usize::BITS as usize - n)]).collect();
+    let (mut sites, mut ranks, mut dropped, mut bond) = (vec![], vec![], 0, 1);
+    for j in 0..n - 1 {
+        let (rows, columns) = (2 * bond, 1 << (n - 1 - j));
+        let mut matrix = vec![Complex64::new(0.0, 0.0); rows * columns];
+        for row in 0..rows {
+            for column in 0..columns {
+                matrix[column * rows + row] = carried[row * columns + column];
+            }
+        }
+        let factors = svd::svd_jacobi(&matrix, rows, columns);
+        let rank = svd::truncated_svd_rank(&factors.s, epsilon, limit);
+        dropped += usize::from(svd::discards_resolvable_weight(&factors.s, rank));
+        sites.push(svd::isometry_site(&factors, bond, rank));
+        carried = svd::carried_on(&factors, rank);
+        ranks.push(rank);
+        bond = rank;
+    }
+    sites.push(carried);
+    (sites, ranks, dropped)
+}
+
+fn chain_row(rng: &mut Random, n: usize, limit: usize) -> Row {
+    let (state, plane, epsilon) = (drawn(rng, 2 << n), 2 << n, 1e-12f64);
+    let widest = |j: usize| limit.min(1 << j).min(1 << (n - j));
+    let sites: usize = (0..n).map(|j| 4 * widest(j) * widest(j + 1)).sum();
+    let given = [many(&state), one(n), Arg::One(epsilon.to_bits()), one(limit)];
+    let lengths = [sites, n + 1, n + 1, 3 * (n - 1), plane, plane, plane, (6 << n) + (2 << (n / 2))];
+    let args = given.into_iter().chain(lengths.map(lent)).collect();
+    let state = cells(&state);
+    row("chain_of_sites", format!("n={n} limit={limit}"), chain_of_sites, args, move || {
+        black_box(chain(black_box(&state), n, epsilon, limit));
+    })
+}
+
 fn sqrt_row(rng: &mut Random) -> Row {
     let x = rng.unit().abs();
     row("sqrt", "one".into(), sqrt, vec![Arg::One(x.to_bits())], move || {
@@ -136,6 +173,8 @@ fn rows() -> Vec<Row> {
     rows.extend([16, 64].map(|dim| eigenvalues_row(rng, dim)));
     rows.extend([4, 8, 16, 32, 64].map(|dim| eigen_row(rng, dim)));
     rows.push(sqrt_row(rng));
+    rows.extend((2..=12).map(|n| chain_row(rng, n, 64)));
+    rows.extend([16, 4, 1].map(|limit| chain_row(rng, 12, limit)));
     rows
 }
 

@@ -15,7 +15,8 @@ static double state[2 * CELLS], matrix[2 * CELLS], square[2 * CELLS], out[2 * CE
 static double scratch[8 * CELLS + 128], factor[2 * CELLS];
 static const size_t six[] = {0, 2, 4, 6, 8, 10}, low[] = {0, 1, 2, 3, 4, 5};
 static const size_t eleven[] = {0, 1, 2, 3, 4, 5, 6, 7, 8, 9, 10};
-static size_t offsets[CELLS], place, count, sweeps, turned;
+static double sites[21840];
+static size_t offsets[CELLS], bonds[13], starts[13], marks[33], place, count, sweeps, turned;
 static bool quiet, exact;
 static uint64_t wide;
 static uint32_t answer;
@@ -75,6 +76,10 @@ static void fills(void) {
              zg_fill_vt_site_data(state, 2 * CELLS, 64, 64, 2, 32, out, 2 * CELLS, &place) +
              zg_fill_scaled_vt_data(factor, 64, state, 2 * CELLS, 64, 64, 2, 32, out, 2 * CELLS, &place);
 }
+static void chain(void) {
+    answer = zg_chain_of_sites(state, 2 * CELLS, 12, 1e-12, 64, sites, 21840, bonds, 13, starts, 13, marks, 33, out, 2 * CELLS, more, 2 * CELLS,
+                               third, 2 * CELLS, scratch, 6 * CELLS + 128, &place, &count);
+}
 
 static const struct {
     const char *name;
@@ -102,7 +107,8 @@ static const struct {
              {"zg_hermitian_eigen", eigen, 16 * KB},
              {"zg_dense_schmidt_values", cut_values, 16 * KB},
              {"ranks", ranks, 16 * KB},
-             {"the four fills", fills, 16 * KB}};
+             {"the four fills", fills, 16 * KB},
+             {"zg_chain_of_sites", chain, 16 * KB}};
 
 static void *run(void *call) {
     (*(void (**)(void))call)();

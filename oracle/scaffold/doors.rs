@@ -64,6 +64,19 @@ pub fn fill_scaled_vt_data(s: &[f64], vt: &[Complex64], row_len: usize, chi: usi
     out
 }
 
+/// The fills over factors as they are, as the Rust's own walks call them.
+pub fn isometry_site(factors: &SvdResult, bond_left: usize, chi: usize) -> Vec<Complex64> {
+    let mut out = Vec::new();
+    super::fill_isometry_site_data(&mut out, &factors.u, factors.u_rows, bond_left, chi);
+    out
+}
+
+pub fn carried_on(factors: &SvdResult, chi: usize) -> Vec<Complex64> {
+    let mut out = Vec::new();
+    super::fill_scaled_vt_data(&mut out, factors, chi, factors.vt_cols, 1);
+    out
+}
+
 //// schmidt
 use super::*;
 

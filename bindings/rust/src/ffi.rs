@@ -291,6 +291,32 @@ extern "C" {
         cell: &mut usize,
     ) -> u32;
 
+    pub fn zg_chain_of_sites(
+        state: *const f64,
+        state_len: usize,
+        n: usize,
+        epsilon: f64,
+        limit: usize,
+        sites: *mut f64,
+        sites_len: usize,
+        bonds: *mut usize,
+        bonds_len: usize,
+        starts: *mut usize,
+        starts_len: usize,
+        marks: *mut usize,
+        marks_len: usize,
+        matrix: *mut f64,
+        matrix_len: usize,
+        u: *mut f64,
+        u_len: usize,
+        vt: *mut f64,
+        vt_len: usize,
+        scratch: *mut f64,
+        scratch_len: usize,
+        place: &mut usize,
+        dropped: &mut usize,
+    ) -> u32;
+
     pub fn zg_slab_put(
         cells: *mut f64,
         index: *mut u32,

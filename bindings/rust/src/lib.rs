@@ -25,6 +25,7 @@
 mod ffi;
 mod refusal;
 
+mod chain;
 mod densities;
 mod environment;
 mod factors;
@@ -34,6 +35,7 @@ mod sites;
 mod slab;
 mod spectra;
 
+pub use chain::*;
 pub use densities::*;
 pub use environment::environment;
 pub use factors::*;

@@ -20,7 +20,7 @@ impl Refusal {
             4 => "The list of qubits is empty.".into(),
             5 => "The list names every qubit, so nothing is cut off.".into(),
             6 => format!("Argument slice {place} has a wrong length."),
-            7 => format!("Cell {place} is not a number, infinite or above 2^200 in magnitude."),
+            7 => format!("Cell {place} is not a number, infinite or above 2^200 in magnitude (2^190 for a chain)."),
             8 => "The data have no weight: nothing is left above the floor, or the trace is zero.".into(),
             9 => "The arithmetic gave a number that is not finite.".into(),
             10 => "The file is not a cut file.".into(),

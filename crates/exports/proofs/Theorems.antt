@@ -56,6 +56,9 @@ use Rattle.site_ranks.specs.Ranks.{Ranked}
 use Rattle.site_ranks.proofs.Theorems.{ranked-one}
 use Rattle.sites.specs.Calls.{Filled}
 use Rattle.sites.proofs.Theorems.{fill-one}
+use Rattle.chain_fill.specs.declared.Chained.{Chained}
+use Rattle.chains.specs.Chains.{ChainOfSites}
+use Rattle.chains.proofs.Theorems.{chain-of-sites-one}
 use Rattle.slabs.specs.Slab.{Put, Dropped, Replaced}
 use Rattle.slabs.proofs.Theorems.{put-one, drop-one, replace-one}
 use Rattle.countersign.specs.declared.Countersigned.{Countersigned}
@@ -226,6 +229,20 @@ pub zg-countersign-one : (a : List Float) (m n : ℕ) (u s vt : List Float) (tol
     → (number ≡ number') × (place ≡ place') × (value ≡ value')
 zg-countersign-one a m n u s vt tolerance =
     exported-value-one (λ k l' c d. let e = countersign-one a m n u s vt tolerance k l' c d in (e .0, ap says (e .1)))
+
+-- Only one outcome meets the contract of `zg_chain_of_sites`.
+pub zg-chain-of-sites-one : (s : List Float) (n : ℕ) (epsilon : Float) (limit : ℕ) (sites : List Float) (bonds starts marks : List ℕ) (matrix u vt scratch : List Float)
+    (sites' : List Float) (bonds' starts' marks' : List ℕ) (matrix' u' vt' scratch' : List Float)
+    (sites″ : List Float) (bonds″ starts″ marks″ : List ℕ) (matrix″ u″ vt″ scratch″ : List Float) {number place number' place' : ℕ} {value value' : ℕ}
+    → ExportedWith {R = Chained} (λ k. k .answer) (λ k. k .dropped) (λ k. ChainOfSites s n epsilon limit sites bonds starts marks matrix u vt scratch k sites' bonds' starts' marks' matrix' u' vt' scratch') number place value
+    → ExportedWith {R = Chained} (λ k. k .answer) (λ k. k .dropped) (λ k. ChainOfSites s n epsilon limit sites bonds starts marks matrix u vt scratch k sites″ bonds″ starts″ marks″ matrix″ u″ vt″ scratch″) number' place' value'
+    → (number ≡ number') × (place ≡ place') × (value ≡ value')
+    × ((sites' ≡ sites″) × (bonds' ≡ bonds″) × (starts' ≡ starts″) × (marks' ≡ marks″) × (matrix' ≡ matrix″) × (u' ≡ u″) × (vt' ≡ vt″) × (scratch' ≡ scratch″))
+zg-chain-of-sites-one s n epsilon limit sites bonds starts marks matrix u vt scratch sites' bonds' starts' marks' matrix' u' vt' scratch' sites″ bonds″ starts″ marks″ matrix″ u″ vt″ scratch″ =
+    exported-with-one
+    (λ k l' c d.
+    let e = chain-of-sites-one s n epsilon limit sites bonds starts marks matrix u vt scratch k l' sites' bonds' starts' marks' matrix' u' vt' scratch' sites″ bonds″ starts″ marks″ matrix″ u″ vt″ scratch″ c d in
+    (ap (λ (x : Chained). x .answer) (e .0), ap (λ (x : Chained). x .dropped) (e .0), (e .1, e .2, e .3, e .4, e .5, e .6, e .7, e .8)))
 
 -- Only one outcome meets the contract of `zg_slab_put`.
 pub zg-slab-put-one : (cells index : List ℕ) (site : ℕ) (given : List ℕ) (cells' cells″ index' index″ : List ℕ) {number place number' place' : ℕ}

@@ -42,6 +42,8 @@ ghost use Rattle.pages.specs.Agree.{Says, pagesAnswer, pagesSame};
 ghost use Rattle.pages.specs.declared.Agreement.{Agreement};
 ghost use Rattle.countersign.specs.Verdict.{says, Countersign};
 ghost use Rattle.countersign.specs.declared.Countersigned.{Countersigned};
+ghost use Rattle.chain_fill.specs.declared.Chained.{Chained};
+ghost use Rattle.chains.specs.Chains.{ChainOfSites};
 ghost use Rattle.slabs.specs.Slab.{Put, Dropped, Replaced};
 ghost use Rattle.hermitian_eigen.specs.Hermitian.{Eigen};
 ghost use Rattle.cut_values.specs.Schmidt.{Schmidt};
@@ -618,6 +620,50 @@ pub extern "C" fn zg_fill_scaled_vt_data(
         sites::fill_scaled_vt_data(s, vt, row_len, chi, physical_dim, bond_right, out),
         place,
     )
+}
+
+// ---- the chain of sites
+
+#[no_mangle]
+pub extern "C" fn zg_chain_of_sites(
+    state: &[f64],
+    n: usize,
+    epsilon: f64,
+    limit: usize,
+    sites: &mut [f64],
+    bonds: &mut [usize],
+    starts: &mut [usize],
+    marks: &mut [usize],
+    matrix: &mut [f64],
+    u: &mut [f64],
+    vt: &mut [f64],
+    scratch: &mut [f64],
+    place: &mut usize,
+    dropped: &mut usize,
+) -> u32
+    ensures { λ r. ⌜ ExportedWith {R = Chained} (λ k. k .answer) (λ k. k .dropped)
+        (λ k. ChainOfSites (now (state .entry)) n epsilon limit (now (sites .entry)) (now (bonds .entry)) (now (starts .entry)) (now (marks .entry))
+        (now (matrix .entry)) (now (u .entry)) (now (vt .entry)) (now (scratch .entry)) k
+        (now (sites .exit)) (now (bonds .exit)) (now (starts .exit)) (now (marks .exit)) (now (matrix .exit)) (now (u .exit)) (now (vt .exit)) (now (scratch .exit)))
+        r (now (place .exit)) (now (dropped .exit)) ⌝ }
+{
+    let k = chains::chain_of_sites(
+        state,
+        n,
+        epsilon,
+        limit,
+        sites,
+        bonds,
+        starts,
+        marks,
+        matrix,
+        u,
+        vt,
+        scratch,
+    );
+    *dropped = k.dropped;
+    let answer = k.answer;
+    told::told(answer, place)
 }
 
 // ---- sites in one slab: the cells are doubles to C, and here their 64-bit patterns

@@ -39,7 +39,7 @@ pub side-tall : (m n : ℕ) → n ≤ m → (sideOf m n ≡ n) × (rowsOf m n �
 unfolding sideOf rowsOf
 side-tall m n h = (rw (le-ltb m n h), rw (le-ltb m n h))
 
-side-low : (m n : ℕ) → (sideOf m n ≤ m) × (sideOf m n ≤ n)
+pub side-low : (m n : ℕ) → (sideOf m n ≤ m) × (sideOf m n ≤ n)
 unfolding sideOf
 side-low m n = pick (ltb m n) refl
   where
@@ -337,7 +337,7 @@ end-number : (u s vt : List Float) → Ended (svdEnd u s vt .0)
 unfolding svdEnd
 end-number u s vt = nine-ended (finiteFactors u s vt) done (inl refl)
 
-pub join-end : (x : ℕ) (new cleared rest old : List Float) → Ended x → ifDone x new cleared ++ rest ≡ atEnd x (new ++ rest) (cleared ++ rest) old
+pub join-end : {A : Type 0} (x : ℕ) (new cleared rest old : List A) → Ended x → ifDone x new cleared ++ rest ≡ atEnd x (new ++ rest) (cleared ++ rest) old
 join-end zero new cleared rest old h = refl
 join-end (suc x) new cleared rest old h = worked-new (suc x) (cleared ++ rest) old h
 

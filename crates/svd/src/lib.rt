@@ -139,8 +139,8 @@ fn finish(u: &mut [f64], s: &mut [f64], vt: &mut [f64]) -> Answer
     Answer::NotFinite
 }
 
-// The work of an accepted call, over slices of exactly the needed lengths.
-fn work(
+// Inner. The work of an accepted call, over slices of exactly the needed lengths.
+pub fn work(
     a: &[f64],
     m: usize,
     n: usize,

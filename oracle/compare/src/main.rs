@@ -2,6 +2,7 @@
 //! last was quiet, count of turned pairs, mark of even roots, and lent cell compared.
 //!
 //!     compare SEED COUNT         every small shape, then COUNT drawn calls of each entry point, 40 times as many moduli
+//!     compare SEED COUNT NAME    the same of one entry point
 //!     compare replay FILE        the calls of FILE, one to a line, as a mismatch prints them
 //!
 //! It ends with status 1 on a mismatch and where the library lacks an entry point. The last lines have the count of calls that
@@ -36,7 +37,7 @@ impl Tally {
         let Some(ours) = port::run(call) else { return };
         let theirs = outcome(call, Build::Counting);
         self.calls += 1;
-        if theirs.gave_up() {
+        if theirs.gave_up(call) {
             *self.gave_up.entry(call.entry).or_insert(0) += 1;
         }
         if theirs.exact == Some(true) {
@@ -78,7 +79,9 @@ fn missing() -> Vec<String> {
 
 fn show(ours: &Outcome, theirs: &Outcome) {
     let head = |outcome: &Outcome| {
-        let sweeps = outcome.sweeps.map_or(String::new(), |s| format!(" sweeps {} quiet {} turned {}", s.begun, s.quiet, s.turned));
+        let sweeps = outcome
+            .sweeps
+            .map_or(String::new(), |s| format!(" sweeps {} quiet {} turned {}", s.begun, s.quiet, s.turned));
         let exact = outcome.exact.map_or(String::new(), |exact| format!(" exact {exact}"));
         format!("answer {} place {} value {:X}{sweeps}{exact}", outcome.number, outcome.place, outcome.value)
     };
@@ -100,10 +103,11 @@ fn bounds(rng: &mut Random) -> Bounds {
     }
 }
 
-fn run(seed: u64, count: usize) -> Tally {
+/// Of every entry point, or of those that `wanted` names.
+fn run(seed: u64, count: usize, wanted: &str) -> Tally {
     let mut tally = Tally::default();
     for &entry in ENTRIES {
-        if !port::has(entry) {
+        if !port::has(entry) || !(wanted.is_empty() || entry.name() == wanted) {
             continue;
         }
         small::each(entry, &mut |call| tally.see(&call));
@@ -136,11 +140,11 @@ fn main() {
             }
             (tally, format!("replay of {file}"))
         }
-        [seed, count] => {
+        [seed, count, ref name @ ..] => {
             let number = |word: &str| word.parse().expect("a number");
-            (run(number(seed), number(count) as usize), format!("seed {seed}"))
+            (run(number(seed), number(count) as usize, name.first().unwrap_or(&"")), format!("seed {seed}"))
         }
-        _ => panic!("usage: compare SEED COUNT, or compare replay FILE"),
+        _ => panic!("usage: compare SEED COUNT [NAME], or compare replay FILE"),
     };
     tally.print();
     let missing = missing();

@@ -40,6 +40,7 @@ entries! {
     fill_scaled_u_site_data,
     fill_vt_site_data,
     fill_scaled_vt_data,
+    chain_of_sites,
     sqrt,
     sqrt_bits,
     sqrt_marked,
@@ -65,6 +66,10 @@ pub enum Kind {
 
 use Entry::*;
 use Kind::*;
+
+/// Which slice of `chain_of_sites` has the marks of its factorisations: of each cut the sweeps begun, 1 where the last was
+/// quiet, and the pairs turned.
+pub const MARKS: usize = 4;
 
 impl Entry {
     pub fn name(self) -> String {
@@ -94,6 +99,10 @@ impl Entry {
             fill_scaled_u_site_data => &[Floats, Floats, Word, Word, Word, MutFloats],
             fill_vt_site_data => &[Floats, Word, Word, Word, Word, MutFloats],
             fill_scaled_vt_data => &[Floats, Floats, Word, Word, Word, Word, MutFloats],
+            chain_of_sites => &[
+                Floats, Word, Float, Word, MutFloats, MutWords, MutWords, MutWords, MutFloats, MutFloats, MutFloats,
+                MutFloats,
+            ],
             sqrt | sqrt_marked | magnitude | sign | is_finite | component_allowed => &[Float],
             sqrt_bits => &[Word],
             total_less | total_order | modulus => &[Float, Float],
@@ -257,8 +266,10 @@ pub struct Outcome {
 }
 
 impl Outcome {
-    /// Whether the factorisation gave up: done, with a pair still turned in its last sweep.
-    pub fn gave_up(&self) -> bool {
-        self.number == 0 && self.sweeps.is_some_and(|sweeps| !sweeps.quiet)
+    /// Whether a factorisation of the call gave up: done, with a pair still turned in its last sweep.
+    pub fn gave_up(&self, call: &Call) -> bool {
+        let cuts = if call.entry == chain_of_sites && self.number == 0 { call.one(1) - 1 } else { 0 };
+        let restless = (0..cuts).any(|cut| self.slices[MARKS][3 * cut + 1] == 0);
+        self.number == 0 && (self.sweeps.is_some_and(|sweeps| !sweeps.quiet) || restless)
     }
 }

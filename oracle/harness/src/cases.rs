@@ -3,7 +3,7 @@
 use crate::call::{Arg, Call, Entry, Entry::*, Kind};
 use crate::oracle::NAN;
 use crate::random::Random;
-use crate::table::{self, LARGEST, Role};
+use crate::table::{self, CHAIN_LARGEST, LARGEST, Role};
 
 /// How the components of a matrix or state are drawn.
 #[derive(Clone, Copy, Debug, PartialEq, Eq)]
@@ -274,6 +274,88 @@ pub fn state_of(rng: &mut Random, n: usize, kind: usize) -> Cells {
         }
     }
     cells
+}
+
+/// How many kinds of states a chain of sites is drawn from: those of `state_of`, and five more.
+pub const CHAIN_KINDS: usize = 17;
+
+/// A state that is taken apart into a chain of sites: no component above 2^190.
+pub fn chain_state_of(rng: &mut Random, n: usize, kind: usize) -> Cells {
+    let size = 1usize << n;
+    let mut cells = match kind {
+        12 => circuit(rng, n),
+        // Dependent columns: later qubits' amplitudes are multiples of earlier ones.
+        13 => {
+            let style = rng.pick(&[Unit, Whole, Powers]);
+            let period = 1 << rng.within(0, n);
+            let first: Cells = (0..period).map(|_| cell(rng, style, false)).collect();
+            let factors: Cells = (0..size / period).map(|_| cell(rng, Whole, false)).collect();
+            (0..size).map(|at| times(first[at % period], factors[at / period])).collect()
+        }
+        // Every component at 2^190 or somewhat below, of either sign.
+        14 => (0..2 * size)
+            .map(|_| {
+                let x = if rng.chance(2) { CHAIN_LARGEST } else { rng.unit() * CHAIN_LARGEST };
+                signed(rng, x)
+            })
+            .collect::<Vec<f64>>()
+            .chunks_exact(2)
+            .map(|parts| (parts[0], parts[1]))
+            .collect(),
+        // Tiny amplitudes beside ones of 2^190: products near where the floats end.
+        15 => (0..size)
+            .map(|_| {
+                let x = if rng.chance(4) { CHAIN_LARGEST } else { power(-(rng.within(720, 735) as i32)) };
+                (signed(rng, x), if rng.chance(2) { x } else { 0.0 })
+            })
+            .collect(),
+        // Small whole numbers, real.
+        16 => (0..size).map(|_| cell(rng, Whole, true)).collect(),
+        _ => state_of(rng, n, kind),
+    };
+    if cells.iter().any(|&(re, im)| re.abs() > CHAIN_LARGEST || im.abs() > CHAIN_LARGEST) {
+        for amplitude in &mut cells {
+            *amplitude = (amplitude.0 / 1024.0, amplitude.1 / 1024.0);
+        }
+    }
+    cells
+}
+
+/// What a circuit of the gates H, S, T, CX and CZ makes of the first basis state.
+pub fn circuit(rng: &mut Random, n: usize) -> Cells {
+    let root = std::f64::consts::FRAC_1_SQRT_2;
+    let mut cells: Cells = vec![(0.0, 0.0); 1 << n];
+    cells[0] = (1.0, 0.0);
+    for _ in 0..rng.within(n, 8 * n) {
+        let (bit, gate) = (1usize << rng.below(n), rng.below(5));
+        let other = 1usize << rng.below(n);
+        for at in (0..1usize << n).filter(|at| at & bit != 0) {
+            match gate {
+                0 => {
+                    let (a, b) = (cells[at ^ bit], cells[at]);
+                    cells[at ^ bit] = (root * (a.0 + b.0), root * (a.1 + b.1));
+                    cells[at] = (root * (a.0 - b.0), root * (a.1 - b.1));
+                }
+                1 => cells[at] = (-cells[at].1, cells[at].0),
+                2 => cells[at] = times(cells[at], (root, root)),
+                3 if other != bit && at & other != 0 => cells.swap(at, at ^ other),
+                4 if other != bit && at & other != 0 => cells[at] = (-cells[at].0, -cells[at].1),
+                _ => {}
+            }
+        }
+    }
+    cells
+}
+
+/// A threshold, special ones often.
+pub fn threshold(rng: &mut Random) -> u64 {
+    let few = [1e-12, 0.0, 1e-12, f64::NAN, f64::INFINITY, f64::NEG_INFINITY, -1.0, -0.0, 1e-14, 1e-6, 0.1, 0.5, 1.0];
+    if rng.chance(8) { any_bits(rng) } else { rng.pick(&few).to_bits() }
+}
+
+/// A bond limit from 1 on, mostly at most 64.
+pub fn limit(rng: &mut Random) -> usize {
+    if rng.chance(3) { rng.within(1, 64) } else { rng.pick(&[1, 2, 3, 4, 8, 16, 64, 64, 65, 4096, usize::MAX]) }
 }
 
 /// k distinct qubits of n, in any order.
@@ -594,6 +676,13 @@ pub fn accepted(rng: &mut Random, entry: Entry, bounds: Bounds) -> Call {
             let rows = numbers(&matrix(rng, row_len, chi));
             fill(rng, entry, rows, row_len, physical_dim * bond_right, chi, &sizes)
         }
+        chain_of_sites => {
+            let n = rng.within(1, bounds.qubits);
+            let kind = rng.below(CHAIN_KINDS);
+            let state = Arg::Many(numbers(&chain_state_of(rng, n, kind)));
+            let args = vec![state, one(n), Arg::One(threshold(rng)), one(limit(rng))];
+            with_lent(rng, entry, args)
+        }
         sqrt | magnitude | sign | is_finite | component_allowed | sqrt_bits => {
             Call::new(entry, vec![Arg::One(any_bits(rng))])
         }
@@ -649,9 +738,10 @@ fn fill(
     with_lent(rng, entry, args)
 }
 
-/// A component that is not allowed, or the last one that is.
-fn edge_component(rng: &mut Random) -> u64 {
-    let above = f64::from_bits(LARGEST.to_bits() + 1);
+/// A component that the entry point does not allow, or the last one that it does.
+fn edge_component(rng: &mut Random, entry: Entry) -> u64 {
+    let largest = if entry == chain_of_sites { CHAIN_LARGEST } else { LARGEST };
+    let above = f64::from_bits(largest.to_bits() + 1);
     rng.pick(&[
         f64::NAN.to_bits(),
         0xFFF0000000000001,
@@ -660,8 +750,8 @@ fn edge_component(rng: &mut Random) -> u64 {
         above.to_bits(),
         (-above).to_bits(),
         f64::MAX.to_bits(),
-        LARGEST.to_bits(),
-        (-LARGEST).to_bits(),
+        largest.to_bits(),
+        (-largest).to_bits(),
     ])
 }
 
@@ -670,9 +760,10 @@ pub fn spoil(rng: &mut Random, call: &mut Call) {
     let inputs: Vec<usize> = call.slices().into_iter().filter(|&at| call.entry.kinds()[at] == Kind::Floats).collect();
     let inputs: Vec<usize> = inputs.into_iter().filter(|&at| !call.many(at).is_empty()).collect();
     if !inputs.is_empty() {
+        let entry = call.entry;
         let numbers = call.many_mut(rng.pick(&inputs));
         let place = rng.below(numbers.len());
-        numbers[place] = edge_component(rng);
+        numbers[place] = edge_component(rng, entry);
     }
 }
 
@@ -708,9 +799,10 @@ pub fn damage(rng: &mut Random, call: &mut Call) {
             }
         }
         Kind::Floats | Kind::MutFloats if rng.chance(2) && !call.many(at).is_empty() => {
+            let entry = call.entry;
             let numbers = call.many_mut(at);
             let place = if rng.chance(3) { rng.pick(&[0, numbers.len() - 1]) } else { rng.below(numbers.len()) };
-            numbers[place] = edge_component(rng);
+            numbers[place] = edge_component(rng, entry);
         }
         Kind::Floats | Kind::MutFloats | Kind::MutWords => {
             let numbers = call.many_mut(at);
@@ -746,6 +838,11 @@ pub fn restless(rng: &mut Random, entry: Entry) -> Call {
             let state = numbers(&zeros_and_ones(rng, 1 << n));
             vec![Arg::Many(state), one(n), Arg::Many(list(rng, n, n / 2)), one(13)]
         }
+        chain_of_sites => {
+            let n = if rng.chance(4) { rng.within(3, 6) } else { 4 };
+            let state = numbers(&zeros_and_ones(rng, 1 << n));
+            vec![Arg::Many(state), one(n), Arg::One(threshold(rng)), one(limit(rng))]
+        }
         _ => {
             let dim = rng.within(2, 5);
             let cells = [0.0, -1.0, 1e-170, 1.0];
@@ -761,7 +858,8 @@ pub fn restless(rng: &mut Random, entry: Entry) -> Call {
 
 /// An accepted call, or one damaged in one or two places.
 pub fn any(rng: &mut Random, entry: Entry, bounds: Bounds) -> Call {
-    let mut call = if entry.sweeps() && rng.chance(8) { restless(rng, entry) } else { accepted(rng, entry, bounds) };
+    let sweeps = entry.sweeps() || entry == chain_of_sites;
+    let mut call = if sweeps && rng.chance(8) { restless(rng, entry) } else { accepted(rng, entry, bounds) };
     if rng.chance(3) {
         damage(rng, &mut call);
         if rng.chance(3) {

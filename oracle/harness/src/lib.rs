@@ -2,6 +2,7 @@
 
 pub mod call;
 pub mod cases;
+pub mod chains_sample;
 pub mod oracle;
 pub mod random;
 pub mod sample;

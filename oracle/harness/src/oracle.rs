@@ -8,11 +8,12 @@ use num_complex::Complex64;
 use crate::call::{Call, Entry::*, Outcome, Sweeps};
 use crate::table::{self, Role};
 
-/// What the Rust computed: the number handed back, and the needed cells of each slice that is written.
+/// What the Rust computed: the number handed back, the needed cells of each slice that is written, and 8 or 9 where the
+/// paper answers so for a reason that does not show in those cells.
 pub struct Result {
     pub value: u64,
     pub written: Vec<Vec<u64>>,
-    pub empty: bool,
+    pub answer: u32,
 }
 
 /// The published text, the one with `norm` replaced by the modulus of `scaffold/modulus.rs`, or that with its sweeps counted.
@@ -63,6 +64,7 @@ macro_rules! build {
                     fill_isometry_site_data | fill_scaled_u_site_data | fill_vt_site_data | fill_scaled_vt_data => {
                         fills(call)
                     }
+                    chain_of_sites => chain(call),
                     sqrt | sqrt_bits | sqrt_marked | magnitude | sign | is_finite | component_allowed | total_less
                     | total_order => {
                         done(number_helper(call), vec![])
@@ -117,8 +119,8 @@ macro_rules! build {
                         density::multiply_block_factor(&mut rho, dim, &positions, &factor, call.one(4));
                     }
                 }
-                let empty = call.entry == normalize_trace && trace == 0.0;
-                Result { value: 0, written: vec![bits_of_cells(&rho)], empty }
+                let answer = if call.entry == normalize_trace && trace == 0.0 { 8 } else { 0 };
+                Result { value: 0, written: vec![bits_of_cells(&rho)], answer }
             }
 
             fn factors(call: &Call) -> Result {
@@ -174,8 +176,87 @@ macro_rules! build {
                 };
                 done(0, vec![bits_of_cells(&out)])
             }
+
+            /// The chain of sites by the published functions in the paper's order. The Rust has such a walk only inside
+            /// `decompose_n_sites`, which is a method of a whole register.
+            fn chain(call: &Call) -> Result {
+                let (state, n, epsilon, limit) = (cells(&call.floats(0)), call.one(1), call.float(2), call.one(3));
+                if state.iter().all(|cell| cell.re == 0.0 && cell.im == 0.0) {
+                    return refused(8);
+                }
+                // Qubit 0 is the highest bit of what is carried first.
+                let mut carried: Vec<Complex64> = (0..1 << n).map(|x| state[other_way(x, n)]).collect();
+                let mut chain = Chain::default();
+                for j in 0..n - 1 {
+                    let (bond, columns) = (chain.bond(), 1 << (n - 1 - j));
+                    let rows = 2 * bond;
+                    // Row bond·2 + bit of qubit j; in the column the bit of qubit j+1 is the highest.
+                    let matrix: Vec<Complex64> =
+                        (0..rows * columns).map(|at| carried[at % rows * columns + at / rows]).collect();
+                    counting::count::taken();
+                    let factors = svd::svd_jacobi(&matrix, rows, columns);
+                    chain.mark(counting::count::taken());
+                    let all = [bits_of_cells(&factors.u), bits(&factors.s), bits_of_cells(&factors.vt)];
+                    if !all.iter().all(|words| finite(words)) {
+                        return refused(9);
+                    }
+                    let rank = svd::truncated_svd_rank(&factors.s, epsilon, limit);
+                    chain.dropped += u64::from(svd::discards_resolvable_weight(&factors.s, rank));
+                    chain.put(&svd::fill_isometry_site_data(&factors.u, rows, bond, rank), rank);
+                    carried = svd::fill_scaled_vt_data(&factors.s, &factors.vt, columns, rank, columns, 1);
+                    if !bits_of_cells(&carried).into_iter().all(table::allowed) {
+                        return refused(9);
+                    }
+                }
+                chain.put(&carried, 1);
+                chain.result(call)
+            }
         }
     };
+}
+
+/// The lowest n bits of x in the other order.
+fn other_way(x: usize, n: usize) -> usize {
+    (0..n).filter(|bit| x >> bit & 1 == 1).map(|bit| 1 << (n - 1 - bit)).sum()
+}
+
+fn refused(answer: u32) -> Result {
+    Result { value: 0, written: vec![], answer }
+}
+
+/// The sites so far one after another, their bonds, the cell where each starts, the marks of the factorisations, and how many
+/// cuts dropped a value above the resolution.
+#[derive(Default)]
+struct Chain {
+    sites: Vec<u64>,
+    ranks: Vec<u64>,
+    ends: Vec<u64>,
+    marks: Vec<u64>,
+    dropped: u64,
+}
+
+impl Chain {
+    /// The bond that the next site has on its left.
+    fn bond(&self) -> usize {
+        self.ranks.last().map_or(1, |&rank| rank as usize)
+    }
+
+    fn mark(&mut self, count: counting::count::Count) {
+        self.marks.extend([count.sweeps as u64, u64::from(count.turns_of_last == 0), count.turns as u64]);
+    }
+
+    fn put(&mut self, site: &[Complex64], rank: usize) {
+        self.sites.extend(bits_of_cells(site));
+        self.ranks.push(rank as u64);
+        self.ends.push(self.sites.len() as u64 / 2);
+    }
+
+    /// +0.0 past the sites.
+    fn result(self, call: &Call) -> Result {
+        let Role::Output(needed) = table::roles(call)[1] else { panic!("sites are an output") };
+        let (bonds, starts) = ([vec![1], self.ranks].concat(), [vec![0], self.ends].concat());
+        done(self.dropped, vec![padded(self.sites, needed), bonds, starts, self.marks])
+    }
 }
 
 build!(as_published, published);
@@ -183,7 +264,7 @@ build!(as_replaced, replaced);
 build!(as_counting, counting);
 
 fn done(value: u64, written: Vec<Vec<u64>>) -> Result {
-    Result { value, written, empty: false }
+    Result { value, written, answer: 0 }
 }
 
 /// The number helpers, with one NaN only: the Rust's order tells NaNs apart by sign and payload. The rule of allowed
@@ -221,7 +302,8 @@ fn one_nan(x: f64) -> u64 {
 
 /// Kept values, +0.0 after them.
 fn counted(values: Vec<f64>, length: usize) -> Result {
-    Result { value: values.len() as u64, written: vec![padded(bits(&values), length)], empty: values.is_empty() }
+    let answer = if values.is_empty() { 8 } else { 0 };
+    Result { value: values.len() as u64, written: vec![padded(bits(&values), length)], answer }
 }
 
 /// The cut matrix by its words: row j is the j-th submask of the row mask in rising order, columns likewise. The Rust
@@ -261,7 +343,7 @@ pub fn outcome(call: &Call, build: Build) -> Outcome {
     let count = counting::count::taken();
     let number = match &ran {
         Err(_) => 9,
-        Ok(result) if result.empty => 8,
+        Ok(result) if result.answer != 0 => result.answer,
         Ok(result) if writes_floats(call) && !result.written.iter().all(|words| finite(words)) => 9,
         Ok(_) => 0,
     };

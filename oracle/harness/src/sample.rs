@@ -4,8 +4,8 @@ use crate::call::{Arg, Call, Entry, Entry::*, Kind};
 use crate::cases::{self, Bounds, Style, lent, numbers, one, power};
 use crate::oracle::{Build, outcome};
 use crate::random::Random;
-use crate::sites_sample;
 use crate::table::{self, LARGEST, Role};
+use crate::{chains_sample, sites_sample};
 
 /// What stands in a lent slice before the call.
 pub const BEFORE: u64 = 0x4008000000000000;
@@ -29,6 +29,7 @@ pub fn entries(kind: &str) -> &'static [Entry] {
             fill_vt_site_data,
             fill_scaled_vt_data,
         ],
+        "chain_cases" => &[chain_of_sites],
         _ => panic!("no such replay program: {kind}"),
     }
 }
@@ -37,8 +38,10 @@ pub fn entries(kind: &str) -> &'static [Entry] {
 pub fn asked(kind: &str, call: &Call) -> String {
     let number =
         entries(kind).iter().position(|&entry| entry == call.entry).expect("an entry point of the program") + 1;
-    if kind == "sites_cases" {
-        return sites_sample::asked(number, call);
+    match kind {
+        "sites_cases" => return sites_sample::asked(number, call),
+        "chain_cases" => return chains_sample::asked(call),
+        _ => {}
     }
     let mut line = format!("{number:X}");
     for (arg, what) in call.args.iter().zip(call.entry.kinds()) {
@@ -61,8 +64,10 @@ pub fn asked(kind: &str, call: &Call) -> String {
 /// (1 or 0) and the turned pairs where the call sweeps, whether its roots came out even (1 or 0) where it says so, and each lent
 /// slice whole.
 pub fn printed(kind: &str, call: &Call) -> String {
-    if kind == "sites_cases" {
-        return sites_sample::printed(call);
+    match kind {
+        "sites_cases" => return sites_sample::printed(call),
+        "chain_cases" => return chains_sample::printed(call),
+        _ => {}
     }
     let outcome = outcome(call, Build::Counting);
     let mut words = vec![u64::from(outcome.number), outcome.place];
@@ -92,7 +97,7 @@ pub fn filled(mut call: Call) -> Call {
 }
 
 /// Gives a call its lent slices.
-fn lend(rng: &mut Random, entry: Entry, mut args: Vec<Arg>) -> Call {
+pub fn lend(rng: &mut Random, entry: Entry, mut args: Vec<Arg>) -> Call {
     let given = args.len();
     args.resize(entry.kinds().len(), Arg::Many(vec![]));
     let mut call = Call::new(entry, args);
@@ -321,6 +326,7 @@ pub fn cases_of(kind: &str, seed: u64) -> Vec<Call> {
             finish_schmidt_values => finishes(rng, &mut calls),
             hermitian_eigenvalues | schmidt_values_from_density | hermitian_eigen => squares(rng, entry, &mut calls),
             dense_schmidt_values => cuts(rng, &mut calls),
+            chain_of_sites => chains_sample::cases_of(rng, &mut calls),
             _ => sites_sample::cases_of(rng, entry, &mut calls),
         }
     }

@@ -6,12 +6,12 @@ use crate::oracle::{Build, NAN, outcome};
 use crate::random::Random;
 
 /// Number i of a slice that is read has these bits plus i, unless the text changes it; of a lent one the second.
-const READ: u64 = 0x3FF0000000000000;
+pub const READ: u64 = 0x3FF0000000000000;
 const LENT: u64 = 0xC000000000000000;
 /// Slices of this length and more are printed as a digest.
-const LONG: usize = 200;
+pub const LONG: usize = 200;
 
-fn counted(first: u64, length: usize) -> Vec<u64> {
+pub fn counted(first: u64, length: usize) -> Vec<u64> {
     (0..length as u64).map(|i| first + i).collect()
 }
 
@@ -55,7 +55,7 @@ fn is_fill(entry: Entry) -> bool {
     matches!(entry, fill_isometry_site_data | fill_scaled_u_site_data | fill_vt_site_data | fill_scaled_vt_data)
 }
 
-fn digest(words: &[u64]) -> u64 {
+pub fn digest(words: &[u64]) -> u64 {
     const PRIME: u64 = 0x7FFFFFFF;
     let bits = |word: u64| if f64::from_bits(word).is_nan() { NAN } else { word };
     words.iter().fold(0, |sum, &word| (sum * 31 + bits(word) % PRIME) % PRIME)

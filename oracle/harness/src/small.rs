@@ -160,6 +160,43 @@ fn on_whole_states(rng: &mut Random, see: &mut impl FnMut(Call)) {
     }
 }
 
+/// Chains of up to five qubits in states of every kind at every small limit and threshold, refused sizes, the longest chains, and
+/// all states of three qubits with amplitudes -1, 0 and 1 and of four qubits with 0 and 1.
+fn on_chains(rng: &mut Random, see: &mut impl FnMut(Call)) {
+    let chain = |rng: &mut Random, cells: &[(f64, f64)], n: usize, epsilon: f64, limit: usize| {
+        lend(rng, chain_of_sites, vec![Arg::Many(numbers(cells)), one(n), Arg::One(epsilon.to_bits()), one(limit)])
+    };
+    let thresholds = [1e-12, 0.0, -0.0, 1e-3, 0.5, 1.0, -1.0, f64::NAN, f64::INFINITY, f64::NEG_INFINITY];
+    for n in 1..=5 {
+        for kind in 0..cases::CHAIN_KINDS {
+            for limit in [1, 2, 3, 4, 64, usize::MAX] {
+                for epsilon in thresholds {
+                    let cells = cases::chain_state_of(rng, n, kind);
+                    see(chain(rng, &cells, n, epsilon, limit));
+                }
+            }
+        }
+    }
+    for n in [0, 1, 12, 13, 64, usize::MAX] {
+        for limit in [0, 1, 2, usize::MAX] {
+            let cells = vec![(1.0, 0.0); if n == 12 || n == 13 { 1 << n } else { 2 }];
+            see(chain(rng, &cells, n, 1e-12, limit));
+        }
+    }
+    for (kind, limit) in [(1, 64), (2, 64), (3, 64), (12, 64), (13, 16), (10, 64), (10, 4), (14, 2), (15, 64)] {
+        let cells = cases::chain_state_of(rng, 12, kind);
+        see(chain(rng, &cells, 12, 1e-12, limit));
+    }
+    for code in 0..3usize.pow(8) {
+        let cells: Vec<(f64, f64)> = (0..8).map(|at| ((code / 3usize.pow(at) % 3) as f64 - 1.0, 0.0)).collect();
+        see(chain(rng, &cells, 3, 1e-12, 64));
+    }
+    for code in 0..1u32 << 16 {
+        let cells: Vec<(f64, f64)> = (0..16).map(|at| (f64::from(code >> at & 1), 0.0)).collect();
+        see(chain(rng, &cells, 4, 0.0, 64));
+    }
+}
+
 fn on_bonds(rng: &mut Random, entry: Entry, see: &mut impl FnMut(Call)) {
     let few = [0usize, 1, 2, 3, 4, 5, 2047, 2048, 2049, 4095, 4096, 4097, usize::MAX];
     match entry {
@@ -366,6 +403,7 @@ pub fn each(entry: Entry, see: &mut impl FnMut(Call)) {
         | schmidt_values_from_density
         | hermitian_eigen => on_squares(rng, entry, see),
         multiply_block_factor => on_blocks(rng, see),
+        chain_of_sites => on_chains(rng, see),
         svd_jacobi | factorize_gram_schmidt => on_matrices(rng, entry, see),
         finish_schmidt_values | truncated_svd_rank | discards_resolvable_weight => on_values(rng, entry, see),
         cut_rank

@@ -5,6 +5,9 @@ use Role::*;
 
 pub const LARGEST: f64 = 1606938044258990275541962092341162602522202993782792835301376.0; // 2^200
 
+/// The largest component of a state that is taken apart into a chain of sites: 2^190.
+pub const CHAIN_LARGEST: f64 = LARGEST / 1024.0;
+
 /// What a slice of a call is for, and how many numbers it must hold.
 #[derive(Clone, Copy, Debug, PartialEq, Eq)]
 pub enum Role {
@@ -93,6 +96,7 @@ fn sizes_allowed(call: &Call) -> bool {
         fill_scaled_u_site_data => site_from_columns(one(2), one(3), one(4)),
         fill_vt_site_data => site_from_rows(one(1), one(2), one(3), one(4)),
         fill_scaled_vt_data => site_from_rows(one(2), one(3), one(4), one(5)),
+        chain_of_sites => one(3) >= 1 && register(one(1)),
         truncated_svd_rank
         | discards_resolvable_weight
         | sqrt
@@ -143,6 +147,7 @@ pub fn roles(call: &Call) -> Vec<Role> {
     match call.entry {
         fill_isometry_site_data | fill_scaled_u_site_data | fill_vt_site_data | fill_scaled_vt_data => site_roles(call),
         svd_jacobi | factorize_gram_schmidt => factor_roles(call),
+        chain_of_sites => chain_roles(call.one(1), call.one(3)),
         hermitian_eigenvalues | schmidt_values_from_density | hermitian_eigen => spectrum_roles(call),
         mirror_lower_triangle | normalize_trace => vec![Both(2 * call.one(1) * call.one(1))],
         multiply_block_factor => {
@@ -184,6 +189,20 @@ fn factor_roles(call: &Call) -> Vec<Role> {
         return vec![Exact(2 * m * n), Output(2 * m * k), Output(k), Output(2 * k * n), Scratch(6 * m * n + 2 * k)];
     }
     vec![Exact(2 * m * n), Output(2 * m * k), Output(2 * k * n), Scratch(2 * m)]
+}
+
+/// The widest that the bond before site j of n can be.
+pub fn widest(n: usize, limit: usize, j: usize) -> usize {
+    limit.min(1 << j).min(1 << (n - j))
+}
+
+/// Sites, bonds, starts and marks by n and the limit; then matrix, u, vt and scratch.
+fn chain_roles(n: usize, limit: usize) -> Vec<Role> {
+    let cells: usize = (0..n).map(|j| 2 * widest(n, limit, j) * widest(n, limit, j + 1)).sum();
+    let plane = 2 << n;
+    let results = [Exact(plane), Output(2 * cells), Output(n + 1), Output(n + 1), Output(3 * (n - 1))];
+    let working = [Scratch(plane), Scratch(plane), Scratch(plane), Scratch((6 << n) + (2 << (n / 2)))];
+    [&results[..], &working[..]].concat()
 }
 
 fn spectrum_roles(call: &Call) -> Vec<Role> {
@@ -245,7 +264,8 @@ fn checked(call: &Call) -> Vec<(usize, usize, Vec<usize>)> {
         | factorize_gram_schmidt
         | hermitian_eigenvalues
         | schmidt_values_from_density
-        | hermitian_eigen => vec![all(0, 2)],
+        | hermitian_eigen
+        | chain_of_sites => vec![all(0, 2)],
         multiply_block_factor => vec![all(0, 2), all(3, 2)],
         finish_schmidt_values => vec![all(0, 1)],
         fill_isometry_site_data => vec![grid(0, one(3), one(1), 2 * one(2))],
@@ -267,6 +287,10 @@ pub fn allowed(bits: u64) -> bool {
 
 /// Answer 7: the first cell with a component that is not allowed.
 fn component_refusal(call: &Call) -> Option<(u32, u64)> {
+    let allowed = |bits: u64| match call.entry {
+        chain_of_sites => f64::from_bits(bits).abs() <= CHAIN_LARGEST,
+        _ => allowed(bits),
+    };
     for (at, width, cells) in checked(call) {
         let numbers = call.many(at);
         for cell in cells {

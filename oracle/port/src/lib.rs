@@ -35,6 +35,7 @@ unsafe extern "C" {
     pub fn zg_fill_scaled_u_site_data(u: *const f64, u_len: usize, s: *const f64, s_len: usize, stride: usize, bond_left: usize, chi: usize, out: *mut f64, out_len: usize, place: *mut usize) -> u32;
     pub fn zg_fill_vt_site_data(vt: *const f64, vt_len: usize, row_len: usize, chi: usize, physical_dim: usize, bond_right: usize, out: *mut f64, out_len: usize, place: *mut usize) -> u32;
     pub fn zg_fill_scaled_vt_data(s: *const f64, s_len: usize, vt: *const f64, vt_len: usize, row_len: usize, chi: usize, physical_dim: usize, bond_right: usize, out: *mut f64, out_len: usize, place: *mut usize) -> u32;
+    pub fn zg_chain_of_sites(state: *const f64, state_len: usize, n: usize, epsilon: f64, limit: usize, sites: *mut f64, sites_len: usize, bonds: *mut usize, bonds_len: usize, starts: *mut usize, starts_len: usize, marks: *mut usize, marks_len: usize, matrix: *mut f64, matrix_len: usize, u: *mut f64, u_len: usize, vt: *mut f64, vt_len: usize, scratch: *mut f64, scratch_len: usize, place: *mut usize, dropped: *mut usize) -> u32;
     pub fn zg_sqrt(x: f64) -> f64;
     pub fn zg_sqrt_bits(b: u64) -> u64;
     pub fn zg_sqrt_marked(x: f64, exact: *mut bool) -> f64;
@@ -200,6 +201,9 @@ impl Ready<'_> {
                 zg_fill_vt_site_data(f!(0), l!(0), one(1), one(2), one(3), one(4), f!(1), l!(1), p)),
             fill_scaled_vt_data => ask!(has_zg_fill_scaled_vt_data,
                 zg_fill_scaled_vt_data(f!(0), l!(0), f!(1), l!(1), one(2), one(3), one(4), one(5), f!(2), l!(2), p)),
+            chain_of_sites => ask!(has_zg_chain_of_sites,
+                zg_chain_of_sites(f!(0), l!(0), one(1), call.float(2), one(3), f!(1), l!(1), w!(2), l!(2), w!(3), l!(3), w!(4), l!(4),
+                    f!(5), l!(5), f!(6), l!(6), f!(7), l!(7), f!(8), l!(8), p, v.cast())),
             sqrt => ask!(has_zg_sqrt, { self.value = zg_sqrt(call.float(0)).to_bits(); never(p) }),
             sqrt_bits => ask!(has_zg_sqrt_bits, { self.value = zg_sqrt_bits(one(0) as u64); never(p) }),
             sqrt_marked => ask!(has_zg_sqrt_marked, { self.value = zg_sqrt_marked(call.float(0), e).to_bits(); never(p) }),

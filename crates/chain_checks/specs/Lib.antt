@@ -1,0 +1,2 @@
+-- What the contracts of `chain_checks` cite.
+pub mod Checks
