@@ -179,6 +179,17 @@ uint32_t zg_dense_schmidt_values(const double *state, size_t state_len, size_t n
                                  size_t cap, double *out, size_t out_len, double *scratch, size_t scratch_len,
                                  size_t *place, size_t *count, size_t *sweeps, bool *quiet, size_t *turned, bool *exact);
 
+/* All cuts of a chain on one page: cut j is the list 0..j, for j from 0 to n-2. Slices: state 0 (exactly 2*2^n numbers), header
+ * 1 (2*(n-1)), values 2 (the sum over j < n-1 of 2^min(j+1, n-1-j)), largest 3 (n-1), ranks 4 (n-1), marks 5 (4*(n-1)),
+ * scratch 6 (8*2^n + 2*2^floor(n/2)). header[2j] is the count of cut j and header[2j+1] the offset of its values; values are
+ * packed, +0.0 past the last; largest[j] is the cut's first value, ranks[j] its count; marks[4j..] are the sweeps begun, 1 where
+ * the last was quiet else 0, the turned pairs, 1 where every root was exact else 0: an entry reads the same as the cut asked for
+ * alone. Refused by 1, 5 (n of 1), 6, 7, then 8 or 9 of the lowest j; on 8 and 9 everything needed is zero. */
+uint32_t zg_cut_profile(const double *state, size_t state_len, size_t n, size_t cap, size_t *header, size_t header_len,
+                        double *values, size_t values_len, double *largest, size_t largest_len, size_t *ranks,
+                        size_t ranks_len, size_t *marks, size_t marks_len, double *scratch, size_t scratch_len,
+                        size_t *place);
+
 /* ---- ranks and sites */
 
 /* How many values are above epsilon times the first, at least 1, at most max_bond_dim. Any bits; the answer is 0. */

@@ -73,6 +73,22 @@ fn values_row(rng: &mut Random, n: usize, k: usize) -> Row {
     })
 }
 
+/// The page of all cuts, against the Rust's loop over them.
+fn profile_row(rng: &mut Random, n: usize) -> Row {
+    let (state, cuts) = (drawn(rng, 2 << n), n - 1);
+    let room = (1..n).map(|k| 1 << k.min(n - k)).sum();
+    let scratch = (8 << n) + (2 << (n / 2));
+    let lists = [2 * cuts, room, cuts, cuts, 4 * cuts, scratch].map(lent);
+    let args = [vec![many(&state), one(n), one(13)], lists.to_vec()].concat();
+    let state: Vec<Complex64> = cells(&state);
+    row("cut_profile", format!("n={n}"), cut_profile, args, move || {
+        for j in 0..n - 1 {
+            let named: Vec<usize> = (0..=j).collect();
+            black_box(schmidt::dense_schmidt_values(black_box(&state), n, &named, 13).is_ok());
+        }
+    })
+}
+
 fn density_row(rng: &mut Random, n: usize, k: usize) -> Row {
     let state = drawn(rng, 2 << n);
     let args = vec![many(&state), one(n), list(k), one(13), lent(2 << (2 * k)), lent(2 << k)];
@@ -175,6 +191,7 @@ fn rows() -> Vec<Row> {
     rows.push(sqrt_row(rng));
     rows.extend((2..=12).map(|n| chain_row(rng, n, 64)));
     rows.extend([16, 4, 1].map(|limit| chain_row(rng, 12, limit)));
+    rows.extend((4..=12).map(|n| profile_row(rng, n)));
     rows
 }
 

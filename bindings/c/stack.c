@@ -16,7 +16,8 @@ static double scratch[8 * CELLS + 128], factor[2 * CELLS];
 static const size_t six[] = {0, 2, 4, 6, 8, 10}, low[] = {0, 1, 2, 3, 4, 5};
 static const size_t eleven[] = {0, 1, 2, 3, 4, 5, 6, 7, 8, 9, 10};
 static double sites[21840];
-static size_t offsets[CELLS], bonds[13], starts[13], marks[33], place, count, sweeps, turned;
+static size_t offsets[CELLS], bonds[13], starts[13], marks[44], place, count, sweeps, turned;
+static size_t header[22], page_ranks[11];
 static bool quiet, exact;
 static uint64_t wide;
 static uint32_t answer;
@@ -66,6 +67,9 @@ static void eigen(void) {
 static void cut_values(void) {
     answer = zg_dense_schmidt_values(state, 2 * CELLS, 12, six, 6, 13, out, 64, scratch, 8 * CELLS + 128, &place, &count, &sweeps, &quiet, &turned, &exact);
 }
+static void profile(void) {
+    answer = zg_cut_profile(state, 2 * CELLS, 12, 13, header, 22, more, 188, out, 11, page_ranks, 11, marks, 44, scratch, 8 * CELLS + 128, &place);
+}
 static void ranks(void) {
     answer = zg_truncated_svd_rank(factor, 64, 1e-3, 8, &place, &count) + zg_discards_resolvable_weight(factor, 64, 8, &place, &yes) +
              zg_cut_rank(4096, 4096, 4096, &place, &wide) + zg_widest_block_cut(4096, 4096, 16, &place, &wide);
@@ -106,6 +110,7 @@ static const struct {
              {"zg_schmidt_values_from_density", from_density, 16 * KB},
              {"zg_hermitian_eigen", eigen, 16 * KB},
              {"zg_dense_schmidt_values", cut_values, 16 * KB},
+             {"zg_cut_profile", profile, 16 * KB},
              {"ranks", ranks, 16 * KB},
              {"the four fills", fills, 16 * KB},
              {"zg_chain_of_sites", chain, 16 * KB}};

@@ -198,6 +198,25 @@ extern "C" {
         turned: &mut usize,
         exact: &mut bool,
     ) -> u32;
+    pub fn zg_cut_profile(
+        state: *const f64,
+        state_len: usize,
+        n: usize,
+        cap: usize,
+        header: *mut usize,
+        header_len: usize,
+        values: *mut f64,
+        values_len: usize,
+        largest: *mut f64,
+        largest_len: usize,
+        ranks: *mut usize,
+        ranks_len: usize,
+        marks: *mut usize,
+        marks_len: usize,
+        scratch: *mut f64,
+        scratch_len: usize,
+        place: &mut usize,
+    ) -> u32;
     pub fn zg_truncated_svd_rank(
         values: *const f64,
         values_len: usize,

@@ -54,6 +54,68 @@ pub fn dense_schmidt_values(state: &[Complex], n: usize, list: &[usize], cap: us
     answered(number, place, CutValues { values: out, sweeps, quiet, turned, exact })
 }
 
+/// All cuts of a chain on one page, cut j the qubits 0..j against the rest.
+#[derive(Clone, Debug, PartialEq)]
+pub struct Profile {
+    /// The kept values of each cut, and what goes with them, as [`dense_schmidt_values`] has them for the list 0..j.
+    pub cuts: Vec<CutValues>,
+    /// The largest value of each cut, which is its first.
+    pub largest: Vec<f64>,
+    /// The rank of each cut: how many values it keeps.
+    pub ranks: Vec<usize>,
+}
+
+/// The page of the n - 1 cuts of a state. One cut's refusal is the page's, the lowest j first; a register of one qubit is refused
+/// by 5.
+///
+/// ```
+/// use zegrafult::{cut_profile, Complex};
+/// let half = Complex { re: 1.0, im: 0.0 };
+/// let none = Complex { re: 0.0, im: 0.0 };
+/// let page = cut_profile(&[half, none, none, none, none, none, none, half], 3, 13)?;
+/// assert_eq!(page.ranks, [2, 2]);
+/// assert_eq!(page.largest, [page.cuts[0].values[0], page.cuts[1].values[0]]);
+/// # Ok::<(), zegrafult::Refusal>(())
+/// ```
+pub fn cut_profile(state: &[Complex], n: usize, cap: usize) -> Result<Profile, Refusal> {
+    let cuts = n.clamp(1, 12) - 1;
+    let room = (1..=cuts).map(|k| power(k.min(cuts + 1 - k))).sum();
+    let (mut header, mut values, mut largest) = (vec![0; 2 * cuts], vec![0.0; room], vec![0.0; cuts]);
+    let (mut ranks, mut marks) = (vec![0; cuts], vec![0; 4 * cuts]);
+    let mut scratch = vec![0.0; 8 * power(n) + 2 * power(n / 2)];
+    let mut place = 0;
+    let (s, s_len) = numbers_of(state);
+    let number = unsafe {
+        ffi::zg_cut_profile(
+            s,
+            s_len,
+            n,
+            cap,
+            header.as_mut_ptr(),
+            header.len(),
+            values.as_mut_ptr(),
+            values.len(),
+            largest.as_mut_ptr(),
+            largest.len(),
+            ranks.as_mut_ptr(),
+            ranks.len(),
+            marks.as_mut_ptr(),
+            marks.len(),
+            scratch.as_mut_ptr(),
+            scratch.len(),
+            &mut place,
+        )
+    };
+    let cut = |j: usize| CutValues {
+        values: values[header[2 * j + 1]..][..header[2 * j]].to_vec(),
+        sweeps: marks[4 * j],
+        quiet: marks[4 * j + 1] == 1,
+        turned: marks[4 * j + 2],
+        exact: marks[4 * j + 3] == 1,
+    };
+    answered(number, place, Profile { cuts: (0..cuts).map(cut).collect(), largest, ranks })
+}
+
 /// Sorted downward, cut at the floor, scaled to unit length.
 ///
 /// ```

@@ -51,6 +51,8 @@ use Rattle.exact_roots.specs.Exact.{exactRoot}
 use Rattle.cut_values.specs.Schmidt.{Schmidt}
 use Rattle.cut_values.specs.declared.CutCounted.{CutCounted}
 use Rattle.cut_values.proofs.Theorems.{dense-schmidt-values-one}
+use Rattle.profiles.specs.Profile.{CutProfile}
+use Rattle.profiles.proofs.Theorems.{cut-profile-one}
 use Rattle.site_ranks.specs.declared.CutRank.{CutRank}
 use Rattle.site_ranks.specs.Ranks.{Ranked}
 use Rattle.site_ranks.proofs.Theorems.{ranked-one}
@@ -207,6 +209,17 @@ pub zg-dense-schmidt-values-one : (state : List Float) (n : ℕ) (l : List ℕ) 
     → (number ≡ number') × (place ≡ place') × (value ≡ value') × ((out' ≡ out″) × (scratch' ≡ scratch″))
 zg-dense-schmidt-values-one state n l cap out scratch out' out″ scratch' scratch″ =
     exported-with-one (λ k l' c d. let e = dense-schmidt-values-one state n l cap out scratch k l' out' scratch' out″ scratch″ c d in (ap (λ (x : CutCounted). x .answer) (e .0), ap (λ (x : CutCounted). (x .count, x .sweeps .begun, x .sweeps .quiet, x .sweeps .turned, x .exact)) (e .0), (e .1, e .2)))
+
+-- Only one outcome meets the contract of `zg_cut_profile`.
+pub zg-cut-profile-one : (state : List Float) (n cap : ℕ) (header : List ℕ) (values largest : List Float) (ranks marks : List ℕ) (scratch : List Float)
+    (header' : List ℕ) (values' largest' : List Float) (ranks' marks' : List ℕ) (scratch' : List Float)
+    (header″ : List ℕ) (values″ largest″ : List Float) (ranks″ marks″ : List ℕ) (scratch″ : List Float) {number place number' place' : ℕ}
+    → Exported (λ x. CutProfile state n cap header values largest ranks marks scratch x header' values' largest' ranks' marks' scratch') number place
+    → Exported (λ x. CutProfile state n cap header values largest ranks marks scratch x header″ values″ largest″ ranks″ marks″ scratch″) number' place'
+    → (number ≡ number') × (place ≡ place')
+    × ((header' ≡ header″) × (values' ≡ values″) × (largest' ≡ largest″) × (ranks' ≡ ranks″) × (marks' ≡ marks″) × (scratch' ≡ scratch″))
+zg-cut-profile-one state n cap header values largest ranks marks scratch header' values' largest' ranks' marks' scratch' header″ values″ largest″ ranks″ marks″ scratch″ =
+    exported-one (λ x y c d. let e = cut-profile-one state n cap header values largest ranks marks scratch x y header' values' largest' ranks' marks' scratch' header″ values″ largest″ ranks″ marks″ scratch″ c d in (e .0, (e .1, e .2, e .3, e .4, e .5, e .6)))
 
 -- Only one outcome meets the contract of `zg_cut_rank` and of `zg_widest_block_cut`.
 pub zg-ranked-one : (reply : Reply) (v : ℕ) {number place number' place' : ℕ} {value value' : ℕ}

@@ -47,6 +47,7 @@ ghost use Rattle.chains.specs.Chains.{ChainOfSites};
 ghost use Rattle.slabs.specs.Slab.{Put, Dropped, Replaced};
 ghost use Rattle.hermitian_eigen.specs.Hermitian.{Eigen};
 ghost use Rattle.cut_values.specs.Schmidt.{Schmidt};
+ghost use Rattle.profiles.specs.Profile.{CutProfile};
 ghost use Rattle.cut_values.specs.declared.CutCounted.{CutCounted};
 
 // ---- numbers: nothing is refused
@@ -477,6 +478,38 @@ pub extern "C" fn zg_dense_schmidt_values(
     *exact = k.exact;
     let answer = k.answer;
     told::told(answer, place)
+}
+
+#[no_mangle]
+pub extern "C" fn zg_cut_profile(
+    state: &[f64],
+    n: usize,
+    cap: usize,
+    header: &mut [usize],
+    values: &mut [f64],
+    largest: &mut [f64],
+    ranks: &mut [usize],
+    marks: &mut [usize],
+    scratch: &mut [f64],
+    place: &mut usize,
+) -> u32
+    ensures { λ r. ⌜ Exported (λ a. CutProfile (now (state .entry)) n cap (now (header .entry)) (now (values .entry)) (now (largest .entry)) (now (ranks .entry)) (now (marks .entry)) (now (scratch .entry)) a
+        (now (header .exit)) (now (values .exit)) (now (largest .exit)) (now (ranks .exit)) (now (marks .exit)) (now (scratch .exit))) r (now (place .exit)) ⌝ }
+{
+    told::told(
+        profiles::cut_profile(
+            state,
+            n,
+            cap,
+            header,
+            values,
+            largest,
+            ranks,
+            marks,
+            scratch,
+        ),
+        place,
+    )
 }
 
 // ---- ranks and sites

@@ -22,6 +22,7 @@ entries! {
     smaller_side,
     cut_matrix,
     dense_schmidt_values,
+    cut_profile,
     dense_reduced_density,
     mirror_lower_triangle,
     normalize_trace,
@@ -85,6 +86,7 @@ impl Entry {
             smaller_side => &[Words, Word, Word, MutWords],
             cut_matrix => &[Floats, Word, Words, Word, MutFloats],
             dense_schmidt_values | dense_reduced_density => &[Floats, Word, Words, Word, MutFloats, MutFloats],
+            cut_profile => &[Floats, Word, Word, MutWords, MutFloats, MutFloats, MutWords, MutWords, MutFloats],
             mirror_lower_triangle | normalize_trace => &[MutFloats, Word],
             multiply_block_factor => &[MutFloats, Word, Words, Floats, Word],
             svd_jacobi => &[Floats, Word, Word, MutFloats, MutFloats, MutFloats, MutFloats],
@@ -118,6 +120,7 @@ impl Entry {
                 | row_offsets
                 | smaller_side
                 | cut_matrix
+                | cut_profile
                 | dense_reduced_density
                 | mirror_lower_triangle
                 | normalize_trace

@@ -600,6 +600,11 @@ pub fn accepted(rng: &mut Random, entry: Entry, bounds: Bounds) -> Call {
             let args = vec![Arg::Many(numbers(&state(rng, n))), one(n), Arg::Many(list(rng, n, k)), cap(rng, n + 1)];
             with_lent(rng, entry, args)
         }
+        cut_profile => {
+            let n = rng.within(2, bounds.qubits);
+            let args = vec![Arg::Many(numbers(&state(rng, n))), one(n), cap(rng, n + 1)];
+            with_lent(rng, entry, args)
+        }
         dense_reduced_density => {
             let n = rng.within(1, bounds.qubits);
             let k = rng.within(1, n.min(6));
@@ -843,6 +848,10 @@ pub fn restless(rng: &mut Random, entry: Entry) -> Call {
             let state = numbers(&zeros_and_ones(rng, 1 << n));
             vec![Arg::Many(state), one(n), Arg::One(threshold(rng)), one(limit(rng))]
         }
+        cut_profile => {
+            let n = if rng.chance(4) { rng.within(3, 6) } else { 4 };
+            vec![Arg::Many(numbers(&zeros_and_ones(rng, 1 << n))), one(n), one(13)]
+        }
         _ => {
             let dim = rng.within(2, 5);
             let cells = [0.0, -1.0, 1e-170, 1.0];
@@ -858,7 +867,7 @@ pub fn restless(rng: &mut Random, entry: Entry) -> Call {
 
 /// An accepted call, or one damaged in one or two places.
 pub fn any(rng: &mut Random, entry: Entry, bounds: Bounds) -> Call {
-    let sweeps = entry.sweeps() || entry == chain_of_sites;
+    let sweeps = entry.sweeps() || matches!(entry, chain_of_sites | cut_profile);
     let mut call = if sweeps && rng.chance(8) { restless(rng, entry) } else { accepted(rng, entry, bounds) };
     if rng.chance(3) {
         damage(rng, &mut call);

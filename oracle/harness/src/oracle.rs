@@ -55,6 +55,7 @@ macro_rules! build {
                 match call.entry {
                     validate_qubit_set | validate_subsystem | row_offsets | traced_base | smaller_side => lists(call),
                     cut_matrix | dense_schmidt_values | dense_reduced_density => states(call),
+                    cut_profile => profile(call),
                     mirror_lower_triangle | normalize_trace | multiply_block_factor => densities(call),
                     svd_jacobi | factorize_gram_schmidt => factors(call),
                     hermitian_eigenvalues | finish_schmidt_values | schmidt_values_from_density | hermitian_eigen => {
@@ -106,6 +107,37 @@ macro_rules! build {
                     }
                     _ => done(0, vec![bits_of_cells(&density::dense_reduced_density(&state, n, &list))]),
                 }
+            }
+
+            /// One call for each cut 0..j, the lowest j first; the first that has no value or one that is not finite ends it.
+            /// The marks are those of a build that counts, and zeros where none was counted.
+            fn profile(call: &Call) -> Result {
+                let (state, n) = (cells(&call.floats(0)), call.one(1));
+                let [mut header, mut packed, mut largest, mut ranks, mut marks] = [(); 5].map(|()| vec![]);
+                for j in 0..n - 1 {
+                    let list: Vec<usize> = (0..=j).collect();
+                    counting::count::taken();
+                    let values = schmidt::dense_schmidt_values(&state, n, &list, call.one(2).min(13)).unwrap();
+                    let count = counting::count::taken();
+                    if values.is_empty() || !finite(&bits(&values)) {
+                        let length = values.len();
+                        return counted(values, length);
+                    }
+                    header.extend([values.len() as u64, packed.len() as u64]);
+                    packed.extend(bits(&values));
+                    largest.push(values[0].to_bits());
+                    ranks.push(values.len() as u64);
+                    let seen = count.sweeps > 0;
+                    let yes = |mark: bool| u64::from(seen && mark);
+                    marks.extend([
+                        count.sweeps as u64,
+                        yes(count.turns_of_last == 0),
+                        count.turns as u64,
+                        yes(count.uneven == 0),
+                    ]);
+                }
+                let room = (1..n).map(|k| 1 << k.min(n - k)).sum();
+                done(0, vec![header, padded(packed, room), largest, ranks, marks])
             }
 
             fn densities(call: &Call) -> Result {

@@ -151,6 +151,20 @@ fn on_squares(rng: &mut Random, entry: Entry, see: &mut impl FnMut(Call)) {
     }
 }
 
+/// Every register, with caps about it, and all states of three qubits with amplitudes 0 and 1 on a page.
+fn on_profiles(rng: &mut Random, see: &mut impl FnMut(Call)) {
+    for n in 0..=14 {
+        for cap in [0, n, n + 1, 13, 14, usize::MAX] {
+            let state: Vec<(f64, f64)> = (0..1usize << n.min(7)).map(|_| (rng.unit(), rng.unit())).collect();
+            see(lend(rng, cut_profile, vec![Arg::Many(numbers(&state)), one(n), one(cap)]));
+        }
+    }
+    for code in 0..1u32 << 8 {
+        let state: Vec<(f64, f64)> = (0..8).map(|at| (f64::from(code >> at & 1), 0.0)).collect();
+        see(lend(rng, cut_profile, vec![Arg::Many(numbers(&state)), one(3), one(13)]));
+    }
+}
+
 /// All states of four qubits with amplitudes 0 and 1, cut in half: a quarter of them never grows quiet.
 fn on_whole_states(rng: &mut Random, see: &mut impl FnMut(Call)) {
     for code in 0..1u32 << 16 {
@@ -397,6 +411,7 @@ pub fn each(entry: Entry, see: &mut impl FnMut(Call)) {
             on_lists(rng, entry, see);
             on_whole_states(rng, see);
         }
+        cut_profile => on_profiles(rng, see),
         mirror_lower_triangle
         | normalize_trace
         | hermitian_eigenvalues

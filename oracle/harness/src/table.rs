@@ -74,6 +74,7 @@ fn sizes_allowed(call: &Call) -> bool {
         }
         smaller_side => register(one(1)) && one(1) + 1 <= cap_used(one(2)),
         cut_matrix | dense_schmidt_values => register(one(1)) && one(1) + 1 <= cap_used(one(3)),
+        cut_profile => register(one(1)) && one(1) + 1 <= cap_used(one(2)),
         dense_reduced_density => register(one(1)) && 2 * k <= cap_used(one(3)),
         mirror_lower_triangle | normalize_trace => fits(one(1), 1, 64),
         multiply_block_factor => {
@@ -124,6 +125,10 @@ fn site_from_rows(row_len: usize, chi: usize, physical_dim: usize, bond_right: u
 
 /// Answers 2 to 5, in list order.
 fn list_refusal(call: &Call) -> Option<(u32, u64)> {
+    // The lists 0..j of a profile are accepted, but for the one qubit of a register of one.
+    if call.entry == cut_profile {
+        return (call.one(1) == 1).then_some((5, 0));
+    }
     let at = list_of(call.entry)?;
     let list = call.words(at);
     let n = call.one(if at == 2 { 1 } else { at + 1 });
@@ -159,6 +164,7 @@ pub fn roles(call: &Call) -> Vec<Role> {
             vec![Free]
         }
         cut_rank | widest_block_cut => vec![],
+        cut_profile => profile_roles(call.one(1)),
         sqrt | sqrt_bits | sqrt_marked | magnitude | sign | is_finite | component_allowed | total_less | total_order
         | modulus => {
             vec![]
@@ -180,6 +186,21 @@ fn list_roles(call: &Call) -> Vec<Role> {
         }
         _ => vec![Exact(2 << n), Free, Output(2 << (2 * k)), Scratch(2 << k)],
     }
+}
+
+/// The page of the n - 1 cuts.
+fn profile_roles(n: usize) -> Vec<Role> {
+    let cuts = n - 1;
+    let values = (1..n).map(|k| 1 << k.min(n - k)).sum();
+    vec![
+        Exact(2 << n),
+        Output(2 * cuts),
+        Output(values),
+        Output(cuts),
+        Output(cuts),
+        Output(4 * cuts),
+        Scratch((8 << n) + (2 << (n / 2))),
+    ]
 }
 
 fn factor_roles(call: &Call) -> Vec<Role> {
@@ -257,6 +278,7 @@ fn checked(call: &Call) -> Vec<(usize, usize, Vec<usize>)> {
     match call.entry {
         cut_matrix
         | dense_schmidt_values
+        | cut_profile
         | dense_reduced_density
         | mirror_lower_triangle
         | normalize_trace

@@ -17,6 +17,7 @@ unsafe extern "C" {
     pub fn zg_smaller_side(list: *const usize, list_len: usize, n: usize, cap: usize, others: *mut usize, others_len: usize, place: *mut usize) -> u32;
     pub fn zg_cut_matrix(state: *const f64, state_len: usize, n: usize, list: *const usize, list_len: usize, cap: usize, out: *mut f64, out_len: usize, place: *mut usize) -> u32;
     pub fn zg_dense_schmidt_values(state: *const f64, state_len: usize, n: usize, list: *const usize, list_len: usize, cap: usize, out: *mut f64, out_len: usize, scratch: *mut f64, scratch_len: usize, place: *mut usize, count: *mut usize, sweeps: *mut usize, quiet: *mut bool, turned: *mut usize, exact: *mut bool) -> u32;
+    pub fn zg_cut_profile(state: *const f64, state_len: usize, n: usize, cap: usize, header: *mut usize, header_len: usize, values: *mut f64, values_len: usize, largest: *mut f64, largest_len: usize, ranks: *mut usize, ranks_len: usize, marks: *mut usize, marks_len: usize, scratch: *mut f64, scratch_len: usize, place: *mut usize) -> u32;
     pub fn zg_dense_reduced_density(state: *const f64, state_len: usize, n: usize, list: *const usize, list_len: usize, cap: usize, out: *mut f64, out_len: usize, scratch: *mut f64, scratch_len: usize, place: *mut usize) -> u32;
     pub fn zg_mirror_lower_triangle(rho: *mut f64, rho_len: usize, dim: usize, place: *mut usize) -> u32;
     pub fn zg_normalize_trace(rho: *mut f64, rho_len: usize, dim: usize, place: *mut usize) -> u32;
@@ -165,6 +166,8 @@ impl Ready<'_> {
             cut_matrix => ask!(has_zg_cut_matrix, zg_cut_matrix(f!(0), l!(0), one(1), w!(1), l!(1), one(3), f!(2), l!(2), p)),
             dense_schmidt_values => ask!(has_zg_dense_schmidt_values,
                 zg_dense_schmidt_values(f!(0), l!(0), one(1), w!(1), l!(1), one(3), f!(2), l!(2), f!(3), l!(3), p, v.cast(), s, q, t, e)),
+            cut_profile => ask!(has_zg_cut_profile,
+                zg_cut_profile(f!(0), l!(0), one(1), one(2), w!(1), l!(1), f!(2), l!(2), f!(3), l!(3), w!(4), l!(4), w!(5), l!(5), f!(6), l!(6), p)),
             dense_reduced_density => ask!(has_zg_dense_reduced_density,
                 zg_dense_reduced_density(f!(0), l!(0), one(1), w!(1), l!(1), one(3), f!(2), l!(2), f!(3), l!(3), p)),
             mirror_lower_triangle => ask!(has_zg_mirror_lower_triangle, zg_mirror_lower_triangle(f!(0), l!(0), one(1), p)),

@@ -1,0 +1,210 @@
+-- The list 0..j is accepted by a cut where j + 1 < n, and what its call then gives. Assumes nothing.
+use mathlib.Core.Path.{_≡_, refl, sym, ap, ap₂, _∙_}
+use mathlib.Core.Bool.{Bool, true, false, not, _||_}
+use mathlib.Core.List.{List, [], _∷_, _++_}
+use Prim.Native.Nat.{ℕ, zero, suc, _+_, _-_, _*_, _^_, _≤_, _<_, min}
+use native.Mathlib.Nat.{zero-add}
+use native.Mathlib.Omega.{arith}
+use borrow.Author.Tests.{ne-eqb, eq-eqb, eqb-true, eqb-false, ltb-false}
+use lib.Arith.{lt-of-le-ne}
+use lib.Dec.{ltb, eqb}
+use lib.ListN.{length, take, drop, getD, set, length-append, length-set}
+use lib.Seq.{take-at, take-length, take-append-le, getD-at, take-suc-set, take-set-le, take-append-seam}
+use lib.Ieee.{Float}
+use Rattle.answers.specs.declared.Answer.{Answer}
+use Rattle.answers.specs.declared.Answer.the-variants.{Done}
+use Rattle.answers.specs.Paper.{Reply, paper, done, refuse, after, andThen, ifDone, atEnd}
+use Rattle.answers.proofs.PaperLaws.{refuse-done, andThen-done, done-new, end-new}
+use Rattle.answers.proofs.Theorems.{paper-one}
+use Rattle.complex.specs.Cells.{components}
+use Rattle.complex.specs.Zeros.{zeros}
+use Rattle.qubits.specs.Lists.{stands, placesFrom, places, qubitSet, subsystem}
+use Rattle.cut_sides.specs.Sides.{cutSizes, cutRefusal}
+use Rattle.cut_naming.proofs.ReorderedLaws.{pass, places-pass}
+use Rattle.cut_values.specs.declared.CutCounted.{CutCounted}
+use Rattle.factored.specs.Factored.{keptSweeps}
+use Rattle.factored.proofs.Laws.{kept-done}
+use Rattle.finish.specs.Finish.{finishOf, padded}
+use Rattle.cut_values.specs.Schmidt.{cutRows, singularValues, cutSweeps, cutExact, cutValuesLengths, cutValuesRest, cutValuesTests, valuesReply, cutValuesAnswer, Schmidt}
+use Rattle.cut_values.proofs.SchmidtLaws.{lengths-good, cut-counted-one}
+use Rattle.profile_cut.specs.Cut.{firstQubits, cutList, roomAt, valuesAt, replyAt, resultAt, oneIf, marksOf, marksEach, CutRoom, AloneAt}
+
+-- ---- the first qubits
+
+pub length-first : (k : ℕ) → length (firstQubits k) ≡ k
+unfolding firstQubits
+length-first zero = refl
+length-first (suc k) = length-append (firstQubits k) (k ∷ []) ∙ omega (arith, length-first k)
+
+take-first : (d i : ℕ) → take i (firstQubits (d + i)) ≡ firstQubits i
+unfolding firstQubits
+take-first zero i =
+    let e : 0 + i ≡ i = omega arith in
+    rw e (ap (λ (x : ℕ). take x (firstQubits i)) (sym (length-first i)) ∙ take-length (firstQubits i))
+take-first (suc d) i =
+    let e : suc d + i ≡ suc (d + i) = omega arith in
+    rw e (take-append-le i (firstQubits (d + i)) ((d + i) ∷ []) (omega (arith, length-first (d + i))) ∙ take-first d i)
+
+getD-more : (l : List ℕ) (x i : ℕ) → i < length l → getD (l ++ x ∷ []) i 0 ≡ getD l i 0
+getD-more [] x i h = absurd (omega (arith, h))
+getD-more (y ∷ l) x zero h = refl
+getD-more (y ∷ l) x (suc i) h = getD-more l x i (omega (arith, h))
+
+getD-pick : (k i : ℕ) (b : Bool) → eqb i k ≡ b → i < suc k → (i < k → getD (firstQubits k) i 0 ≡ i) → getD (firstQubits k ++ k ∷ []) i 0 ≡ i
+getD-pick k i true e h f = let z : i ≡ k = eqb-true i k e in getD-at (firstQubits k) k [] 0 i (length-first k ∙ sym z) ∙ sym z
+getD-pick k i false e h f =
+    let z : i ≡ k → ⊥ = eqb-false i k e in
+    let l : i < k = lt-of-le-ne (omega arith) z in
+    getD-more (firstQubits k) k i (omega (arith, length-first k)) ∙ f l
+
+getD-first : (k i : ℕ) → i < k → getD (firstQubits k) i 0 ≡ i
+unfolding firstQubits
+getD-first zero i h = absurd (omega arith)
+getD-first (suc k) i h = getD-pick k i (eqb i k) refl h (λ l. getD-first k i l)
+
+or-none : (a b c : Bool) → (a || b) ≡ false → (b ≡ false → c ≡ false) → (a || c) ≡ false
+or-none true b c e f = e
+or-none false b c e f = f e
+
+stands-more : (q x : ℕ) (l : List ℕ) → stands q l ≡ false → (x ≡ q → ⊥) → stands q (l ++ x ∷ []) ≡ false
+unfolding stands
+stands-more q x [] e h = let z : eqb x q ≡ false = ne-eqb x q h in rw z
+stands-more q x (y ∷ l) e h = or-none (eqb y q) (stands q l) (stands q (l ++ x ∷ [])) e (λ g. stands-more q x l g h)
+
+stands-first : (q k : ℕ) → k ≤ q → stands q (firstQubits k) ≡ false
+unfolding firstQubits stands
+stands-first q zero h = refl
+stands-first q (suc k) h = stands-more q k (firstQubits k) (stands-first q k (omega arith)) (λ e. omega (arith, e))
+
+pub names-are : (j : ℕ) → j < 12 → take (j + 1) (0 ∷ 1 ∷ 2 ∷ 3 ∷ 4 ∷ 5 ∷ 6 ∷ 7 ∷ 8 ∷ 9 ∷ 10 ∷ 11 ∷ []) ≡ cutList j
+unfolding firstQubits
+names-are zero h = refl
+names-are (suc zero) h = refl
+names-are (suc (suc zero)) h = refl
+names-are (suc (suc (suc zero))) h = refl
+names-are (suc (suc (suc (suc zero)))) h = refl
+names-are (suc (suc (suc (suc (suc zero))))) h = refl
+names-are (suc (suc (suc (suc (suc (suc zero)))))) h = refl
+names-are (suc (suc (suc (suc (suc (suc (suc zero))))))) h = refl
+names-are (suc (suc (suc (suc (suc (suc (suc (suc zero)))))))) h = refl
+names-are (suc (suc (suc (suc (suc (suc (suc (suc (suc zero))))))))) h = refl
+names-are (suc (suc (suc (suc (suc (suc (suc (suc (suc (suc zero)))))))))) h = refl
+names-are (suc (suc (suc (suc (suc (suc (suc (suc (suc (suc (suc zero))))))))))) h = refl
+names-are (suc (suc (suc (suc (suc (suc (suc (suc (suc (suc (suc (suc j)))))))))))) h = absurd (omega (arith, h))
+
+-- ---- the cut is accepted
+
+-- what 1 leaves
+pub sizes-small : (n cap : ℕ) → cutSizes n cap .0 ≡ 0 → (1 ≤ n) × (n ≤ 12)
+sizes-small n cap e =
+    let a = refuse-done (ltb n 1) 0 0 _ e in
+    let b = refuse-done (ltb 12 n) 0 0 _ (a .1) in
+    (ltb-false n 1 (a .0), ltb-false 12 n (b .0))
+
+-- Past 1 the list 0..j is refused by none of 2 to 5 where j + 1 < n.
+pub first-accepted : (n cap j : ℕ) → cutSizes n cap .0 ≡ 0 → suc j < n → cutRefusal (cutList j) n cap .0 ≡ 0
+first-accepted n cap j s h =
+    let l = cutList j in
+    let len : length l ≡ suc j = length-first (suc j) in
+    let a = refuse-done (ltb n 1) 0 0 _ s in
+    let b = refuse-done (ltb 12 n) 0 0 _ (a .1) in
+    let each : (k : ℕ) → k < length l → (getD l k 0 < n) × (stands (getD l k 0) (take (0 + k) l) ≡ false) = λ k g.
+    let i : k < suc j = omega (arith, len, g) in
+    let e : getD l k 0 ≡ k = getD-first (suc j) k i in
+    let d : suc j - k + k ≡ suc j = omega arith in
+    let t : take k l ≡ firstQubits k = rw d at (take-first (suc j - k) k) in
+    let z : 0 + k ≡ k = omega arith in
+    (omega (arith, e), rw (e, z, t) (stands-first k k (omega arith))) in
+    let p : placesFrom n l 0 l ≡ done = places-pass n l 0 l each in
+    let y : eqb (length l) 0 ≡ false = ne-eqb (length l) 0 (λ e. omega (arith, len, e)) in
+    let w : eqb (length l) n ≡ false = ne-eqb (length l) n (λ e. omega (arith, len, e)) in
+    let q : qubitSet n l ≡ done = rw (a .0, b .0, p, y) in
+    let whole : refuse (eqb (length l) n) (5, 0) done .0 ≡ 0 = rw w in
+    ap (λ (x : Reply). x .0)
+    (pass (cutSizes n cap) (subsystem n l) s ∙ pass (qubitSet n l) (refuse (eqb (length l) n) (5, 0) done) (ap (λ (x : Reply). x .0) q))
+    ∙ whole
+
+pub rows-are : (n j : ℕ) → cutRows n (cutList j) ≡ roomAt n j
+rows-are n j = ap (λ (k : ℕ). 2 ^ min k (n - k)) (length-first (suc j))
+
+-- 1 to 7 do not refuse
+tests-pass : (s : List Float) (n j cap out scratch : ℕ) → CutRoom s n j cap out scratch → cutValuesTests s n (cutList j) cap out scratch .0 ≡ 0
+unfolding cutValuesTests cutValuesRest
+tests-pass s n j cap out scratch p =
+    let rows = cutRows n (cutList j) in
+    let e : rows ≡ roomAt n j = rows-are n j in
+    let a : cutRefusal (cutList j) n cap .0 ≡ 0 = first-accepted n cap j (p .sizes) (p .inside) in
+    let fits : 8 * 2 ^ n + 2 * rows ≤ scratch = omega (arith, e, p .scratch-fits) in
+    let room : rows ≤ out = omega (arith, e, p .out-fits) in
+    let lengths : done ≡ cutValuesLengths n rows (length s) out scratch = lengths-good n rows (length s) out scratch {cells = 2 ^ n} refl (p .state-is) room fits in
+    let b : cutValuesLengths n rows (length s) out scratch .0 ≡ 0 = ap (λ (x : Reply). x .0) (sym lengths) in
+    ap (λ (x : Reply). x .0)
+    (pass (cutRefusal (cutList j) n cap) (andThen (cutValuesLengths n rows (length s) out scratch) (components 0 s)) a
+    ∙ pass (cutValuesLengths n rows (length s) out scratch) (components 0 s) b)
+    ∙ p .allowed
+
+-- the call of cut j, by what it leaves
+pub alone-is : (s : List Float) (n j cap : ℕ) (out scratch : List Float) (r : CutCounted) {out' scratch' : List Float}
+    → cutValuesTests s n (cutList j) cap (length out) (length scratch) .0 ≡ 0
+    → Schmidt s n (cutList j) cap out scratch r out' scratch' → AloneAt s n j r out'
+unfolding cutValuesAnswer replyAt resultAt valuesAt padded
+alone-is s n j cap out scratch r {out'} t x =
+    let v = valuesReply (singularValues s n (cutList j)) in
+    let kept = finishOf (singularValues s n (cutList j)) in
+    let k = paper (r .answer) .0 in
+    let rows = cutRows n (cutList j) in
+    let more = zeros (rows - length kept) in
+    let tail = drop rows out in
+    let number : r .answer ≡ Done → k ≡ 0 = λ d. ap (λ (y : Answer). paper y .0) d in
+    let inside : length kept ≤ length (kept ++ more) = omega (arith, length-append kept more) in
+    record {
+      answer = x .answer ∙ pass (cutValuesTests s n (cutList j) cap (length out) (length scratch)) v t;
+      result = λ d.
+          cut-counted-one r _ d (x .count ∙ sym (done-new k (length kept) 0 (number d)))
+          (x .sweeps-are ∙ sym (kept-done (r .answer) (cutSweeps s n (cutList j)) d))
+          (x .exact-is ∙ sym (done-new k (cutExact s n (cutList j)) false (number d)));
+      values = λ d.
+          ap (take (length kept)) (x .out-is ∙ sym (end-new k (kept ++ more ++ tail) _ out (number d)))
+          ∙ take-append-le (length kept) (kept ++ more) tail inside
+          ∙ take-append-seam kept more;
+    }
+
+pub alone-made : (s : List Float) (n j cap : ℕ) (out scratch : List Float) (names : List ℕ) (r : CutCounted) {out' scratch' : List Float}
+    → CutRoom s n j cap (length out) (length scratch) → names ≡ cutList j
+    → Schmidt s n names cap out scratch r out' scratch' → AloneAt s n j r out'
+alone-made s n j cap out scratch names r p e x =
+    alone-is s n j cap out scratch r (tests-pass s n j cap (length out) (length scratch) p) (rw e at x)
+
+-- ---- the marks
+
+-- a place of a list stays one where a number is put
+pub in-set : (l : List ℕ) (i x k : ℕ) → k < length l → k < length (set l i x)
+in-set l i x k h = rw length-set h
+
+pub in-set-two : (l : List ℕ) (i x j y k : ℕ) → k < length l → k < length (set (set l i x) j y)
+in-set-two l i x j y k h = in-set (set l i x) j y k (in-set l i x k h)
+
+pub in-set-three : (l : List ℕ) (i x j y h z k : ℕ) → k < length l → k < length (set (set (set l i x) j y) h z)
+in-set-three l i x j y h z k g = in-set (set (set l i x) j y) h z k (in-set-two l i x j y k g)
+
+-- numbers put one after another
+put-four : (l : List ℕ) (k a b c d : ℕ) → k + 4 ≤ length l
+    → take (k + 4) (set (set (set (set l k a) (k + 1) b) (k + 2) c) (k + 3) d) ≡ take k l ++ a ∷ b ∷ c ∷ d ∷ []
+put-four [] k a b c d h = absurd (omega (arith, h))
+put-four (x ∷ []) zero a b c d h = absurd (omega (arith, h))
+put-four (x ∷ y ∷ []) zero a b c d h = absurd (omega (arith, h))
+put-four (x ∷ y ∷ z ∷ []) zero a b c d h = absurd (omega (arith, h))
+put-four (x ∷ y ∷ z ∷ w ∷ l) zero a b c d h = refl
+put-four (x ∷ l) (suc k) a b c d h =
+    let e : suc k + 1 ≡ suc (k + 1) = omega arith in
+    let f : suc k + 2 ≡ suc (k + 2) = omega arith in
+    let g : suc k + 3 ≡ suc (k + 3) = omega arith in
+    let i : suc k + 4 ≡ suc (k + 4) = omega arith in
+    rw (e, f, g, i) (ap (λ (q : List ℕ). x ∷ q) (put-four l k a b c d (omega (arith, h))))
+
+pub marks-put : (l : List ℕ) (j : ℕ) (r : CutCounted) {quiet exact : ℕ} → marksEach * j + marksEach ≤ length l → quiet ≡ oneIf (r .sweeps .quiet) → exact ≡ oneIf (r .exact)
+    → take (marksEach * suc j) (set (set (set (set l (4 * j) (r .sweeps .begun)) (4 * j + 1) quiet) (4 * j + 2) (r .sweeps .turned)) (4 * j + 3) exact)
+    ≡ take (marksEach * j) l ++ marksOf r
+marks-put l j r h e f =
+    let m : 4 * suc j ≡ 4 * j + 4 = omega arith in
+    rw (e, f, m) (put-four l (4 * j) (r .sweeps .begun) (oneIf (r .sweeps .quiet)) (r .sweeps .turned) (oneIf (r .exact)) h)

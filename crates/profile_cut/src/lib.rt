@@ -1,0 +1,47 @@
+// Inner: one cut of a chain, the qubits 0..j against the rest, and its marks.
+use cut_values::CutCounted;
+use sweeps::Sweeps;
+ghost use mathlib.Core.Path.{_≡_};
+ghost use mathlib.Core.List.{_++_};
+ghost use Prim.Native.Nat.{suc, _+_, _*_, _≤_};
+ghost use lib.ListN.{length, take};
+ghost use Rattle.profile_cut.specs.Cut.{oneIf, marksEach, marksOf, CutRoom, AloneAt};
+
+fn one_if(yes: bool) -> usize
+    ensures { λ r. ⌜ r ≡ oneIf yes ⌝ }
+{
+    if yes {
+        return 1;
+    }
+    0
+}
+
+// The marks of cut j, from what the call of that cut returned.
+pub fn put_marks(j: usize, result: CutCounted, marks: &mut [usize])
+    requires { ⌜ marksEach * j + marksEach ≤ length (now marks) ⌝ }
+    ensures { λ _. ⌜ take (marksEach * suc j) (now (marks .exit)) ≡ take (marksEach * j) (now (marks .entry)) ++ marksOf result ⌝ }
+{
+    let sweeps: Sweeps = result.sweeps;
+    let at = 4 * j;
+    marks[at] = sweeps.begun;
+    marks[at + 1] = one_if(sweeps.quiet);
+    marks[at + 2] = sweeps.turned;
+    marks[at + 3] = one_if(result.exact);
+}
+
+// Cut j, asked for alone: its values at the front of out.
+pub fn cut_alone(
+    state: &[f64],
+    n: usize,
+    j: usize,
+    cap: usize,
+    out: &mut [f64],
+    scratch: &mut [f64],
+) -> CutCounted
+    requires { ⌜ CutRoom (now state) n j cap (length (now out)) (length (now scratch)) ⌝ }
+    ensures { λ r. ⌜ AloneAt (now (state .entry)) n j r (now (out .exit)) ⌝ }
+{
+    let names = [0usize, 1, 2, 3, 4, 5, 6, 7, 8, 9, 10, 11];
+    let end = j + 1;
+    cut_values::dense_schmidt_values(state, n, &names[..end], cap, out, scratch)
+}

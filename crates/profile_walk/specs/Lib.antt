@@ -1,0 +1,2 @@
+-- What the contracts of `profile_walk` cite.
+pub mod Page
