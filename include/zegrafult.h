@@ -17,7 +17,7 @@
  * matrix as it was). Needed scratch is +0.0 after 0, 8 and 9. What is longer than needed is never touched past
  * the need. On any refusal a returned count, rank or base is 0 and a returned yes or no is no.
  *
- * The five calls that sweep (SVD, both of eigenvalues, both of Schmidt values) also store how many sweeps were begun, the
+ * The six calls that sweep (SVD, both of eigenvalues, both of Schmidt values, the entropy) also store how many sweeps were begun, the
  * quiet one included, whether the last was quiet, that is turned no pair, and how many pairs were turned in all. No means that
  * the work was given up at its cap of 100 sweeps (60 in zg_hermitian_eigenvalues and zg_schmidt_values_from_density); the results
  * are what the sweeps left. A single column gives 1 and yes; a quiet last sweep at the cap gives the cap and yes; a refusal 0, no
@@ -189,6 +189,13 @@ uint32_t zg_cut_profile(const double *state, size_t state_len, size_t n, size_t 
                         double *values, size_t values_len, double *largest, size_t largest_len, size_t *ranks,
                         size_t ranks_len, size_t *marks, size_t marks_len, double *scratch, size_t scratch_len,
                         size_t *place);
+/* Slices: state 0, list 1, bands 2 (3*2^side), scratch 3 (8*2^n + 2*2^side). bands: w, lo, hi of each weight left, falling, zeros past count.
+ * low, high: the sums of w*lo, w*hi; whole: 4096*W. Refused as dense_schmidt_values, and by 8 where no weight is left. Sweeps, quiet as
+ * there; turned: how many pairs were turned. A weight is the floor of a Schmidt value's exact square times 2^24, W their sum, and
+ * 2^lo * w^4096 <= W^4096 <= 2^hi * w^4096: the entropy of the weights in bits lies from low / whole to high / whole. */
+uint32_t zg_entropy_band(const double *state, size_t state_len, size_t n, const size_t *list, size_t list_len, size_t cap,
+                         size_t *bands, size_t bands_len, double *scratch, size_t scratch_len, size_t *place, size_t *count,
+                         uint64_t *low, uint64_t *high, uint64_t *whole, size_t *sweeps, bool *quiet, size_t *turned);
 
 /* ---- ranks and sites */
 

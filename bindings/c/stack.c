@@ -70,6 +70,11 @@ static void cut_values(void) {
 static void profile(void) {
     answer = zg_cut_profile(state, 2 * CELLS, 12, 13, header, 22, more, 188, out, 11, page_ranks, 11, marks, 44, scratch, 8 * CELLS + 128, &place);
 }
+static void entropy(void) {
+    static uint64_t sums[3];
+    answer = zg_entropy_band(state, 2 * CELLS, 12, six, 6, 13, offsets, 192, scratch, 8 * CELLS + 128, &place, &count, &sums[0], &sums[1],
+                             &sums[2], &sweeps, &quiet, &turned);
+}
 static void ranks(void) {
     answer = zg_truncated_svd_rank(factor, 64, 1e-3, 8, &place, &count) + zg_discards_resolvable_weight(factor, 64, 8, &place, &yes) +
              zg_cut_rank(4096, 4096, 4096, &place, &wide) + zg_widest_block_cut(4096, 4096, 16, &place, &wide);
@@ -111,6 +116,7 @@ static const struct {
              {"zg_hermitian_eigen", eigen, 16 * KB},
              {"zg_dense_schmidt_values", cut_values, 16 * KB},
              {"zg_cut_profile", profile, 16 * KB},
+             {"zg_entropy_band", entropy, 16 * KB},
              {"ranks", ranks, 16 * KB},
              {"the four fills", fills, 16 * KB},
              {"zg_chain_of_sites", chain, 16 * KB}};

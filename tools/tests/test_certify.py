@@ -303,7 +303,7 @@ class FirstUse(Case):
         self.edit('// killed\n')
         self.assertEqual(self.use().returncode, 3)
         # words after the count are the program's own
-        (self.path / 'program').write_text("#!/bin/sh\nprintf 'cut 2 1 2 2\\nside 0\\nvalue 0 3FF0000000000000\\nend 1 2 yes\\n'\n")
+        (self.path / 'program').write_text("#!/bin/sh\nprintf 'cut 2 1 2 2\\nside 0\\nvalue 0 3FF0000000000000\\nentropy 0 0 68719476736\\nend 1 2 yes\\n'\n")
         self.edit('// more words\n')
         self.assertEqual(self.use().returncode, 0)
 

@@ -9,7 +9,7 @@ import unittest
 import xml.etree.ElementTree as xml
 
 TOOLS = pathlib.Path(__file__).resolve().parents[1]
-PAPER = 'cut 4 2 4 4\nside 0 1\n' + ''.join(f'value {i} 3FE0000000000000\n' for i in range(4)) + 'end 4 1 yes\n'
+PAPER = 'cut 4 2 4 4\nside 0 1\n' + ''.join(f'value {i} 3FE0000000000000\n' for i in range(4)) + 'entropy 137438953472 137438953472 68719476736\nend 4 1 yes\n'
 
 
 def run(tool, *words, text=None):
@@ -158,6 +158,16 @@ class Read(Case):
         self.assertIn('   0  0.5                     0.25                    ##########\n', done.stdout)
         self.assertIn('Rank 4, effective rank 4.0000, weights sum to 1.0', done.stdout)
         self.assertIn('Sweeps: 1, the last one quiet: it turned no pair', done.stdout)
+        self.assertIn('Entropy of the weights: 2 bits, exactly.', done.stdout)
+
+    def test_entropy_has_no_more_digits_than_its_band(self):
+        done = run('read', text=PAPER.replace('137438953472 137438953472', '63105000000 63106000000'))
+        self.assertEqual(done.returncode, 0, done.stderr)
+        self.assertIn('Entropy of the weights: 0.918 bits and less', done.stdout)
+        done = run('read', text=PAPER.replace('entropy 137438953472 137438953472 68719476736\n', ''))
+        self.assertEqual(done.returncode, 0, done.stderr)
+        self.assertNotIn('Entropy', done.stdout)
+        self.assertEqual(run('read', text=PAPER.replace('entropy 137438953472 ', 'entropy ')).returncode, 1)
 
     def test_sweeps_given_up(self):
         done = run('read', '--svg', self.path / 'a.svg', text=PAPER.replace('1 yes', '100 no'))

@@ -7,6 +7,10 @@ that is tested. Python's floats are binary64 and its square root is rounded once
 """
 import math, os, random, struct, sys
 
+sys.dont_write_bytecode = True
+sys.path.insert(0, os.path.dirname(os.path.abspath(__file__)))
+import entropy  # noqa: E402
+
 # ---- the model: a file's bytes to the text that is printed
 
 
@@ -170,6 +174,8 @@ def printout(file):
     smaller = named if k == side else [q for q in range(n) if q not in named]
     lines = ['cut %d %d %d %d' % (n, k, 2 ** side, 2 ** (n - side)), ' '.join(['side'] + [str(q) for q in smaller])]
     lines += ['value %d %016X' % (i, struct.unpack('<Q', struct.pack('<d', v))[0]) for i, v in enumerate(values)]
+    _, low, high, whole = entropy.bands_of([struct.unpack('<Q', struct.pack('<d', v))[0] for v in values])
+    lines.append('entropy %d %d %d' % (low, high, whole))
     return '\n'.join(lines + ['end %d %d %s' % (len(values), begun, 'yes' if quiet else 'no')]) + '\n'
 
 

@@ -217,6 +217,26 @@ extern "C" {
         scratch_len: usize,
         place: &mut usize,
     ) -> u32;
+    pub fn zg_entropy_band(
+        state: *const f64,
+        state_len: usize,
+        n: usize,
+        list: *const usize,
+        list_len: usize,
+        cap: usize,
+        bands: *mut usize,
+        bands_len: usize,
+        scratch: *mut f64,
+        scratch_len: usize,
+        place: &mut usize,
+        count: &mut usize,
+        low: &mut u64,
+        high: &mut u64,
+        whole: &mut u64,
+        sweeps: &mut usize,
+        quiet: &mut bool,
+        turned: &mut usize,
+    ) -> u32;
     pub fn zg_truncated_svd_rank(
         values: *const f64,
         values_len: usize,

@@ -116,6 +116,69 @@ pub fn cut_profile(state: &[Complex], n: usize, cap: usize) -> Result<Profile, R
     answered(number, place, Profile { cuts: (0..cuts).map(cut).collect(), largest, ranks })
 }
 
+/// A weight of an entropy's band, and its ends: 2^lo·w^4096 ≤ W^4096 ≤ 2^hi·w^4096, W the sum of the weights.
+#[derive(Clone, Copy, Debug, PartialEq, Eq)]
+pub struct Band {
+    pub weight: usize,
+    pub lo: usize,
+    pub hi: usize,
+}
+
+/// The entropy of a cut as a band: its weights left, falling, the sums of w·lo and w·hi, and 4096·W. In bits it lies from
+/// `low` / `whole` to `high` / `whole`. `turned` pairs were turned.
+#[derive(Clone, Debug, PartialEq, Eq)]
+pub struct Entropy {
+    pub bands: Vec<Band>,
+    pub low: u64,
+    pub high: u64,
+    pub whole: u64,
+    pub sweeps: usize,
+    pub quiet: bool,
+    pub turned: usize,
+}
+
+/// The entropy of the cut's Schmidt values as whole numbers; a weight is the floor of a value's exact square times 2^24.
+///
+/// ```
+/// use zegrafult::{entropy_band, Complex};
+/// let half = Complex { re: 0.5, im: 0.0 };
+/// let found = entropy_band(&[half, half, half, Complex { re: -0.5, im: 0.0 }], 2, &[0], 13)?;
+/// assert_eq!((found.low, found.high), (found.whole, found.whole)); // one bit
+/// # Ok::<(), zegrafult::Refusal>(())
+/// ```
+pub fn entropy_band(state: &[Complex], n: usize, list: &[usize], cap: usize) -> Result<Entropy, Refusal> {
+    let side = list.len().min(n.saturating_sub(list.len()));
+    let mut cells = vec![0usize; 3 * power(side)];
+    let mut scratch = vec![0.0; 8 * power(n) + 2 * power(side)];
+    let (mut place, mut count, mut sweeps, mut quiet, mut turned) = (0, 0, 0, false, 0);
+    let (mut low, mut high, mut whole) = (0, 0, 0);
+    let (s, s_len) = numbers_of(state);
+    let number = unsafe {
+        ffi::zg_entropy_band(
+            s,
+            s_len,
+            n,
+            list.as_ptr(),
+            list.len(),
+            cap,
+            cells.as_mut_ptr(),
+            cells.len(),
+            scratch.as_mut_ptr(),
+            scratch.len(),
+            &mut place,
+            &mut count,
+            &mut low,
+            &mut high,
+            &mut whole,
+            &mut sweeps,
+            &mut quiet,
+            &mut turned,
+        )
+    };
+    let bands = cells.chunks(3).take(count).map(|c| Band { weight: c[0], lo: c[1], hi: c[2] }).collect();
+    answered(number, place, Entropy { bands, low, high, whole, sweeps, quiet, turned })
+}
+
 /// Sorted downward, cut at the floor, scaled to unit length.
 ///
 /// ```

@@ -21,6 +21,8 @@ use Rattle.qubits.proofs.OtherLaws.{others-length}
 use Rattle.cut_sides.specs.declared.Sides.{Sides}
 use Rattle.cut_sides.specs.Sides.{cutRefusal, Parted, side, namedRows, sidesOf, sideList, othersShort, sideAnswer, SmallerSide, sidePart}
 use Rattle.cut_sides.proofs.SideLaws.{is-parted, part-of-side}
+use Rattle.entropy_totals.specs.declared.Totals.{Totals}
+use Rattle.entropy_totals.specs.Totals.{totalsOf}
 use Rattle.certificates.specs.Accepted.{Printable, acceptedText, Printed}
 
 -- ---- an accepted cut
@@ -47,11 +49,12 @@ side-short l n p = go (namedRows l n)
     go true = p .listed .short
     go false = omega (arith, others-length n l (p .listed))
 
-pub accepted-is : (n : ℕ) (list : List ℕ) (values : List Float) (sweeps : ℕ) (quiet : Bool) (cut : Sides) (part : List ℕ) → cut ≡ sidesOf list n → part ≡ sideList list n
-    → listing n (length list) (cut .rows) (cut .columns) part values sweeps quiet ≡ acceptedText n list values sweeps quiet
+pub accepted-is : (n : ℕ) (list : List ℕ) (values : List Float) (sweeps : ℕ) (quiet : Bool) (cut : Sides) (part : List ℕ) (t : Totals) → cut ≡ sidesOf list n → part ≡ sideList list n → t ≡ totalsOf values
+    → listing n (length list) (cut .rows) (cut .columns) part values (t .low) (t .high) (t .whole) sweeps quiet ≡ acceptedText n list values sweeps quiet
 unfolding acceptedText
-accepted-is n list values sweeps quiet cut part e f =
-    ap₂ (λ (c : Sides) (p : List ℕ). listing n (length list) (c .rows) (c .columns) p values sweeps quiet) e f
+accepted-is n list values sweeps quiet cut part t e f g =
+    ap₂ (λ (c : Sides) (p : List ℕ). listing n (length list) (c .rows) (c .columns) p values (t .low) (t .high) (t .whole) sweeps quiet) e f
+    ∙ ap (λ (s : Totals). listing n (length list) (2 ^ side list n) (2 ^ (n - side list n)) (sideList list n) values (s .low) (s .high) (s .whole) sweeps quiet) g
 
 pub accepted-short : (n : ℕ) (list : List ℕ) (values : List Float) (sweeps : ℕ) (quiet : Bool) → Printable list n values
     → length (acceptedText n list values sweeps quiet) ≤ 2048
@@ -59,7 +62,7 @@ unfolding acceptedText
 accepted-short n list values sweeps quiet a =
     omega (
       arith,
-      length-listing n (length list) (2 ^ side list n) (2 ^ (n - side list n)) (sideList list n) values sweeps quiet,
+      length-listing n (length list) (2 ^ side list n) (2 ^ (n - side list n)) (sideList list n) values (totalsOf values .low) (totalsOf values .high) (totalsOf values .whole) sweeps quiet,
       side-short list n (is-parted list n 10 (a .taken)),
       a .small,
       a .few,

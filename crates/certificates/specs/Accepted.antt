@@ -8,10 +8,12 @@ use lib.ListN.{length}
 use Rattle.cut_sides.specs.Sides.{cutRefusal, side, sideList}
 use Rattle.texts.specs.Text.{Puts}
 use Rattle.lines.specs.Lines.{listing}
+use Rattle.entropy_totals.specs.Totals.{totalsOf}
 
--- n, k, rows and columns; the smaller side's list; the values; how many they are, how many sweeps were begun, whether the last was quiet
+-- n, k, rows and columns; the smaller side's list; the values; the sums of their entropy's band; how many they are, how many sweeps were begun, whether the last was quiet
 unfoldable pub acceptedText : ℕ → List ℕ → List Float → ℕ → Bool → List ℕ
-acceptedText n list values sweeps quiet = listing n (length list) (2 ^ side list n) (2 ^ (n - side list n)) (sideList list n) values sweeps quiet
+acceptedText n list values sweeps quiet =
+    listing n (length list) (2 ^ side list n) (2 ^ (n - side list n)) (sideList list n) values (totalsOf values .low) (totalsOf values .high) (totalsOf values .whole) sweeps quiet
 
 -- what these lines ask: a cut that is not refused by 1 to 5, and the values that a cut of 9 qubits can have
 pub record Printable (list : List ℕ) (n : ℕ) (values : List Float) : Type 0 where

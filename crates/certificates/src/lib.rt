@@ -23,6 +23,7 @@ pub fn put_accepted(
     cut_sides::smaller_side(list, n, 10, &mut others);
     let cut = cut_sides::sides_of(list, n);
     let side = cut_sides::side_part(list, n, 10, &others);
+    let sums = entropy_totals::totals_of(values);
     lines::put_listing(
         out,
         n,
@@ -31,6 +32,9 @@ pub fn put_accepted(
         cut.columns,
         side,
         values,
+        sums.low as usize,
+        sums.high as usize,
+        sums.whole as usize,
         sweeps,
         quiet,
     )

@@ -1,3 +1,4 @@
 -- The laws, and what the functions' proofs share.
 pub mod SchmidtLaws
+pub mod Few
 pub mod Theorems

@@ -229,7 +229,7 @@ module _ (values old : List Float) (b : Bool) (f : b ≡ allFinite values) where
   finished-bad end h e = record { answer = sym (tested false h); count = refl; out-is = e; exact-is = refl }
 
 -- 0, 8 or 9
-values-number : (values : List Float) → Ended (valuesReply values .0)
+pub values-number : (values : List Float) → Ended (valuesReply values .0)
 unfolding valuesReply
 values-number values = nine-ended (allFinite values) (finishReply values) (reply-worked (sortedDown values))
 
@@ -271,7 +271,7 @@ places-small n l i (q ∷ m) =
 done-small : (t : Bool) (k p : ℕ) → k < 8 → refuse t (k, p) done .0 < 8
 done-small t k p h = refuse-small t k p done h (omega arith)
 
-cut-small : (l : List ℕ) (n cap : ℕ) → cutRefusal l n cap .0 < 8
+pub cut-small : (l : List ℕ) (n cap : ℕ) → cutRefusal l n cap .0 < 8
 cut-small l n cap =
     let one : 1 < 8 = omega arith in
     let reg : (b : Reply) → b .0 < 8 → refuse (ltb n 1) (1, 0) (refuse (ltb 12 n) (1, 0) b) .0 < 8

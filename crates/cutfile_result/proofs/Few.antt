@@ -1,8 +1,7 @@
 -- How many values a file can have, and that they stand at the front. Assumes nothing.
 use mathlib.Core.Path.{_≡_, sym, ap₂, _∙_}
-use mathlib.Core.Logic.{⊎-elim}
 use mathlib.Core.List.{List, _++_}
-use Prim.Native.Nat.{ℕ, zero, suc, _-_, _≤_, _<_}
+use Prim.Native.Nat.{ℕ, zero, suc, _-_, _≤_}
 use native.Mathlib.Nat.{min-le-left, min-le-right}
 use native.Mathlib.Omega.{arith}
 use lib.Ieee.{Float}
@@ -11,48 +10,19 @@ use lib.Pow.{pow-mono}
 use lib.Seq.{take-append-le, take-append-seam}
 use Rattle.answers.specs.Paper.{ifDone}
 use Rattle.answers.proofs.PaperLaws.{andThen-done, done-new, end-new}
-use Rattle.submasks.proofs.SubmaskLaws.{le-or-lt}
 use Rattle.complex.specs.Zeros.{zeros, zeroed}
 use Rattle.cut_sides.specs.Sides.{cutRefusal, side}
-use Rattle.svd_load.proofs.NumbersLaws.{length-numbers}
-use Rattle.svd_columns.specs.Columns.{sortedOf}
-use Rattle.values.specs.Lists.{keptAbove}
-use Rattle.values.proofs.ListLaws.{length-scaled, kept-le}
-use Rattle.values.specs.Sort.{sortedDown}
-use Rattle.values.proofs.SortLaws.{length-sort}
 use Rattle.cutfile.specs.Bytes.{word32}
 use Rattle.cutfile.specs.Layout.{headerAnswer, LongEnough, fileEntry}
 use Rattle.cutfile.proofs.LayoutLaws.{accepted}
 use Rattle.decode.specs.Tables.{filled}
 use Rattle.decode.proofs.TablesLaws.{take-filled}
-use Rattle.finish.specs.Finish.{floorOf, normalised, keptValues, finishSorted, finishOf, padded}
+use Rattle.finish.specs.Finish.{padded}
 use Rattle.sweeps.specs.Sweeping.{noSweeps}
-use Rattle.svd_thin.specs.Thin.{valuesOf}
-use Rattle.svd.specs.Svd.{sideOf, sOf}
-use Rattle.svd.proofs.SvdLaws.{side-wide, side-tall}
-use Rattle.cut_values.specs.Schmidt.{cutRows, cutColumns, singularValues, cutValuesRest, cutValuesTests, valuesReply, cutValuesAnswer}
-use Rattle.cut_values.proofs.SchmidtLaws.{same-le}
+use Rattle.cut_values.specs.Schmidt.{cutRows, singularValues, cutValuesRest, cutValuesTests, valuesReply, cutValuesAnswer}
+use Rattle.cut_values.proofs.Few.{few-left, few-singular}
 use Rattle.cutfile_result.specs.declared.CutResult.{CutResult}
 use Rattle.cutfile_result.specs.Result.{stateOf, cutReply, valuesAt, libraryReply, fileReply, fileList, fileValues, fileSweeps, Result}
-
-length-of-scaled : (l : List Float) → length (normalised l) ≡ length l
-unfolding normalised
-length-of-scaled l = length-scaled _ l
-
-few-left : (values : List Float) → length (finishOf values) ≤ length values
-unfolding finishSorted keptValues
-few-left values =
-    let s = sortedDown values in
-    omega (arith, length-of-scaled (keptAbove (floorOf s) s), kept-le (floorOf s) s, length-sort values (length values))
-
--- no more than the first of two sizes
-side-first : (m k : ℕ) → sideOf m k ≤ m
-side-first m k =
-    ⊎-elim (λ (h : k ≤ m). omega (arith, side-tall m k h .0)) (λ (h : m < k). omega (arith, side-wide m k h .0)) (le-or-lt k m)
-
-few-singular : (s : List Float) (n : ℕ) (l : List ℕ) → length (singularValues s n l) ≤ cutRows n l
-unfolding singularValues sOf valuesOf sortedOf
-few-singular s n l = same-le (length-numbers (sideOf (cutRows n l) (cutColumns n l)) _) (side-first (cutRows n l) (cutColumns n l))
 
 -- a file's cut has at most 16 rows
 pub few-rows : (n : ℕ) (l : List ℕ) → n ≤ 9 → cutRows n l ≤ 16

@@ -53,6 +53,9 @@ use Rattle.cut_values.specs.declared.CutCounted.{CutCounted}
 use Rattle.cut_values.proofs.Theorems.{dense-schmidt-values-one}
 use Rattle.profiles.specs.Profile.{CutProfile}
 use Rattle.profiles.proofs.Theorems.{cut-profile-one}
+use Rattle.entropy_bands.specs.declared.Entropy.{Entropy}
+use Rattle.entropy_bands.specs.Bands.{EntropyBand}
+use Rattle.entropy_bands.proofs.Theorems.{entropy-band-one}
 use Rattle.site_ranks.specs.declared.CutRank.{CutRank}
 use Rattle.site_ranks.specs.Ranks.{Ranked}
 use Rattle.site_ranks.proofs.Theorems.{ranked-one}
@@ -234,6 +237,14 @@ pub zg-fill-one : (reply : Reply) (cells : ℕ) (f : ℕ → Complex) (out : Lis
     → (number ≡ number') × (place ≡ place') × (out' ≡ out″)
 zg-fill-one reply cells f out out' out″ =
     exported-one (λ x y c d. let e = fill-one reply cells f out x y out' out″ c d in (e .0, e .1))
+
+-- Only one outcome meets the contract of `zg_entropy_band`.
+pub zg-entropy-band-one : (state : List Float) (n : ℕ) (l : List ℕ) (cap : ℕ) (bands : List ℕ) (scratch : List Float) (bands' bands″ : List ℕ) (scratch' scratch″ : List Float) {number place number' place' : ℕ} {value value' : ℕ × ℕ × ℕ × ℕ × ℕ × Bool × ℕ}
+    → ExportedWith {R = Entropy} {W = ℕ × ℕ × ℕ × ℕ × ℕ × Bool × ℕ} (λ k. k .answer) (λ k. (k .count, k .low, k .high, k .whole, k .sweeps .begun, k .sweeps .quiet, k .sweeps .turned)) (λ k. EntropyBand state n l cap bands scratch k bands' scratch') number place value
+    → ExportedWith {R = Entropy} {W = ℕ × ℕ × ℕ × ℕ × ℕ × Bool × ℕ} (λ k. k .answer) (λ k. (k .count, k .low, k .high, k .whole, k .sweeps .begun, k .sweeps .quiet, k .sweeps .turned)) (λ k. EntropyBand state n l cap bands scratch k bands″ scratch″) number' place' value'
+    → (number ≡ number') × (place ≡ place') × (value ≡ value') × ((bands' ≡ bands″) × (scratch' ≡ scratch″))
+zg-entropy-band-one state n l cap bands scratch bands' bands″ scratch' scratch″ =
+    exported-with-one (λ k l' c d. let e = entropy-band-one state n l cap bands scratch k l' bands' bands″ scratch' scratch″ c d in (ap (λ (x : Entropy). x .answer) (e .0), ap (λ (x : Entropy). (x .count, x .low, x .high, x .whole, x .sweeps .begun, x .sweeps .quiet, x .sweeps .turned)) (e .0), (e .1, e .2)))
 
 -- Only one outcome meets the contract of `zg_countersign`.
 pub zg-countersign-one : (a : List Float) (m n : ℕ) (u s vt : List Float) (tolerance : ℕ) {number place number' place' : ℕ} {value value' : Verdict}

@@ -49,6 +49,8 @@ ghost use Rattle.hermitian_eigen.specs.Hermitian.{Eigen};
 ghost use Rattle.cut_values.specs.Schmidt.{Schmidt};
 ghost use Rattle.profiles.specs.Profile.{CutProfile};
 ghost use Rattle.cut_values.specs.declared.CutCounted.{CutCounted};
+ghost use Rattle.entropy_bands.specs.declared.Entropy.{Entropy};
+ghost use Rattle.entropy_bands.specs.Bands.{EntropyBand};
 
 // ---- numbers: nothing is refused
 
@@ -510,6 +512,41 @@ pub extern "C" fn zg_cut_profile(
         ),
         place,
     )
+}
+
+#[no_mangle]
+pub extern "C" fn zg_entropy_band(
+    state: &[f64],
+    n: usize,
+    list: &[usize],
+    cap: usize,
+    bands: &mut [usize],
+    scratch: &mut [f64],
+    place: &mut usize,
+    count: &mut usize,
+    low: &mut u64,
+    high: &mut u64,
+    whole: &mut u64,
+    sweeps: &mut usize,
+    quiet: &mut bool,
+    turned: &mut usize,
+) -> u32
+    ensures { λ r. ⌜ ExportedWith {R = Entropy} {W = ℕ × ℕ × ℕ × ℕ × ℕ × Bool × ℕ} (λ k. k .answer)
+        (λ k. (k .count, k .low, k .high, k .whole, k .sweeps .begun, k .sweeps .quiet, k .sweeps .turned))
+        (λ k. EntropyBand (now (state .entry)) n (now (list .entry)) cap (now (bands .entry)) (now (scratch .entry)) k (now (bands .exit)) (now (scratch .exit)))
+        r (now (place .exit)) (now (count .exit), now (low .exit), now (high .exit), now (whole .exit), now (sweeps .exit), now (quiet .exit), now (turned .exit)) ⌝ }
+{
+    let k = entropy_bands::entropy_band(state, n, list, cap, bands, scratch);
+    *count = k.count;
+    *low = k.low;
+    *high = k.high;
+    *whole = k.whole;
+    let t = k.sweeps;
+    *sweeps = t.begun;
+    *quiet = t.quiet;
+    *turned = t.turned;
+    let answer = k.answer;
+    told::told(answer, place)
 }
 
 // ---- ranks and sites

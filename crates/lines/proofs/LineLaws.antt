@@ -10,7 +10,7 @@ use lib.Ieee.{Float, nan, binary64, toBits}
 use Rattle.answers.specs.Paper.{Reply}
 use Rattle.texts.specs.Text.{Puts, hex, itemText, pairLine}
 use Rattle.texts.proofs.TextLaws.{puts-then, puts-as, puts-none, length-puts, length-hex, length-item, length-pair}
-use Rattle.lines.specs.Lines.{cutWord, sideWord, valueWord, endWord, refusedWord, blank, refusedLine, cutLine, valueLine, items, sideLine, valueLines, quietText, endLine, listing}
+use Rattle.lines.specs.Lines.{cutWord, sideWord, valueWord, entropyWord, endWord, refusedWord, blank, refusedLine, cutLine, valueLine, items, sideLine, valueLines, quietText, endLine, entropyLine, lastLines, listing}
 
 pub length-items : (m : ℕ) (l : List ℕ) → length (items m l) ≤ 21 * m
 unfolding items
@@ -102,22 +102,32 @@ length-end count sweeps quiet =
       length-quiet quiet,
     )
 
-pub length-listing : (n k rows cols : ℕ) (side : List ℕ) (values : List Float) (sweeps : ℕ) (quiet : Bool)
-    → length (listing n k rows cols side values sweeps quiet) ≤ 143 + 21 * length side + 64 * length values
+pub length-entropy : (low high whole : ℕ) → length (entropyLine low high whole) ≤ 71
+unfolding entropyLine
+length-entropy low high whole =
+    omega (arith, length-append (itemText entropyWord low) (pairLine blank high whole), length-item entropyWord low, length-pair blank high whole)
+
+pub length-last : (low high whole count sweeps : ℕ) (quiet : Bool) → length (lastLines low high whole count sweeps quiet) ≤ 121
+unfolding lastLines
+length-last low high whole count sweeps quiet =
+    omega (arith, length-append (entropyLine low high whole) (endLine count sweeps quiet), length-entropy low high whole, length-end count sweeps quiet)
+
+pub length-listing : (n k rows cols : ℕ) (side : List ℕ) (values : List Float) (low high whole sweeps : ℕ) (quiet : Bool)
+    → length (listing n k rows cols side values low high whole sweeps quiet) ≤ 214 + 21 * length side + 64 * length values
 unfolding listing
-length-listing n k rows cols side values sweeps quiet =
+length-listing n k rows cols side values low high whole sweeps quiet =
     let u = cutLine n k rows cols in
     let v = sideLine side in
     let w = valueLines (length values) values in
     omega (
       arith,
-      length-append (u ++ v ++ w) (endLine (length values) sweeps quiet),
+      length-append (u ++ v ++ w) (lastLines low high whole (length values) sweeps quiet),
       length-append (u ++ v) w,
       length-append u v,
       length-cut n k rows cols,
       length-side side,
       length-values (length values) values,
-      length-end (length values) sweeps quiet,
+      length-last low high whole (length values) sweeps quiet,
     )
 
 pub length-refused : (r : Reply) → length (refusedLine r) ≤ 50

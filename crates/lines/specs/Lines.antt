@@ -7,7 +7,7 @@ use lib.ListN.{length, getD}
 use Rattle.answers.specs.Paper.{Reply}
 use Rattle.texts.specs.Text.{hex, itemText, pairLine}
 
--- the words as bytes: `cut `, `side`, `value `, `end `, `refused `, and a blank
+-- the words as bytes: `cut `, `side`, `value `, `entropy `, `end `, `refused `, and a blank
 abbrev pub cutWord : List ℕ
 cutWord = 99 ∷ 117 ∷ 116 ∷ 32 ∷ []
 
@@ -16,6 +16,9 @@ sideWord = 115 ∷ 105 ∷ 100 ∷ 101 ∷ []
 
 abbrev pub valueWord : List ℕ
 valueWord = 118 ∷ 97 ∷ 108 ∷ 117 ∷ 101 ∷ 32 ∷ []
+
+abbrev pub entropyWord : List ℕ
+entropyWord = 101 ∷ 110 ∷ 116 ∷ 114 ∷ 111 ∷ 112 ∷ 121 ∷ 32 ∷ []
 
 abbrev pub endWord : List ℕ
 endWord = 101 ∷ 110 ∷ 100 ∷ 32 ∷ []
@@ -68,8 +71,18 @@ unfoldable pub endLine : ℕ → ℕ → Bool → List ℕ
 unfolding itemText quietText
 endLine count sweeps quiet = itemText endWord count ++ itemText blank sweeps ++ quietText quiet
 
+-- `entropy low high whole`: the sums of w*lo and of w*hi, and 4096 times the sum of the weights
+unfoldable pub entropyLine : ℕ → ℕ → ℕ → List ℕ
+unfolding itemText pairLine
+entropyLine low high whole = itemText entropyWord low ++ pairLine blank high whole
+
+-- the last two lines
+unfoldable pub lastLines : ℕ → ℕ → ℕ → ℕ → ℕ → Bool → List ℕ
+unfolding entropyLine endLine
+lastLines low high whole count sweeps quiet = entropyLine low high whole ++ endLine count sweeps quiet
+
 -- all that is printed of a cut that is answered 0
-unfoldable pub listing : ℕ → ℕ → ℕ → ℕ → List ℕ → List Float → ℕ → Bool → List ℕ
-unfolding cutLine sideLine valueLines endLine
-listing n k rows cols side values sweeps quiet =
-    cutLine n k rows cols ++ sideLine side ++ valueLines (length values) values ++ endLine (length values) sweeps quiet
+unfoldable pub listing : ℕ → ℕ → ℕ → ℕ → List ℕ → List Float → ℕ → ℕ → ℕ → ℕ → Bool → List ℕ
+unfolding cutLine sideLine valueLines lastLines
+listing n k rows cols side values low high whole sweeps quiet =
+    cutLine n k rows cols ++ sideLine side ++ valueLines (length values) values ++ lastLines low high whole (length values) sweeps quiet

@@ -6,7 +6,7 @@ ghost use Prim.Native.Nat.{_+_, _*_, _≤_};
 ghost use lib.ListN.{length};
 ghost use Rattle.answers.specs.Paper.{paper};
 ghost use Rattle.texts.specs.Text.{Puts};
-ghost use Rattle.lines.specs.Lines.{refusedLine, cutLine, valueLine, items, sideLine, valueLines, quietText, endLine, listing};
+ghost use Rattle.lines.specs.Lines.{refusedLine, cutLine, valueLine, items, sideLine, valueLines, quietText, endLine, entropyLine, lastLines, listing};
 
 // Puts the one line of a refusal.
 pub fn put_refused(out: &mut [u8], answer: Answer) -> usize
@@ -97,6 +97,33 @@ pub fn put_end(out: &mut [u8], at: usize, count: usize, sweeps: usize, quiet: bo
     put_quiet(out, past_sweeps, quiet)
 }
 
+// Puts the line of the entropy's band: its two sums, and 4096 times the sum of the weights.
+fn put_entropy(out: &mut [u8], at: usize, low: usize, high: usize, whole: usize) -> usize
+    requires { ⌜ at + 71 ≤ length (now out) ⌝ }
+    ensures { λ r. ⌜ Puts at (entropyLine low high whole) (now (out .entry)) r (now (out .exit)) ⌝ }
+{
+    let past_low = texts::put_item(out, at, b"entropy ", low);
+    texts::put_pair_line(out, past_low, b" ", high, whole)
+}
+
+// Puts the last two lines.
+fn put_last(
+    out: &mut [u8],
+    at: usize,
+    low: usize,
+    high: usize,
+    whole: usize,
+    count: usize,
+    sweeps: usize,
+    quiet: bool,
+) -> usize
+    requires { ⌜ at + 121 ≤ length (now out) ⌝ }
+    ensures { λ r. ⌜ Puts at (lastLines low high whole count sweeps quiet) (now (out .entry)) r (now (out .exit)) ⌝ }
+{
+    let last = put_entropy(out, at, low, high, whole);
+    put_end(out, last, count, sweeps, quiet)
+}
+
 // Puts the whole printout of a cut that is answered 0.
 pub fn put_listing(
     out: &mut [u8],
@@ -106,14 +133,17 @@ pub fn put_listing(
     cols: usize,
     side: &[usize],
     values: &[f64],
+    low: usize,
+    high: usize,
+    whole: usize,
     sweeps: usize,
     quiet: bool,
 ) -> usize
-    requires { ⌜ 143 + 21 * length (now side) + 64 * length (now values) ≤ length (now out) ⌝ }
-    ensures { λ r. ⌜ Puts 0 (listing n k rows cols (now (side .entry)) (now (values .entry)) sweeps quiet) (now (out .entry)) r (now (out .exit)) ⌝ }
+    requires { ⌜ 214 + 21 * length (now side) + 64 * length (now values) ≤ length (now out) ⌝ }
+    ensures { λ r. ⌜ Puts 0 (listing n k rows cols (now (side .entry)) (now (values .entry)) low high whole sweeps quiet) (now (out .entry)) r (now (out .exit)) ⌝ }
 {
     let second = put_cut(out, 0, n, k, rows, cols);
     let third = put_side(out, second, side);
     let last = put_values(out, third, values);
-    put_end(out, last, values.len(), sweeps, quiet)
+    put_last(out, last, low, high, whole, values.len(), sweeps, quiet)
 }

@@ -26,14 +26,17 @@ slice-aggregate-side-part c = search needs
 side-part-requires : tie.Need-side-part-requires
 side-part-requires c κs = search needs
 
+totals-of-requires : tie.Need-totals-of-requires
+totals-of-requires c κs = omega (arith, c .before .before .before .before .before .before .before .before .before .pre .0 .few)
+
 put-listing-requires : tie.Need-put-listing-requires
-put-listing-requires c κs = let a = c .before .before .before .before .before .before .before .before .before .before .pre .0 in let l = now (c .before .before .before .before .before .before .before .before .before .before .args .list) in let e = part-is _ _ _ (c .before .before .before .before .before .smaller-side .result) _ _ refl (a .small) (a .taken) (c .before .before .before .before .before .smaller-side .ensures) (c .before .side-part .ensures) in omega (arith, ap length e, side-short l (c .before .before .before .before .before .before .before .before .before .before .args .n) (is-parted l (c .before .before .before .before .before .before .before .before .before .before .args .n) 10 (a .taken)), a .small, a .few, c .before .before .before .before .before .before .before .before .before .before .pre .1)
+put-listing-requires c κs = let a = c .before .before .before .before .before .before .before .before .before .before .before .pre .0 in let l = now (c .before .before .before .before .before .before .before .before .before .before .before .args .list) in let e = part-is _ _ _ (c .before .before .before .before .before .before .smaller-side .result) _ _ refl (a .small) (a .taken) (c .before .before .before .before .before .before .smaller-side .ensures) (c .before .before .side-part .ensures) in omega (arith, ap length e, side-short l (c .before .before .before .before .before .before .before .before .before .before .before .args .n) (is-parted l (c .before .before .before .before .before .before .before .before .before .before .before .args .n) 10 (a .taken)), a .small, a .few, c .before .before .before .before .before .before .before .before .before .before .before .pre .1)
 
 same-length : tie.Need-same-length
 same-length c = search needs
 
 returns : tie.Need-returns
-returns c = let a = c .before .before .before .before .before .before .before .before .before .before .before .before .before .pre .0 in let e = part-is _ _ _ (c .before .before .before .before .before .before .before .before .smaller-side .result) _ _ refl (a .small) (a .taken) (c .before .before .before .before .before .before .before .before .smaller-side .ensures) (c .before .before .before .before .side-part .ensures) in record { puts = puts-as _ _ _ _ _ _ (accepted-is _ _ _ _ _ (c .before .before .before .before .before .before .sides-of .result) _ (c .before .before .before .before .before .before .sides-of .ensures) e) (c .before .before .put-listing .ensures); short = accepted-short _ _ _ _ _ a }
+returns c = let a = c .before .before .before .before .before .before .before .before .before .before .before .before .before .before .pre .0 in let e = part-is _ _ _ (c .before .before .before .before .before .before .before .before .before .smaller-side .result) _ _ refl (a .small) (a .taken) (c .before .before .before .before .before .before .before .before .before .smaller-side .ensures) (c .before .before .before .before .before .side-part .ensures) in record { puts = puts-as _ _ _ _ _ _ (accepted-is _ _ _ _ _ (c .before .before .before .before .before .before .before .sides-of .result) _ (c .before .before .before .before .totals-of .result) (c .before .before .before .before .before .before .before .sides-of .ensures) e (c .before .before .before .before .totals-of .ensures)) (c .before .before .put-listing .ensures); short = accepted-short _ _ _ _ _ a }
 
 pub put-accepted-spec : {M : Type 1} → statement M
 put-accepted-spec =
@@ -44,6 +47,7 @@ put-accepted-spec =
     sides-of-requires
     slice-aggregate-side-part
     side-part-requires
+    totals-of-requires
     put-listing-requires
     same-length
     returns)

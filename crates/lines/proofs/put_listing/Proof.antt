@@ -20,8 +20,8 @@ put-side-requires c κs = omega (arith, c .before .before .before .put-cut .ensu
 put-values-requires : tie.Need-put-values-requires
 put-values-requires c κs = omega (arith, c .before .before .before .before .before .before .before .put-cut .ensures .next, c .before .before .before .before .before .before .before .put-cut .kept .0, length-cut (c .before .before .before .before .before .before .before .before .before .before .before .before .args .n) (c .before .before .before .before .before .before .before .before .before .before .before .before .args .k) (c .before .before .before .before .before .before .before .before .before .before .before .before .args .rows) (c .before .before .before .before .before .before .before .before .before .before .before .before .args .cols), c .before .before .before .put-side .ensures .next, c .before .before .before .put-side .kept .0, length-side (now (c .before .before .before .before .before .before .before .before .before .before .before .before .args .side)))
 
-put-end-requires : tie.Need-put-end-requires
-put-end-requires c κs =
+put-last-requires : tie.Need-put-last-requires
+put-last-requires c κs =
     let a = c .before .before .before .before .before .before .before .before .before .before .before .before .before .before .before .before .args in
     let x = c .before .before .before .before .before .before .before .before .before .before .before .put-cut in
     let y = c .before .before .before .before .before .before .before .put-side in
@@ -59,7 +59,7 @@ returns c =
     (puts-then _ _ _ _ _ _ _ _ (omega arith)
     (puts-then _ _ _ _ _ _ _ _ (omega arith) (c .before .before .before .before .before .before .before .before .before .before .before .before .before .before .put-cut .ensures) (c .before .before .before .before .before .before .before .before .before .before .put-side .ensures))
     (c .before .before .before .before .before .before .put-values .ensures))
-    (c .before .before .put-end .ensures)
+    (c .before .before .put-last .ensures)
 
 pub put-listing-spec : {M : Type 1} → statement M
 put-listing-spec =
@@ -68,6 +68,6 @@ put-listing-spec =
     put-cut-requires
     put-side-requires
     put-values-requires
-    put-end-requires
+    put-last-requires
     same-length
     returns)

@@ -1,0 +1,40 @@
+-- How many values a cut has: no more than rows. Assumes nothing.
+use mathlib.Core.Path.{_≡_}
+use mathlib.Core.Logic.{⊎-elim}
+use mathlib.Core.List.{List}
+use Prim.Native.Nat.{ℕ, _≤_, _<_}
+use native.Mathlib.Omega.{arith}
+use lib.Ieee.{Float}
+use lib.ListN.{length}
+use Rattle.submasks.proofs.SubmaskLaws.{le-or-lt}
+use Rattle.svd_load.proofs.NumbersLaws.{length-numbers}
+use Rattle.svd_columns.specs.Columns.{sortedOf}
+use Rattle.values.specs.Lists.{keptAbove}
+use Rattle.values.proofs.ListLaws.{length-scaled, kept-le}
+use Rattle.values.specs.Sort.{sortedDown}
+use Rattle.values.proofs.SortLaws.{length-sort}
+use Rattle.finish.specs.Finish.{floorOf, normalised, keptValues, finishSorted, finishOf}
+use Rattle.svd_thin.specs.Thin.{valuesOf}
+use Rattle.svd.specs.Svd.{sideOf, sOf}
+use Rattle.svd.proofs.SvdLaws.{side-wide, side-tall}
+use Rattle.cut_values.specs.Schmidt.{cutRows, cutColumns, singularValues}
+use Rattle.cut_values.proofs.SchmidtLaws.{same-le}
+
+length-of-scaled : (l : List Float) → length (normalised l) ≡ length l
+unfolding normalised
+length-of-scaled l = length-scaled _ l
+
+pub few-left : (values : List Float) → length (finishOf values) ≤ length values
+unfolding finishSorted keptValues
+few-left values =
+    let s = sortedDown values in
+    omega (arith, length-of-scaled (keptAbove (floorOf s) s), kept-le (floorOf s) s, length-sort values (length values))
+
+-- no more than the first of two sizes
+side-first : (m k : ℕ) → sideOf m k ≤ m
+side-first m k =
+    ⊎-elim (λ (h : k ≤ m). omega (arith, side-tall m k h .0)) (λ (h : m < k). omega (arith, side-wide m k h .0)) (le-or-lt k m)
+
+pub few-singular : (s : List Float) (n : ℕ) (l : List ℕ) → length (singularValues s n l) ≤ cutRows n l
+unfolding singularValues sOf valuesOf sortedOf
+few-singular s n l = same-le (length-numbers (sideOf (cutRows n l) (cutColumns n l)) _) (side-first (cutRows n l) (cutColumns n l))

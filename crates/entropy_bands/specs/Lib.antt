@@ -1,0 +1,2 @@
+-- What the contracts of `entropy_bands` cite.
+pub mod Bands

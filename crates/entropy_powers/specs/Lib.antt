@@ -1,0 +1,2 @@
+-- What the contracts of `entropy_powers` cite.
+pub mod Powers

@@ -1,0 +1,2 @@
+-- What the contracts of `entropy_sums` cite.
+pub mod Sums

@@ -1,0 +1,2 @@
+-- What the contracts of `entropy_totals` cite.
+pub mod Totals

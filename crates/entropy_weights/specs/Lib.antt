@@ -1,0 +1,2 @@
+-- What the contracts of `entropy_weights` cite.
+pub mod Weights
