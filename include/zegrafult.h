@@ -260,6 +260,15 @@ uint32_t zg_slab_drop(double cells[8192], uint32_t index[193], uint32_t site, si
 uint32_t zg_slab_replace(double cells[8192], uint32_t index[193], uint32_t site, const double *data, size_t data_len,
                          size_t *place);
 
+/* ---- the night batch: the sheet of a lot of cut files */
+
+/* A lot is a u32 count of files, each one's u32 length, then the files, all little-endian; a file cut short is read as far as it
+ * goes, a file's first 8,480 bytes decide, and bytes behind the last file are not looked at. The sheet: how many files gave each
+ * answer from 0 to 10, how many kept each rank from 1 to 16, the smallest rank, its first file, the largest rank, its first file
+ * (files count from 1; four zeros where none was accepted), the sum of the ranks. A refused file is counted and the lot goes on.
+ * 16 the count is over 1,000 or the header is cut short: then the sheet is as it was. The place is 0. */
+uint32_t zg_lot_sheet(const uint8_t *lot, size_t lot_len, size_t sheet[32], size_t *place);
+
 #ifdef __cplusplus
 }
 #endif

@@ -249,6 +249,46 @@ fn medians(row: &Row, rounds: usize) -> Option<(f64, f64)> {
     Some((each(ours), each(theirs)))
 }
 
+/// A lot of 1,000 cut files of nine qubits, four of them named.
+fn lot(rng: &mut Random) -> Vec<Vec<u8>> {
+    let word = |x: usize| (x as u32).to_le_bytes();
+    let file = |rng: &mut Random| {
+        let head = [9, 4, 24, 40, 40 + (16 << 9), 0, 1, 2, 3];
+        let state = drawn(rng, 2 << 9);
+        [b"CUT1".to_vec(), head.map(word).concat(), state.iter().flat_map(|x| x.to_le_bytes()).collect()].concat()
+    };
+    (0..1000).map(|_| file(rng)).collect()
+}
+
+/// The medians of the sheet of a lot in microseconds: the port's call, and a loop of the published Rust over the same files.
+fn lot_medians(rounds: usize) -> Option<(f64, f64)> {
+    let files = lot(&mut Random::new(24));
+    let lengths = files.iter().map(|file| file.len() as u32);
+    let head = [1000].into_iter().chain(lengths).flat_map(u32::to_le_bytes);
+    let whole: Vec<u8> = head.chain(files.iter().flatten().copied()).collect();
+    let sheet = port::lot_sheet(&whole)?;
+    let ranks = || {
+        let mut ranks = [0; 16];
+        for file in &files {
+            let numbers: Vec<f64> = file[40..].chunks(8).map(|x| f64::from_le_bytes(x.try_into().expect("eight bytes"))).collect();
+            let values = schmidt::dense_schmidt_values(&cells(&numbers), 9, &[0, 1, 2, 3], 10).expect("an accepted state");
+            ranks[values.len() - 1] += 1;
+        }
+        ranks
+    };
+    assert_eq!(ranks(), sheet[11..27], "the Rust keeps other ranks");
+    let (mut ours, mut theirs) = (vec![], vec![]);
+    for _ in 0..rounds.clamp(1, 9) {
+        ours.push(timed(1, || {
+            black_box(port::lot_sheet(black_box(&whole)));
+        }));
+        theirs.push(timed(1, || {
+            black_box(ranks());
+        }));
+    }
+    Some((1e6 * median(ours), 1e6 * median(theirs)))
+}
+
 /// The most pairs that a call that sweeps can turn: its cap times the pairs of its smaller side.
 fn ceiling(call: &Call) -> Option<usize> {
     let pairs = |k: usize| k * (k - 1) / 2;
@@ -277,6 +317,11 @@ fn main() {
                 let each = 1e3 * ours / turned as f64;
                 turns.push(format!("| {} | {} | {begun} | {turned} | {each:.0} | {most} |", row.name, row.size));
             }
+        }
+    }
+    if "lot_sheet".contains(&wanted) {
+        if let Some((ours, theirs)) = lot_medians(rounds) {
+            println!("| lot_sheet | 1,000 files, n=9 k=4 | {ours:.0} | {theirs:.0} | {:.2} |", ours / theirs);
         }
     }
     println!("\n| call | size | sweeps | turned pairs | ns for each | ceiling |");

@@ -337,4 +337,5 @@ def main():
                 out.write(printout(file))
 
 
-main()
+if __name__ == '__main__':
+    main()

@@ -373,4 +373,6 @@ extern "C" {
         data_len: usize,
         place: &mut usize,
     ) -> u32;
+
+    pub fn zg_lot_sheet(lot: *const u8, lot_len: usize, sheet: *mut usize, place: &mut usize) -> u32;
 }

@@ -32,6 +32,7 @@ mod factors;
 mod lists;
 mod numbers;
 mod sites;
+mod lot;
 mod slab;
 mod spectra;
 
@@ -43,6 +44,7 @@ pub use lists::*;
 pub use numbers::*;
 pub use refusal::Refusal;
 pub use sites::*;
+pub use lot::*;
 pub use slab::*;
 pub use spectra::*;
 

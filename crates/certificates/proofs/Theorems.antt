@@ -2,13 +2,12 @@
 use mathlib.Core.Path.{_≡_, sym, ap, _∙_}
 use mathlib.Core.List.{List}
 use Prim.Native.Nat.{ℕ, _≤_, _<_}
-use native.Mathlib.Omega.{arith}
 use lib.ListN.{length, take}
 use Rattle.answers.specs.Paper.{Reply}
-use Rattle.answers.proofs.PaperLaws.{stays, done-old}
-use Rattle.cutfile.specs.Layout.{headerAnswer}
-use Rattle.cutfile.proofs.Longer.{longest, longer-same, longer-refused}
+use Rattle.answers.proofs.PaperLaws.{done-old}
+use Rattle.cutfile.proofs.Longer.{longest}
 use Rattle.cutfile_result.specs.Result.{fileReply}
+use Rattle.cutfile_result.proofs.Theorems.{longer-reply}
 use Rattle.texts.proofs.TextLaws.{puts-one}
 use Rattle.lines.specs.Lines.{refusedLine}
 use Rattle.certificates.specs.Certificate.{certificateOf}
@@ -20,14 +19,9 @@ certificate-one file old r s new other p q = puts-one 0 (certificateOf file) old
 
 -- What stands past the 8,480 bytes that the program reads changes nothing.
 pub longer-certificate : (m : ℕ) (file : List ℕ) → longest < m → m ≤ length file → certificateOf (take m file) ≡ certificateOf file
-unfolding certificateOf fileReply
+unfolding certificateOf
 longer-certificate m file h l =
-    let same = longer-same m file h l in
-    let none : headerAnswer file .0 ≡ 0 → ⊥ = longer-refused file (omega arith) in
-    let a : headerAnswer (take m file) ≡ fileReply (take m file) = stays (headerAnswer (take m file)) _ (λ e. none (sym (ap (λ (r : Reply). r .0) same) ∙ e)) in
-    let b : headerAnswer file ≡ fileReply file = stays (headerAnswer file) _ none in
-    let q : fileReply (take m file) ≡ fileReply file = sym a ∙ same ∙ b in
-    let stop : fileReply file .0 ≡ 0 → ⊥ = λ e. none (ap (λ (r : Reply). r .0) b ∙ e) in
-    sym (done-old (fileReply (take m file) .0) _ (refusedLine (fileReply (take m file))) (λ e. stop (sym (ap (λ (r : Reply). r .0) q) ∙ e)))
-    ∙ ap refusedLine q
-    ∙ done-old (fileReply file .0) _ (refusedLine (fileReply file)) stop
+    let long = longer-reply m file h l in
+    sym (done-old (fileReply (take m file) .0) _ (refusedLine (fileReply (take m file))) (λ e. long .1 (sym (ap (λ (r : Reply). r .0) (long .0)) ∙ e)))
+    ∙ ap refusedLine (long .0)
+    ∙ done-old (fileReply file .0) _ (refusedLine (fileReply file)) (long .1)

@@ -1,19 +1,24 @@
--- How many values a cut has: no more than rows. Assumes nothing.
-use mathlib.Core.Path.{_≡_}
+-- How many values a cut has: no more than rows, and where 8 is not answered at least one. Assumes nothing.
+use mathlib.Core.Path.{_≡_, refl}
+use mathlib.Core.Bool.{false, not}
 use mathlib.Core.Logic.{⊎-elim}
 use mathlib.Core.List.{List}
-use Prim.Native.Nat.{ℕ, _≤_, _<_}
+use Prim.Native.Nat.{ℕ, zero, suc, _≤_, _<_}
 use native.Mathlib.Omega.{arith}
 use lib.Ieee.{Float}
 use lib.ListN.{length}
+use lib.Dec.{eqb}
+use borrow.Author.Tests.{eqb-false}
+use Rattle.answers.specs.Paper.{done, refuse}
+use Rattle.answers.proofs.PaperLaws.{refuse-done}
 use Rattle.submasks.proofs.SubmaskLaws.{le-or-lt}
 use Rattle.svd_load.proofs.NumbersLaws.{length-numbers}
 use Rattle.svd_columns.specs.Columns.{sortedOf}
-use Rattle.values.specs.Lists.{keptAbove}
+use Rattle.values.specs.Lists.{keptAbove, allFinite}
 use Rattle.values.proofs.ListLaws.{length-scaled, kept-le}
 use Rattle.values.specs.Sort.{sortedDown}
 use Rattle.values.proofs.SortLaws.{length-sort}
-use Rattle.finish.specs.Finish.{floorOf, normalised, keptValues, finishSorted, finishOf}
+use Rattle.finish.specs.Finish.{floorOf, normalised, keptValues, finishSorted, finishOf, sortedReply, finishReply}
 use Rattle.svd_thin.specs.Thin.{valuesOf}
 use Rattle.svd.specs.Svd.{sideOf, sOf}
 use Rattle.svd.proofs.SvdLaws.{side-wide, side-tall}
@@ -29,6 +34,18 @@ unfolding finishSorted keptValues
 few-left values =
     let s = sortedDown values in
     omega (arith, length-of-scaled (keptAbove (floorOf s) s), kept-le (floorOf s) s, length-sort values (length values))
+
+-- where 8 is not answered, one is left
+pub some-kept : (values : List Float) → finishReply values .0 ≡ 0 → 1 ≤ length (finishOf values)
+unfolding finishSorted sortedReply
+some-kept values e =
+    let s = sortedDown values in
+    let t : eqb (length (keptValues s)) 0 ≡ false = refuse-done (eqb (length (keptValues s)) 0) 7 0 (refuse (not (allFinite (finishSorted s))) (9, 0) done) e .0 in
+    omega (arith, length-of-scaled (keptValues s), at-least (length (keptValues s)) (eqb-false (length (keptValues s)) 0 t))
+  where
+    at-least : (n : ℕ) → (n ≡ 0 → ⊥) → 1 ≤ n
+    at-least zero h = absurd (h refl)
+    at-least (suc n) h = omega arith
 
 -- no more than the first of two sizes
 side-first : (m k : ℕ) → sideOf m k ≤ m

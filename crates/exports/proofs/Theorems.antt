@@ -66,6 +66,8 @@ use Rattle.chains.specs.Chains.{ChainOfSites}
 use Rattle.chains.proofs.Theorems.{chain-of-sites-one}
 use Rattle.slabs.specs.Slab.{Put, Dropped, Replaced}
 use Rattle.slabs.proofs.Theorems.{put-one, drop-one, replace-one}
+use Rattle.lots.specs.Lot.{Lot}
+use Rattle.lots.proofs.Theorems.{lot-sheet-one}
 use Rattle.countersign.specs.declared.Countersigned.{Countersigned}
 use Rattle.countersign.specs.Verdict.{Says as Verdict, says, Countersign}
 use Rattle.countersign.proofs.Theorems.{countersign-one}
@@ -288,3 +290,9 @@ pub zg-slab-replace-one : (cells index : List ℕ) (site : ℕ) (given : List �
     → (number ≡ number') × (place ≡ place') × ((cells' ≡ cells″) × (index' ≡ index″))
 zg-slab-replace-one cells index site given cells' cells″ index' index″ =
     exported-one (λ x y c d. let e = replace-one cells index site given c d in (e .0, (e .1, e .2)))
+
+-- Only one outcome meets the contract of `zg_lot_sheet`.
+pub zg-lot-sheet-one : (lot sheet sheet' sheet″ : List ℕ) {number place number' place' : ℕ}
+    → Exported (λ x. Lot lot sheet x sheet') number place → Exported (λ x. Lot lot sheet x sheet″) number' place'
+    → (number ≡ number') × (place ≡ place') × (sheet' ≡ sheet″)
+zg-lot-sheet-one lot sheet sheet' sheet″ = exported-one (λ x y c d. lot-sheet-one lot sheet x y sheet' sheet″ c d)

@@ -45,6 +45,7 @@ ghost use Rattle.countersign.specs.declared.Countersigned.{Countersigned};
 ghost use Rattle.chain_fill.specs.declared.Chained.{Chained};
 ghost use Rattle.chains.specs.Chains.{ChainOfSites};
 ghost use Rattle.slabs.specs.Slab.{Put, Dropped, Replaced};
+ghost use Rattle.lots.specs.Lot.{Lot};
 ghost use Rattle.hermitian_eigen.specs.Hermitian.{Eigen};
 ghost use Rattle.cut_values.specs.Schmidt.{Schmidt};
 ghost use Rattle.profiles.specs.Profile.{CutProfile};
@@ -774,4 +775,13 @@ pub extern "C" fn zg_slab_replace(
     ensures { λ r. ⌜ Exported (λ a. Replaced (now (cells .entry)) (now (index .entry)) site (now («data» .entry)) a (now (cells .exit)) (now (index .exit))) r (now (place .exit)) ⌝ }
 {
     told::told(slabs::replace(cells, index, site, data), place)
+}
+
+// ---- the sheet of a lot
+
+#[no_mangle]
+pub extern "C" fn zg_lot_sheet(lot: &[u8], sheet: &mut [usize; 32], place: &mut usize) -> u32
+    ensures { λ r. ⌜ Exported (λ a. Lot (now (lot .entry)) (now (sheet .entry)) a (now (sheet .exit))) r (now (place .exit)) ⌝ }
+{
+    told::told(lots::lot_sheet(lot, sheet), place)
 }

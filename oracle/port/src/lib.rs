@@ -220,3 +220,17 @@ impl Ready<'_> {
         }
     }
 }
+
+/// The sheet of a lot by the port; none where the library lacks it or refuses the lot.
+#[allow(unused_variables)]
+pub fn lot_sheet(lot: &[u8]) -> Option<[usize; 32]> {
+    #[cfg(has_zg_lot_sheet)]
+    {
+        let (mut sheet, mut place) = ([0; 32], 0);
+        // SAFETY: the lot is borrowed with its length, the sheet has the 32 numbers that are written.
+        let number = unsafe { zg_lot_sheet(lot.as_ptr(), lot.len(), sheet.as_mut_ptr(), &raw mut place) };
+        return (number == 0).then_some(sheet);
+    }
+    #[allow(unreachable_code)]
+    None
+}

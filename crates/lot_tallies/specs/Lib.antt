@@ -1,0 +1,2 @@
+-- What the contracts of `lot_tallies` cite.
+pub mod Tallies

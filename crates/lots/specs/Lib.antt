@@ -1,0 +1,2 @@
+-- What the contracts of `lots` cite.
+pub mod Lot
