@@ -28,7 +28,8 @@
  * qubits 2k at most the cap. side is the smaller of k and n - k.
  *
  * Qubit q is bit q of a state's index. That and the rest of what all calls share (rows and columns, NULL, overlap, threads, stack,
- * the floating-point environment and the test of it in zegrafult_environment.h) is in docs/CONVENTIONS.md. */
+ * the floating-point environment and the test of it in zegrafult_environment.h) is in docs/CONVENTIONS.md. The answers by name and the
+ * length of every lent slice are in zegrafult_sizes.h, the version in zegrafult_version.h. */
 #ifndef ZEGRAFULT_H
 #define ZEGRAFULT_H
 
@@ -45,7 +46,7 @@ extern "C" {
 /* The float nearest to the exact root; +-0 and +infinity give themselves; negative or NaN gives NaN. */
 double zg_sqrt(double x);
 /* The same on bit patterns; a NaN is 7FF8000000000000. */
-uint64_t zg_sqrt_bits(uint64_t bits);
+uint64_t zg_sqrt_bits(uint64_t b);
 /* The root of zg_sqrt, and whether it came out even: whether its square, as real numbers, is x. Both zeros yes; an infinity, a NaN
  * and a negative x no. */
 double zg_sqrt_marked(double x, bool *exact);

@@ -89,6 +89,31 @@ static void chain(void) {
     answer = zg_chain_of_sites(state, 2 * CELLS, 12, 1e-12, 64, sites, 21840, bonds, 13, starts, 13, marks, 33, out, 2 * CELLS, more, 2 * CELLS,
                                third, 2 * CELLS, scratch, 6 * CELLS + 128, &place, &count);
 }
+/* The largest matrix, 16 by 256, of identities' columns: A = U S V-dagger. */
+static void signed_factors(void) {
+    static double a[2 * CELLS], u[2 * 256], s[16], vt[2 * CELLS];
+    size_t i, test, cell;
+    for (i = 0; i < 16; i++)
+        u[2 * (17 * i)] = s[i] = vt[2 * (257 * i)] = a[2 * (17 * i)] = 1.0;
+    answer = zg_countersign(a, 2 * CELLS, 16, 256, u, 512, s, 16, vt, 2 * CELLS, 0, &place, &yes, &test, &cell);
+}
+static void slab(void) {
+    static double cells[8192];
+    static uint32_t index[193];
+    answer = zg_slab_put(cells, index, 7, state, 4000, &place) + zg_slab_put(cells, index, 8, state, 2, &place) +
+             zg_slab_replace(cells, index, 7, state, 4096, &place) + zg_slab_drop(cells, index, 8, &place);
+}
+/* A lot of one file of nine qubits, four of them named, all amplitudes 1. */
+static void lot(void) {
+    static const uint32_t head[] = {1, 8232, 0x31545543, 9, 4, 24, 40, 8232, 0, 1, 2, 3};
+    static unsigned char bytes[8 + 8232];
+    size_t sheet[32], i;
+    double one = 1.0;
+    memcpy(bytes, head, sizeof head);
+    for (i = 0; i < 512; i++)
+        memcpy(bytes + sizeof head + 16 * i, &one, sizeof one);
+    answer = zg_lot_sheet(bytes, sizeof bytes, sheet, &place) + (uint32_t)(sheet[0] != 1);
+}
 
 static const struct {
     const char *name;
@@ -119,7 +144,10 @@ static const struct {
              {"zg_entropy_band", entropy, 16 * KB},
              {"ranks", ranks, 16 * KB},
              {"the four fills", fills, 16 * KB},
-             {"zg_chain_of_sites", chain, 16 * KB}};
+             {"zg_chain_of_sites", chain, 16 * KB},
+             {"zg_countersign", signed_factors, 16 * KB},
+             {"zg_slab_put, replace, drop", slab, 16 * KB},
+             {"zg_lot_sheet", lot, 96 * KB}};
 
 static void *run(void *call) {
     (*(void (**)(void))call)();

@@ -69,6 +69,7 @@ pub fn chain_of_sites(state: &[Complex], n: usize, epsilon: f64, limit: usize) -
     let (mut place, mut dropped) = (0, 0);
     let (s, s_len) = numbers_of(state);
     let (out, out_len) = numbers_of_mut(&mut numbers);
+    // SAFETY: each pointer is to a borrowed slice of the length behind it; what is written overlaps nothing else that is lent.
     let number = unsafe {
         ffi::zg_chain_of_sites(
             s,

@@ -24,6 +24,7 @@ pub fn dense_reduced_density(
     let mut place = 0;
     let (s, s_len) = numbers_of(state);
     let (o, o_len) = numbers_of_mut(&mut out);
+    // SAFETY: each pointer is to a borrowed slice of the length behind it; what is written overlaps nothing else that is lent.
     let number = unsafe {
         ffi::zg_dense_reduced_density(
             s,
@@ -58,6 +59,7 @@ pub fn density_from_cut(matrix: &[Complex], n: usize, list: &[usize], cap: usize
     let mut place = 0;
     let (m, m_len) = numbers_of(matrix);
     let (o, o_len) = numbers_of_mut(&mut out);
+    // SAFETY: each pointer is to a borrowed slice of the length behind it; what is written overlaps nothing else that is lent.
     let number = unsafe { ffi::zg_density_from_cut(m, m_len, n, list.as_ptr(), list.len(), cap, o, o_len, &mut place) };
     answered(number, place, out)
 }
@@ -73,6 +75,7 @@ pub fn density_from_cut(matrix: &[Complex], n: usize, list: &[usize], cap: usize
 pub fn pages_agree(state: &[Complex], n: usize, list: &[usize], cap: usize) -> Result<bool, Refusal> {
     let (mut place, mut yes) = (0, false);
     let (s, s_len) = numbers_of(state);
+    // SAFETY: each pointer is to a borrowed slice of the length behind it; what is written overlaps nothing else that is lent.
     let number = unsafe { ffi::zg_pages_agree(s, s_len, n, list.as_ptr(), list.len(), cap, &mut place, &mut yes) };
     answered(number, place, yes)
 }
@@ -81,6 +84,7 @@ pub fn pages_agree(state: &[Complex], n: usize, list: &[usize], cap: usize) -> R
 pub fn mirror_lower_triangle(rho: &mut [Complex], dim: usize) -> Result<(), Refusal> {
     let mut place = 0;
     let (r, r_len) = numbers_of_mut(rho);
+    // SAFETY: each pointer is to a borrowed slice of the length behind it; what is written overlaps nothing else that is lent.
     let number = unsafe { ffi::zg_mirror_lower_triangle(r, r_len, dim, &mut place) };
     answered(number, place, ())
 }
@@ -89,6 +93,7 @@ pub fn mirror_lower_triangle(rho: &mut [Complex], dim: usize) -> Result<(), Refu
 pub fn normalize_trace(rho: &mut [Complex], dim: usize) -> Result<(), Refusal> {
     let mut place = 0;
     let (r, r_len) = numbers_of_mut(rho);
+    // SAFETY: each pointer is to a borrowed slice of the length behind it; what is written overlaps nothing else that is lent.
     let number = unsafe { ffi::zg_normalize_trace(r, r_len, dim, &mut place) };
     answered(number, place, ())
 }
@@ -104,6 +109,7 @@ pub fn multiply_block_factor(
     let mut place = 0;
     let (r, r_len) = numbers_of_mut(rho);
     let (f, f_len) = numbers_of(factor);
+    // SAFETY: each pointer is to a borrowed slice of the length behind it; what is written overlaps nothing else that is lent.
     let number = unsafe {
         ffi::zg_multiply_block_factor(r, r_len, dim, positions.as_ptr(), positions.len(), f, f_len, side, &mut place)
     };

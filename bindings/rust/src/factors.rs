@@ -33,6 +33,7 @@ pub fn svd_jacobi(a: &[Complex], m: usize, n: usize) -> Result<Svd, Refusal> {
     let (a, a_len) = numbers_of(a);
     let (up, u_len) = numbers_of_mut(&mut u);
     let (vp, v_len) = numbers_of_mut(&mut vt);
+    // SAFETY: each pointer is to a borrowed slice of the length behind it; what is written overlaps nothing else that is lent.
     let number = unsafe {
         ffi::zg_svd_jacobi(
             a,
@@ -81,6 +82,7 @@ pub fn factorize_gram_schmidt(a: &[Complex], rows: usize, cols: usize) -> Result
     let (a, a_len) = numbers_of(a);
     let (qp, q_len) = numbers_of_mut(&mut q);
     let (rp, r_len) = numbers_of_mut(&mut r);
+    // SAFETY: each pointer is to a borrowed slice of the length behind it; what is written overlaps nothing else that is lent.
     let number = unsafe {
         ffi::zg_factorize_gram_schmidt(
             a,
@@ -142,6 +144,7 @@ pub fn countersign(
     let (a, a_len) = numbers_of(a);
     let (u, u_len) = numbers_of(u);
     let (vt, vt_len) = numbers_of(vt);
+    // SAFETY: each pointer is to a borrowed slice of the length behind it; what is written overlaps nothing else that is lent.
     let number = unsafe {
         ffi::zg_countersign(
             a,

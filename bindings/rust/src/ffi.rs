@@ -2,13 +2,14 @@
 
 extern "C" {
     pub fn zg_sqrt(x: f64) -> f64;
-    pub fn zg_sqrt_bits(bits: u64) -> u64;
+    pub fn zg_sqrt_bits(b: u64) -> u64;
     pub fn zg_sqrt_marked(x: f64, exact: &mut bool) -> f64;
     pub fn zg_modulus(re: f64, im: f64) -> f64;
     pub fn zg_magnitude(x: f64) -> f64;
     pub fn zg_sign(x: f64) -> f64;
     pub fn zg_is_finite(x: f64) -> bool;
     pub fn zg_component_allowed(x: f64) -> bool;
+    pub fn zg_total_less(x: f64, y: f64) -> bool;
     pub fn zg_total_order(x: f64, y: f64) -> u32;
 
     pub fn zg_validate_qubit_set(list: *const usize, list_len: usize, n: usize, place: &mut usize) -> u32;

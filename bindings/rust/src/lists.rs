@@ -4,6 +4,7 @@ use crate::{ffi, numbers_of, numbers_of_mut, power, refusal::answered, Complex, 
 /// Refused by 1 to 4.
 pub fn validate_qubit_set(list: &[usize], n: usize) -> Result<(), Refusal> {
     let mut place = 0;
+    // SAFETY: each pointer is to a borrowed slice of the length behind it; what is written overlaps nothing else that is lent.
     let number = unsafe { ffi::zg_validate_qubit_set(list.as_ptr(), list.len(), n, &mut place) };
     answered(number, place, ())
 }
@@ -11,6 +12,7 @@ pub fn validate_qubit_set(list: &[usize], n: usize) -> Result<(), Refusal> {
 /// Refused by 1 to 5.
 pub fn validate_subsystem(list: &[usize], n: usize) -> Result<(), Refusal> {
     let mut place = 0;
+    // SAFETY: each pointer is to a borrowed slice of the length behind it; what is written overlaps nothing else that is lent.
     let number = unsafe { ffi::zg_validate_subsystem(list.as_ptr(), list.len(), n, &mut place) };
     answered(number, place, ())
 }
@@ -25,6 +27,7 @@ pub fn row_offsets(list: &[usize], n: usize, cap: usize) -> Result<Vec<usize>, R
     let mut out = vec![0; power(list.len())];
     let mut place = 0;
     let number =
+        // SAFETY: each pointer is to a borrowed slice of the length behind it; what is written overlaps nothing else that is lent.
         unsafe { ffi::zg_row_offsets(list.as_ptr(), list.len(), n, cap, out.as_mut_ptr(), out.len(), &mut place) };
     answered(number, place, out)
 }
@@ -32,6 +35,7 @@ pub fn row_offsets(list: &[usize], n: usize, cap: usize) -> Result<Vec<usize>, R
 /// e spread over the qubits that are not listed, lowest first.
 pub fn traced_base(e: usize, list: &[usize], n: usize, cap: usize) -> Result<usize, Refusal> {
     let (mut place, mut base) = (0, 0);
+    // SAFETY: each pointer is to a borrowed slice of the length behind it; what is written overlaps nothing else that is lent.
     let number = unsafe { ffi::zg_traced_base(e, list.as_ptr(), list.len(), n, cap, &mut place, &mut base) };
     answered(number, place, base)
 }
@@ -45,6 +49,7 @@ pub fn traced_base(e: usize, list: &[usize], n: usize, cap: usize) -> Result<usi
 pub fn smaller_side(list: &[usize], n: usize, cap: usize) -> Result<Vec<usize>, Refusal> {
     let mut others = vec![0; if n <= 12 { n.saturating_sub(list.len()) } else { 0 }];
     let mut place = 0;
+    // SAFETY: each pointer is to a borrowed slice of the length behind it; what is written overlaps nothing else that is lent.
     let number = unsafe {
         ffi::zg_smaller_side(list.as_ptr(), list.len(), n, cap, others.as_mut_ptr(), others.len(), &mut place)
     };
@@ -76,6 +81,7 @@ pub fn cut_matrix(state: &[Complex], n: usize, list: &[usize], cap: usize) -> Re
     let mut place = 0;
     let (s, s_len) = numbers_of(state);
     let (o, o_len) = numbers_of_mut(&mut cells);
+    // SAFETY: each pointer is to a borrowed slice of the length behind it; what is written overlaps nothing else that is lent.
     let number = unsafe { ffi::zg_cut_matrix(s, s_len, n, list.as_ptr(), list.len(), cap, o, o_len, &mut place) };
     answered(number, place, ())?;
     let side = list.len().min(n - list.len());

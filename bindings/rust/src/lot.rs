@@ -38,6 +38,7 @@ pub struct RankAt {
 pub fn lot_sheet(lot: &[u8]) -> Result<LotSheet, Refusal> {
     let mut sheet = [0; 32];
     let mut place = 0;
+    // SAFETY: each pointer is to a borrowed slice of the length behind it; what is written overlaps nothing else that is lent.
     let answer = unsafe { ffi::zg_lot_sheet(lot.as_ptr(), lot.len(), sheet.as_mut_ptr(), &mut place) };
     let at = |i: usize| (sheet[i] > 0).then(|| RankAt { rank: sheet[i], file: sheet[i + 1] });
     let made = LotSheet {

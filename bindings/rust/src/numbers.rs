@@ -9,6 +9,7 @@ use std::cmp::Ordering;
 /// assert_eq!(zegrafult::sqrt(-1.0).to_bits(), 0x7FF8_0000_0000_0000);
 /// ```
 pub fn sqrt(x: f64) -> f64 {
+    // SAFETY: the call takes and gives numbers alone.
     unsafe { ffi::zg_sqrt(x) }
 }
 
@@ -21,12 +22,14 @@ pub fn sqrt(x: f64) -> f64 {
 /// ```
 pub fn sqrt_marked(x: f64) -> (f64, bool) {
     let mut exact = false;
+    // SAFETY: the mark is a borrowed place, and the rest is handed over by value.
     let root = unsafe { ffi::zg_sqrt_marked(x, &mut exact) };
     (root, exact)
 }
 
 /// [`sqrt`] on bit patterns.
 pub fn sqrt_bits(bits: u64) -> u64 {
+    // SAFETY: the call takes and gives numbers alone.
     unsafe { ffi::zg_sqrt_bits(bits) }
 }
 
@@ -38,30 +41,47 @@ pub fn sqrt_bits(bits: u64) -> u64 {
 /// assert_eq!(zegrafult::modulus(-0.0, -0.0).to_bits(), 0);
 /// ```
 pub fn modulus(re: f64, im: f64) -> f64 {
+    // SAFETY: the call takes and gives numbers alone.
     unsafe { ffi::zg_modulus(re, im) }
 }
 
 /// The sign cleared, that of -0 too.
 pub fn magnitude(x: f64) -> f64 {
+    // SAFETY: the call takes and gives numbers alone.
     unsafe { ffi::zg_magnitude(x) }
 }
 
 /// 1 for +0.0 and above, -1 for -0.0 and below, NaN for NaN.
 pub fn sign(x: f64) -> f64 {
+    // SAFETY: the call takes and gives numbers alone.
     unsafe { ffi::zg_sign(x) }
 }
 
 pub fn is_finite(x: f64) -> bool {
+    // SAFETY: the call takes and gives numbers alone.
     unsafe { ffi::zg_is_finite(x) }
 }
 
 /// Finite and of magnitude at most 2^200.
 pub fn component_allowed(x: f64) -> bool {
+    // SAFETY: the call takes and gives numbers alone.
     unsafe { ffi::zg_component_allowed(x) }
+}
+
+/// Whether x is below y in the total order.
+///
+/// ```
+/// assert!(zegrafult::total_less(-0.0, 0.0));
+/// assert!(!zegrafult::total_less(f64::NAN, f64::INFINITY));
+/// ```
+pub fn total_less(x: f64, y: f64) -> bool {
+    // SAFETY: the call takes and gives numbers alone.
+    unsafe { ffi::zg_total_less(x, y) }
 }
 
 /// The total order: -0 is below +0, a NaN above all else.
 pub fn total_order(x: f64, y: f64) -> Ordering {
+    // SAFETY: the call takes and gives numbers alone.
     match unsafe { ffi::zg_total_order(x, y) } {
         0 => Ordering::Less,
         1 => Ordering::Equal,

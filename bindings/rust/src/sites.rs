@@ -8,6 +8,7 @@ use crate::{area, ffi, numbers_of, numbers_of_mut, refusal::answered, Complex, R
 /// ```
 pub fn truncated_svd_rank(values: &[f64], epsilon: f64, max_bond_dim: usize) -> usize {
     let (mut place, mut rank) = (0, 0);
+    // SAFETY: each pointer is to a borrowed slice of the length behind it; what is written overlaps nothing else that is lent.
     unsafe {
         ffi::zg_truncated_svd_rank(values.as_ptr(), values.len(), epsilon, max_bond_dim, &mut place, &mut rank);
     }
@@ -17,6 +18,7 @@ pub fn truncated_svd_rank(values: &[f64], epsilon: f64, max_bond_dim: usize) -> 
 /// Whether keeping `chi` values drops one above the resolution. Any bits are taken.
 pub fn discards_resolvable_weight(values: &[f64], chi: usize) -> bool {
     let (mut place, mut yes) = (0, false);
+    // SAFETY: each pointer is to a borrowed slice of the length behind it; what is written overlaps nothing else that is lent.
     unsafe {
         ffi::zg_discards_resolvable_weight(values.as_ptr(), values.len(), chi, &mut place, &mut yes);
     }
@@ -26,6 +28,7 @@ pub fn discards_resolvable_weight(values: &[f64], chi: usize) -> bool {
 /// The rank of the cut between two sites.
 pub fn cut_rank(bond_left: usize, bond_mid: usize, bond_right: usize) -> Result<u64, Refusal> {
     let (mut place, mut rank) = (0, 0);
+    // SAFETY: each pointer is to a borrowed slice of the length behind it; what is written overlaps nothing else that is lent.
     let number = unsafe { ffi::zg_cut_rank(bond_left, bond_mid, bond_right, &mut place, &mut rank) };
     answered(number, place, rank)
 }
@@ -33,6 +36,7 @@ pub fn cut_rank(bond_left: usize, bond_mid: usize, bond_right: usize) -> Result<
 /// The widest cut inside a block of `n` sites.
 pub fn widest_block_cut(bond_left: usize, bond_right: usize, n: usize) -> Result<u64, Refusal> {
     let (mut place, mut rank) = (0, 0);
+    // SAFETY: each pointer is to a borrowed slice of the length behind it; what is written overlaps nothing else that is lent.
     let number = unsafe { ffi::zg_widest_block_cut(bond_left, bond_right, n, &mut place, &mut rank) };
     answered(number, place, rank)
 }
@@ -57,6 +61,7 @@ pub fn fill_isometry_site_data(
     chi: usize,
 ) -> Result<Vec<Complex>, Refusal> {
     let (c, c_len) = numbers_of(columns);
+    // SAFETY: each pointer is to a borrowed slice of the length behind it; what is written overlaps nothing else that is lent.
     filled((2, bond_left, chi), |o, o_len, place| unsafe {
         ffi::zg_fill_isometry_site_data(c, c_len, stride, bond_left, chi, o, o_len, place)
     })
@@ -71,6 +76,7 @@ pub fn fill_scaled_u_site_data(
     chi: usize,
 ) -> Result<Vec<Complex>, Refusal> {
     let (u, u_len) = numbers_of(u);
+    // SAFETY: each pointer is to a borrowed slice of the length behind it; what is written overlaps nothing else that is lent.
     filled((2, bond_left, chi), |o, o_len, place| unsafe {
         ffi::zg_fill_scaled_u_site_data(u, u_len, s.as_ptr(), s.len(), stride, bond_left, chi, o, o_len, place)
     })
@@ -85,6 +91,7 @@ pub fn fill_vt_site_data(
     bond_right: usize,
 ) -> Result<Vec<Complex>, Refusal> {
     let (v, v_len) = numbers_of(vt);
+    // SAFETY: each pointer is to a borrowed slice of the length behind it; what is written overlaps nothing else that is lent.
     filled((chi, physical_dim, bond_right), |o, o_len, place| unsafe {
         ffi::zg_fill_vt_site_data(v, v_len, row_len, chi, physical_dim, bond_right, o, o_len, place)
     })
@@ -100,6 +107,7 @@ pub fn fill_scaled_vt_data(
     bond_right: usize,
 ) -> Result<Vec<Complex>, Refusal> {
     let (v, v_len) = numbers_of(vt);
+    // SAFETY: each pointer is to a borrowed slice of the length behind it; what is written overlaps nothing else that is lent.
     filled((chi, physical_dim, bond_right), |o, o_len, place| unsafe {
         let (s, s_len) = (s.as_ptr(), s.len());
         ffi::zg_fill_scaled_vt_data(s, s_len, v, v_len, row_len, chi, physical_dim, bond_right, o, o_len, place)

@@ -61,6 +61,7 @@ impl Slab {
     pub fn put(&mut self, number: u32, data: &[Complex]) -> Result<(), Refusal> {
         let (d, d_len) = numbers_of(data);
         let mut place = 0;
+        // SAFETY: the slab owns 8,192 numbers and an index of 193, as the call wants; data and place are borrowed for the call.
         let answer = unsafe {
             ffi::zg_slab_put(self.cells.as_mut_ptr().cast(), self.index.as_mut_ptr(), number, d, d_len, &mut place)
         };
@@ -70,6 +71,7 @@ impl Slab {
     /// Takes a site out; its cells turn to +0.0. Refused by 1, 13.
     pub fn drop(&mut self, number: u32) -> Result<(), Refusal> {
         let mut place = 0;
+        // SAFETY: the slab owns 8,192 numbers and an index of 193, as the call wants; data and place are borrowed for the call.
         let answer = unsafe {
             ffi::zg_slab_drop(self.cells.as_mut_ptr().cast(), self.index.as_mut_ptr(), number, &mut place)
         };
@@ -80,6 +82,7 @@ impl Slab {
     pub fn replace(&mut self, number: u32, data: &[Complex]) -> Result<(), Refusal> {
         let (d, d_len) = numbers_of(data);
         let mut place = 0;
+        // SAFETY: the slab owns 8,192 numbers and an index of 193, as the call wants; data and place are borrowed for the call.
         let answer = unsafe {
             ffi::zg_slab_replace(self.cells.as_mut_ptr().cast(), self.index.as_mut_ptr(), number, d, d_len, &mut place)
         };

@@ -30,6 +30,7 @@ pub fn dense_schmidt_values(state: &[Complex], n: usize, list: &[usize], cap: us
     let mut scratch = vec![0.0; 8 * power(n) + 2 * power(side)];
     let (mut place, mut count, mut sweeps, mut quiet, mut turned, mut exact) = (0, 0, 0, false, 0, false);
     let (s, s_len) = numbers_of(state);
+    // SAFETY: each pointer is to a borrowed slice of the length behind it; what is written overlaps nothing else that is lent.
     let number = unsafe {
         ffi::zg_dense_schmidt_values(
             s,
@@ -85,6 +86,7 @@ pub fn cut_profile(state: &[Complex], n: usize, cap: usize) -> Result<Profile, R
     let mut scratch = vec![0.0; 8 * power(n) + 2 * power(n / 2)];
     let mut place = 0;
     let (s, s_len) = numbers_of(state);
+    // SAFETY: each pointer is to a borrowed slice of the length behind it; what is written overlaps nothing else that is lent.
     let number = unsafe {
         ffi::zg_cut_profile(
             s,
@@ -153,6 +155,7 @@ pub fn entropy_band(state: &[Complex], n: usize, list: &[usize], cap: usize) -> 
     let (mut place, mut count, mut sweeps, mut quiet, mut turned) = (0, 0, 0, false, 0);
     let (mut low, mut high, mut whole) = (0, 0, 0);
     let (s, s_len) = numbers_of(state);
+    // SAFETY: each pointer is to a borrowed slice of the length behind it; what is written overlaps nothing else that is lent.
     let number = unsafe {
         ffi::zg_entropy_band(
             s,
@@ -188,6 +191,7 @@ pub fn entropy_band(state: &[Complex], n: usize, list: &[usize], cap: usize) -> 
 pub fn finish_schmidt_values(values: &[f64]) -> Result<Vec<f64>, Refusal> {
     let mut out = vec![0.0; values.len()];
     let (mut place, mut count) = (0, 0);
+    // SAFETY: each pointer is to a borrowed slice of the length behind it; what is written overlaps nothing else that is lent.
     let number = unsafe {
         ffi::zg_finish_schmidt_values(
             values.as_ptr(),
@@ -218,6 +222,7 @@ pub fn hermitian_eigenvalues(a: &[Complex], dim: usize) -> Result<Swept, Refusal
     let mut scratch = vec![0.0; 2 * cells];
     let (mut place, mut sweeps, mut quiet, mut turned) = (0, 0, false, 0);
     let (a, a_len) = numbers_of(a);
+    // SAFETY: each pointer is to a borrowed slice of the length behind it; what is written overlaps nothing else that is lent.
     let number = unsafe {
         ffi::zg_hermitian_eigenvalues(
             a,
@@ -265,6 +270,7 @@ pub fn hermitian_eigen(matrix: &[Complex], dim: usize) -> Result<Eigen, Refusal>
     let (mut place, mut sweeps, mut quiet, mut turned) = (0, 0, false, 0);
     let (m, m_len) = numbers_of(matrix);
     let (v, v_len) = numbers_of_mut(&mut vectors);
+    // SAFETY: each pointer is to a borrowed slice of the length behind it; what is written overlaps nothing else that is lent.
     let number = unsafe {
         ffi::zg_hermitian_eigen(
             m,
@@ -292,6 +298,7 @@ pub fn schmidt_values_from_density(rho: &[Complex], dim: usize) -> Result<Swept,
     let mut scratch = vec![0.0; 2 * cells];
     let (mut place, mut count, mut sweeps, mut quiet, mut turned) = (0, 0, 0, false, 0);
     let (r, r_len) = numbers_of(rho);
+    // SAFETY: each pointer is to a borrowed slice of the length behind it; what is written overlaps nothing else that is lent.
     let number = unsafe {
         ffi::zg_schmidt_values_from_density(
             r,

@@ -22,6 +22,15 @@ unsafe extern "C" {
     pub fn zg_mirror_lower_triangle(rho: *mut f64, rho_len: usize, dim: usize, place: *mut usize) -> u32;
     pub fn zg_normalize_trace(rho: *mut f64, rho_len: usize, dim: usize, place: *mut usize) -> u32;
     pub fn zg_multiply_block_factor(rho: *mut f64, rho_len: usize, dim: usize, positions: *const usize, positions_len: usize, factor: *const f64, factor_len: usize, side: usize, place: *mut usize) -> u32;
+    // Not in the published Rust, so never compared with it.
+    pub fn zg_density_from_cut(matrix: *const f64, matrix_len: usize, n: usize, list: *const usize, list_len: usize, cap: usize, out: *mut f64, out_len: usize, place: *mut usize) -> u32;
+    pub fn zg_pages_agree(state: *const f64, state_len: usize, n: usize, list: *const usize, list_len: usize, cap: usize, place: *mut usize, yes: *mut bool) -> u32;
+    pub fn zg_countersign(a: *const f64, a_len: usize, m: usize, n: usize, u: *const f64, u_len: usize, s: *const f64, s_len: usize, vt: *const f64, vt_len: usize, tolerance: u64, place: *mut usize, yes: *mut bool, test: *mut usize, cell: *mut usize) -> u32;
+    pub fn zg_slab_put(cells: *mut f64, index: *mut u32, site: u32, data: *const f64, data_len: usize, place: *mut usize) -> u32;
+    pub fn zg_slab_drop(cells: *mut f64, index: *mut u32, site: u32, place: *mut usize) -> u32;
+    pub fn zg_slab_replace(cells: *mut f64, index: *mut u32, site: u32, data: *const f64, data_len: usize, place: *mut usize) -> u32;
+    pub fn zg_entropy_band(state: *const f64, state_len: usize, n: usize, list: *const usize, list_len: usize, cap: usize, bands: *mut usize, bands_len: usize, scratch: *mut f64, scratch_len: usize, place: *mut usize, count: *mut usize, low: *mut u64, high: *mut u64, whole: *mut u64, sweeps: *mut usize, quiet: *mut bool, turned: *mut usize) -> u32;
+    pub fn zg_lot_sheet(lot: *const u8, lot_len: usize, sheet: *mut usize, place: *mut usize) -> u32;
     pub fn zg_svd_jacobi(a: *const f64, a_len: usize, m: usize, n: usize, u: *mut f64, u_len: usize, s: *mut f64, s_len: usize, vt: *mut f64, vt_len: usize, scratch: *mut f64, scratch_len: usize, place: *mut usize, sweeps: *mut usize, quiet: *mut bool, turned: *mut usize) -> u32;
     pub fn zg_factorize_gram_schmidt(a: *const f64, a_len: usize, rows: usize, cols: usize, q: *mut f64, q_len: usize, r: *mut f64, r_len: usize, scratch: *mut f64, scratch_len: usize, place: *mut usize, rank: *mut usize) -> u32;
     pub fn zg_hermitian_eigenvalues(a: *const f64, a_len: usize, dim: usize, out: *mut f64, out_len: usize, scratch: *mut f64, scratch_len: usize, place: *mut usize, sweeps: *mut usize, quiet: *mut bool, turned: *mut usize) -> u32;
