@@ -11,11 +11,11 @@ reach() { # BASE NAME
     END { visit(want) }' "$1/crates.txt"
 }
 
-# One sum of all that was read by a proof: PATHS, must-fail edits left out.
+# One sum of all that was read by a proof: PATHS, the edits of must-fail/ and edits/ left out.
 sum_of() { # BASE PATH..
   local base=$1
   shift
-  (cd "$base" && find -H "$@" -name must-fail -prune -o -type f -exec sha256sum {} + | LC_ALL=C sort | sha256sum)
+  (cd "$base" && find -H "$@" \( -name must-fail -o -name edits \) -prune -o -type f -exec sha256sum {} + | LC_ALL=C sort | sha256sum)
 }
 
 # Whether what FOLDER keeps was proved of the sources as they stand: none was touched since the proof began, or their contents
@@ -24,7 +24,7 @@ stands() { # BASE FOLDER
   local paths newer now
   [ -f "$2/began" ] && [ -r "$2/sum" ] && mapfile -t paths <"$2/paths" || return 1
   printf -v now '%(%s)T' -1
-  newer=$(cd "$1" && find "${paths[@]}" -name must-fail -prune -o -cnewer "$2/began" -print -quit 2>&1) && [ -z "$newer" ] && return 0
+  newer=$(cd "$1" && find "${paths[@]}" \( -name must-fail -o -name edits \) -prune -o -cnewer "$2/began" -print -quit 2>&1) && [ -z "$newer" ] && return 0
   [ "$(sum_of "$1" "${paths[@]}" 2>/dev/null)" = "$(<"$2/sum")" ] || return 1
   touch -d "@$((now - 1))" "$2/began" 2>/dev/null
   return 0

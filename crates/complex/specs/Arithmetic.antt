@@ -29,6 +29,10 @@ conjugate a = complexOf (a .re) (Ieee.neg (a .im))
 unfoldable pub scaled : Complex → Float → Complex
 scaled a k = complexOf (Ieee.mul binary64 (a .re) k) (Ieee.mul binary64 (a .im) k)
 
+-- a real number times it, the real number first
+unfoldable pub timesReal : Float → Complex → Complex
+timesReal k a = complexOf (Ieee.mul binary64 k (a .re)) (Ieee.mul binary64 k (a .im))
+
 -- divided by a real number: each part
 unfoldable pub quotient : Complex → Float → Complex
 quotient a k = complexOf (Ieee.div binary64 (a .re) k) (Ieee.div binary64 (a .im) k)

@@ -2,7 +2,7 @@
 ghost use mathlib.Core.Path.{_≡_};
 ghost use Prim.Native.Nat.{_+_, _*_, _<_, _≤_};
 ghost use lib.ListN.{length};
-ghost use Rattle.complex.specs.Arithmetic.{complexOf, product, sumOf, difference, negation, conjugate, scaled, quotient, normSqr};
+ghost use Rattle.complex.specs.Arithmetic.{complexOf, product, sumOf, difference, negation, conjugate, scaled, timesReal, quotient, normSqr};
 ghost use Rattle.complex.specs.Cells.{cellAt, setCell};
 ghost use Rattle.complex.specs.Planes.{planeAt, setPlane};
 ghost use Rattle.complex.specs.Zeros.{zeroed};
@@ -74,6 +74,27 @@ impl Complex {
         }
     }
 
+    // A real number times it, the real number first, as in the eigenvalue sweep.
+    pub fn real_times(self, k: f64) -> Complex
+        ensures { λ r. ⌜ r ≡ timesReal k self ⌝ }
+    {
+        Complex {
+            re: k * self.re,
+            im: k * self.im,
+        }
+    }
+
+    // self + a * conj(b). Both parts are the same sum of two products, so that the back end takes them at once.
+    pub fn add_term(self, a: Complex, b: Complex) -> Complex
+        ensures { λ r. ⌜ r ≡ sumOf self (product a (conjugate b)) ⌝ }
+    {
+        let back = -a.re;
+        Complex {
+            re: self.re + (a.re * b.re + a.im * b.im),
+            im: self.im + (a.im * b.re + back * b.im),
+        }
+    }
+
     // Divided by a real number: each part.
     pub fn div_real(self, k: f64) -> Complex
         ensures { λ r. ⌜ r ≡ quotient self k ⌝ }
@@ -91,7 +112,7 @@ impl Complex {
     }
 }
 
-// The cell x of s.
+// Inner: the cell x of s.
 pub fn read_cell(s: &[f64], x: usize) -> Complex
     requires { ⌜ 2 * x + 1 < length (now s) ⌝ }
     ensures { λ r. ⌜ r ≡ cellAt (now (s .entry)) x ⌝ }
@@ -104,7 +125,7 @@ pub fn read_cell(s: &[f64], x: usize) -> Complex
     }
 }
 
-// The cell x of s becomes z.
+// Inner: the cell x of s becomes z.
 pub fn write_cell(s: &mut [f64], x: usize, z: Complex)
     requires { ⌜ 2 * x + 1 < length (now s) ⌝ }
     ensures { λ _. ⌜ now (s .exit) ≡ setCell (now (s .entry)) x z ⌝ }
@@ -115,7 +136,7 @@ pub fn write_cell(s: &mut [f64], x: usize, z: Complex)
     s[next] = z.im;
 }
 
-// The cell i of a matrix of c cells whose planes are s.
+// Inner: the cell i of a matrix of c cells whose planes are s.
 pub fn read_plane(s: &[f64], c: usize, i: usize) -> Complex
     requires { ⌜ (i < c) × (c + i < length (now s)) ⌝ }
     ensures { λ r. ⌜ r ≡ planeAt (now (s .entry)) c i ⌝ }
@@ -127,7 +148,7 @@ pub fn read_plane(s: &[f64], c: usize, i: usize) -> Complex
     }
 }
 
-// The cell i of a matrix of c cells whose planes are s becomes z.
+// Inner: the cell i of a matrix of c cells whose planes are s becomes z.
 pub fn write_plane(s: &mut [f64], c: usize, i: usize, z: Complex)
     requires { ⌜ (i < c) × (c + i < length (now s)) ⌝ }
     ensures { λ _. ⌜ now (s .exit) ≡ setPlane (now (s .entry)) c i z ⌝ }
@@ -137,7 +158,7 @@ pub fn write_plane(s: &mut [f64], c: usize, i: usize, z: Complex)
     s[next] = z.im;
 }
 
-// The first m numbers of s become +0.0.
+// Inner: the first m numbers of s become +0.0.
 pub fn zero_first(s: &mut [f64], m: usize)
     requires { ⌜ m ≤ length (now s) ⌝ }
     ensures { λ _. ⌜ now (s .exit) ≡ zeroed m (now (s .entry)) ⌝ }

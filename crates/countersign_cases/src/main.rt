@@ -19,10 +19,6 @@ fn fill(text: &[u8], at: usize, out: &mut [f64]) -> usize {
     replay::change(text, replay::past(text, counted), out, count)
 }
 
-fn told(yes: bool) -> u64 {
-    if yes { 1 } else { 0 }
-}
-
 // The call, and what it says.
 fn report(a: &[f64], m: usize, n: usize, u: &[f64], s: &[f64], vt: &[f64], tolerance: u64) {
     let k = countersign::countersign(a, m, n, u, s, vt, tolerance);
@@ -30,7 +26,7 @@ fn report(a: &[f64], m: usize, n: usize, u: &[f64], s: &[f64], vt: &[f64], toler
     let finding = k.finding;
     let verdict = countersign::verdict_of(finding);
     replay::print_answer(answer);
-    replay::print_word(told(verdict.yes));
+    replay::print_yes(verdict.yes);
     replay::print_word(replay::word_of(verdict.test));
     replay::print_word(replay::word_of(verdict.cell));
 }

@@ -1,24 +1,17 @@
 -- Which sizes are on the grid: the five cases of `grid_bits`. Assumes nothing.
 use mathlib.Core.Path.{_≡_, refl, sym, ap, ap₂, subst, _∙_}
-use mathlib.Core.Logic.{_⊎_, inl, inr, ⊎-elim}
+use mathlib.Core.Logic.{_⊎_, ⊎-elim}
 use mathlib.Core.Bool.{Bool, true, false, _&&_}
 use Prim.Native.Nat.{ℕ, zero, suc, _+_, _-_, _*_, _/_, _%_, _^_, _≤_, _<_}
-use native.Mathlib.Decide.{decLe}
-use native.Mathlib.Nat.{lt-of-not-le, lt-of-lt-of-le, le-trans, mod-eq-of-lt, mul-pos, mul-lt-mul-of-pos-right, mul-le-mul-left, mul-le-mul, mul-mod-left, zero-mul, add-zero}
+use native.Mathlib.Nat.{lt-of-lt-of-le, le-trans, mod-eq-of-lt, mul-pos, mul-lt-mul-of-pos-right, mul-le-mul-left, mul-le-mul, mul-mod-left, zero-mul, add-zero}
 use native.Mathlib.Omega.{arith}
 use borrow.Author.Tests.{eq-eqb, ne-eqb, le-leb, lt-leb}
 use lib.Dec.{leb, eqb}
 use lib.Pow.{pow-add, pow-pos, pow-lt, pow-mono, shl-lt, shl-exact, shl-shr, shr-shr, mod-pow-add}
 use Rattle.numbers.specs.Steps.{digits, shift, normalSize}
+use Rattle.submasks.proofs.SubmaskLaws.{le-or-lt}
 use Rattle.countersign_grid.specs.Grid.{gridded, gridUnits, GridBits}
 use Rattle.countersign_grid.specs.declared.Size.{Size}
-
-pub le-or-lt : (a b : ℕ) → (a ≤ b) ⊎ (b < a)
-le-or-lt a b = go (decLe a b)
-  where
-    go : Dec (a ≤ b) → (a ≤ b) ⊎ (b < a)
-    go (yes h) = inl h
-    go (no h) = inr (lt-of-not-le h)
 
 -- ---- yes and no
 

@@ -12,7 +12,8 @@ use Rattle.numbers.specs.Numbers.{allowed, isFinite}
 use Rattle.complex.specs.declared.Complex.{Complex}
 use Rattle.complex.specs.Arithmetic.{complexOf, product, conjugate, normSqr}
 use Rattle.complex.specs.Zeros.{zeroFloat}
-use Rattle.signs.proofs.Signs.{mul-swap, neg-mul, conjugateProduct, conjugate-product}
+use Rattle.signs.proofs.Signs.{mul-swap, neg-mul}
+use Rattle.complex.proofs.ConjugateProduct.{conjugateProduct, conjugate-product}
 use Rattle.finite_products.proofs.WithinLaws.{down-pos}
 use Rattle.finite_products.proofs.Theorems.{mul-finite}
 

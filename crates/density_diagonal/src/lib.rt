@@ -25,7 +25,7 @@ impl Corner {
         let between = self.between;
         Corner {
             first: self.first + a0.norm_sqr(),
-            between: signs::add_term(between, a1, a0),
+            between: between.add_term(a1, a0),
             last: self.last + a1.norm_sqr(),
         }
     }

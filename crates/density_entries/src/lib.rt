@@ -28,10 +28,10 @@ impl Block {
         let r = self.third;
         let s = self.fourth;
         Block {
-            first: signs::add_term(p, a0, b0),
-            second: signs::add_term(q, a0, b1),
-            third: signs::add_term(r, a1, b0),
-            fourth: signs::add_term(s, a1, b1),
+            first: p.add_term(a0, b0),
+            second: q.add_term(a0, b1),
+            third: r.add_term(a1, b0),
+            fourth: s.add_term(a1, b1),
         }
     }
 }

@@ -70,8 +70,8 @@ fn add_terms(planes: &[f64], at: usize, r: usize, m: usize, sums: &mut [f64])
         let below = 64 + u;
         let p = complex::read_plane(sums, 128, u);
         let q = complex::read_plane(sums, 128, below);
-        complex::write_plane(sums, 128, u, signs::add_term(p, a0, b));
-        complex::write_plane(sums, 128, below, signs::add_term(q, a1, b));
+        complex::write_plane(sums, 128, u, p.add_term(a0, b));
+        complex::write_plane(sums, 128, below, q.add_term(a1, b));
         u += 1;
     }
 }

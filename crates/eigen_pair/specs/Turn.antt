@@ -1,18 +1,13 @@
 -- The turn of a pair of a square matrix of n rows, row-major and as planes: its columns p and q, and then its rows. Assumes nothing.
 use mathlib.Core.List.{List}
 use Prim.Native.Nat.{ℕ, zero, suc, _+_, _*_}
-use lib.Ieee as Ieee
-use lib.Ieee.{Float, binary64}
+use lib.Ieee.{Float}
 use Rattle.complex.specs.declared.Complex.{Complex}
-use Rattle.complex.specs.Arithmetic.{complexOf, product, sumOf, difference, conjugate}
+use Rattle.complex.specs.Arithmetic.{product, sumOf, difference, timesReal, conjugate}
 use Rattle.complex.specs.Planes.{planeAt, setPlane}
 use Rattle.svd_pair.specs.declared.Decision.{Decision}
 use Rattle.svd_pair.specs.declared.Decision.the-variants.{Leave, Turn}
 use Rattle.eigen_pair.specs.declared.Angle.{Angle}
-
--- a real number times a complex one, the real number first
-unfoldable pub timesReal : Float → Complex → Complex
-timesReal k z = complexOf (Ieee.mul binary64 k (z .re)) (Ieee.mul binary64 k (z .im))
 
 -- cosine x - (sine phase) y
 unfoldable pub eigenNewP : Angle → Complex → Complex → Complex

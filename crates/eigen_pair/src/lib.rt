@@ -10,7 +10,7 @@ ghost use lib.ListN.{length};
 ghost use Rattle.svd_pair.specs.Decisions.{verdict};
 ghost use Rattle.eigen_pair.specs.Decide.{eigenTangent, leftAlone, eigenDecision};
 ghost use Rattle.eigen_pair.specs.CellPlanes.{asPlanes};
-ghost use Rattle.eigen_pair.specs.Turn.{timesReal, eigenNewP, eigenNewQ, turnTwo, turnLine, turned, eigenApplied};
+ghost use Rattle.eigen_pair.specs.Turn.{eigenNewP, eigenNewQ, turnTwo, turnLine, turned, eigenApplied};
 
 const EIGEN_PAIR_TOL: f64 = 1e-15;
 
@@ -51,16 +51,6 @@ pub fn decide(apq: Complex, app: f64, aqq: f64, largest: f64) -> Decision
 
 // ---- the turn
 
-// A real number times a complex one, the real number first.
-fn real_times(k: f64, z: Complex) -> Complex
-    ensures { λ r. ⌜ r ≡ timesReal k z ⌝ }
-{
-    Complex {
-        re: k * z.re,
-        im: k * z.im,
-    }
-}
-
 // What two cells are turned by.
 pub struct Angle {
     pub cosine: f64,
@@ -72,13 +62,15 @@ impl Angle {
     pub fn new_p(self, x: Complex, y: Complex) -> Complex
         ensures { λ r. ⌜ r ≡ eigenNewP self x y ⌝ }
     {
-        real_times(self.cosine, x).sub(real_times(self.sine, self.phase).mul(y))
+        x.real_times(self.cosine)
+            .sub(self.phase.real_times(self.sine).mul(y))
     }
 
     pub fn new_q(self, x: Complex, y: Complex) -> Complex
         ensures { λ r. ⌜ r ≡ eigenNewQ self x y ⌝ }
     {
-        real_times(self.sine, x).add(real_times(self.cosine, self.phase).mul(y))
+        x.real_times(self.sine)
+            .add(self.phase.real_times(self.cosine).mul(y))
     }
 }
 

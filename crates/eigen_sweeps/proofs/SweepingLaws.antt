@@ -1,5 +1,5 @@
 -- Laws of what `specs/Sweeping.antt` defines. Assumes nothing.
-use mathlib.Core.Path.{_≡_, refl, ap}
+use mathlib.Core.Path.{_≡_, refl}
 use mathlib.Core.Bool.{true, false}
 use mathlib.Core.List.{List, []}
 use Prim.Native.Nat.{ℕ, _+_, _*_}
@@ -10,7 +10,7 @@ use Rattle.complex.specs.Planes.{planeAt}
 use Rattle.complex.specs.Zeros.{zeroFloat}
 use Rattle.svd_pair.specs.declared.Decision.{Decision}
 use Rattle.sweeps.specs.declared.Sweeps.{Sweeps}
-use Rattle.sweeps.specs.Sweeping.{State, counted, noSweeps, pairStep, sweepsTo}
+use Rattle.sweeps.specs.Sweeping.{counted, noSweeps, pairStep, sweepsTo}
 use Rattle.sweeps.proofs.SweepingLaws.{pair-made as made, settled-start as start}
 use Rattle.eigen_pair.specs.Decide.{eigenDecision}
 use Rattle.eigen_pair.specs.Turn.{eigenApplied}

@@ -5,17 +5,6 @@
 //   2 state n list cap bands scratch    entropy_band: the answer's number and place, the count, low, high, whole, the sweeps begun, 1
 //                                       where the last was quiet and else 0, bands and scratch as they stand afterwards
 //   3 w W                               the band of w in W: lo and hi
-use sweeps::Sweeps;
-
-// Writes how the sweeps went: those begun, and 1 where the last one was quiet.
-fn print_sweeps(s: Sweeps) {
-    replay::print_word(replay::word_of(s.begun));
-    if s.quiet {
-        replay::print_word(1);
-    } else {
-        replay::print_word(0);
-    }
-}
 
 fn entropy(
     state: &[f64],
@@ -33,7 +22,8 @@ fn entropy(
     replay::print_word(r.low);
     replay::print_word(r.high);
     replay::print_word(r.whole);
-    print_sweeps(sweeps);
+    replay::print_word(replay::word_of(sweeps.begun));
+    replay::print_yes(sweeps.quiet);
     replay::print_counts(bands);
     replay::print_floats(scratch);
 }

@@ -12,20 +12,12 @@ fn print_complex(z: Complex) {
     replay::print_word(bits::bits_of(z.im));
 }
 
-fn print_yes(b: bool) {
-    if b {
-        replay::print_word(1);
-    } else {
-        replay::print_word(0);
-    }
-}
-
 fn roots(text: &[u8], at: usize) -> usize {
     let word = replay::next_word(text, at);
     replay::print_word(numbers::sqrt_bits(word.value));
     let marked = exact_roots::sqrt_marked(replay::float_of(word.value));
     replay::print_word(bits::bits_of(marked.root));
-    print_yes(marked.exact);
+    replay::print_yes(marked.exact);
     word.next
 }
 
@@ -34,8 +26,8 @@ fn helpers(text: &[u8], at: usize) -> usize {
     let x = replay::float_of(word.value);
     replay::print_word(bits::bits_of(numbers::magnitude(x)));
     replay::print_word(bits::bits_of(numbers::sign(x)));
-    print_yes(numbers::is_finite(x));
-    print_yes(numbers::component_allowed(x));
+    replay::print_yes(numbers::is_finite(x));
+    replay::print_yes(numbers::component_allowed(x));
     word.next
 }
 

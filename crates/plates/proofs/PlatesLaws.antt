@@ -12,7 +12,8 @@ use Rattle.numbers.specs.Numbers.{allowed}
 use Rattle.complex.specs.declared.Complex.{Complex}
 use Rattle.complex.specs.Arithmetic.{complexOf, product, conjugate}
 use Rattle.complex.specs.Cells.{cellAt, components}
-use Rattle.signs.proofs.Signs.{neg-neg, mul-neg, neg-mul, add-swap, conjugateProduct, conjugate-product}
+use Rattle.signs.proofs.Signs.{neg-neg, mul-neg, neg-mul, add-swap}
+use Rattle.complex.proofs.ConjugateProduct.{conjugateProduct, conjugate-product}
 use Rattle.plates.specs.Plates.{Plate, plain, quarter, half, back, byPlate, plated}
 
 -- ---- one term of an entry

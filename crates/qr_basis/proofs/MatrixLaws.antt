@@ -1,7 +1,7 @@
 -- Laws of what `specs/Matrix.antt` defines. Assumes nothing.
 use mathlib.Core.Path.{_≡_, refl, sym, ap, ap₂, _∙_}
 use mathlib.Core.List.{List, [], _∷_, _++_, append-assoc, append-nil}
-use mathlib.Core.Logic.{_⊎_, inl, inr, ⊎-elim}
+use mathlib.Core.Logic.{⊎-elim}
 use Prim.Native.Nat.{ℕ, zero, suc, _+_, _*_, _/_, _%_, _≤_, _<_}
 use native.Mathlib.Nat.{add-zero, mul-zero, eq-or-lt-of-le, suc-mul, mul-le-mul-right, mul-add-div-right, mul-add-mod-self-right, div-eq-of-lt, mod-eq-of-lt, mod-lt, div-add-mod', div-lt-iff-lt-mul}
 use native.Mathlib.Omega.{arith}
@@ -15,6 +15,7 @@ use Rattle.complex.proofs.CellLaws.{length-cells, cells-same, cell-of}
 use Rattle.complex.specs.Planes.{planeAt}
 use Rattle.complex.specs.Zeros.{zeroFloat, zeros, zeroed}
 use Rattle.complex.proofs.ZerosLaws.{zeroed-at, length-zeros}
+use Rattle.submasks.proofs.SubmaskLaws.{le-or-lt}
 use Rattle.qr_basis.specs.Matrix.{columnCell, matrixOf}
 
 -- a column ends before a later one begins
@@ -83,11 +84,6 @@ record Apart (rows a b : ℕ) : Type 0 where
   re-re : a ≡ b → ⊥
   re-im : a ≡ rows + b → ⊥
   im-re : rows + a ≡ b → ⊥
-
-le-or-lt : (a b : ℕ) → (a ≤ b) ⊎ (b < a)
-le-or-lt zero b = inl (omega arith)
-le-or-lt (suc a) zero = inr (omega arith)
-le-or-lt (suc a) (suc b) = ⊎-elim (λ h. inl (omega arith)) (λ h. inr (omega arith)) (le-or-lt a b)
 
 apart : (rows c s i t : ℕ) → s < rows → t < rows → (c ≡ i → s ≡ t → ⊥) → Apart rows (2 * (c * rows) + s) (2 * (i * rows) + t)
 apart rows c s i t h g n =

@@ -212,6 +212,30 @@ pub fn print_answer(a: answers::Answer) {
     print_word(word_of(r.place));
 }
 
+// Writes 1 for yes and 0 for no.
+pub fn print_yes(yes: bool) {
+    if yes {
+        print_word(1);
+    } else {
+        print_word(0);
+    }
+}
+
+// Writes how the sweeps went: those begun, 1 where the last one was quiet, and the pairs turned.
+pub fn print_sweeps(s: sweeps::Sweeps) {
+    print_word(word_of(s.begun));
+    print_yes(s.quiet);
+    print_word(word_of(s.turned));
+}
+
+// Writes an answer and how its sweeps went.
+pub fn print_factored(r: factored::Factored) {
+    let answer = r.answer;
+    let sweeps = r.sweeps;
+    print_answer(answer);
+    print_sweeps(sweeps);
+}
+
 // The first k numbers, or all where there are fewer.
 pub fn front(s: &[usize], k: usize) -> &[usize] {
     if s.len() < k {

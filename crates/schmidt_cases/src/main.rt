@@ -4,23 +4,6 @@
 // the last was quiet and else 0, the pairs turned, 1 where every root came out even and else 0, and the lent slices as they stand
 // afterwards.
 //   1 state n list cap out scratch    dense_schmidt_values
-use sweeps::Sweeps;
-
-// Writes 1 for yes and 0 for no.
-fn print_yes(yes: bool) {
-    if yes {
-        replay::print_word(1);
-    } else {
-        replay::print_word(0);
-    }
-}
-
-// Writes how the sweeps went: those begun, 1 where the last one was quiet, and the pairs turned.
-fn print_sweeps(s: Sweeps) {
-    replay::print_word(replay::word_of(s.begun));
-    print_yes(s.quiet);
-    replay::print_word(replay::word_of(s.turned));
-}
 
 fn values(
     state: &[f64],
@@ -35,8 +18,8 @@ fn values(
     let sweeps = r.sweeps;
     replay::print_answer(answer);
     replay::print_word(replay::word_of(r.count));
-    print_sweeps(sweeps);
-    print_yes(r.exact);
+    replay::print_sweeps(sweeps);
+    replay::print_yes(r.exact);
     replay::print_floats(out);
     replay::print_floats(scratch);
 }

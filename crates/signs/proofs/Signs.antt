@@ -1,14 +1,13 @@
--- Signs of products and sums: what an amplitude times the conjugate of another is without a conjugate. Assumes nothing.
-use mathlib.Core.Path.{_≡_, refl, sym, ap, ap₂, _∙_}
+-- Signs of products and sums of floats, and that both may be exchanged. Assumes nothing.
+use mathlib.Core.Path.{_≡_, refl, ap, _∙_}
 use mathlib.Core.Bool.{Bool, true, false, not, _&&_, Bool·beq, cond}
 use Prim.Native.Nat.{ℕ, zero, suc, _+_, _-_, _*_, _^_}
 use native.Mathlib.Omega.{arith}
-use native.Mathlib.Nat.{mul-comm, add-comm}
-use borrow.Author.Tests.{ltb-true, ltb-false, le-ltb}
+use lib.IntN.{ℤ}
+use native.Mathlib.Nat.{mul-comm, add-comm, zero-mul}
+use borrow.Author.Tests.{ltb-true, ltb-false, lt-ltb, le-ltb}
 use lib.Dec.{ltb, eqb}
 use lib.Ieee.{Float, nan, inf, fin, Format, binary64, round, units, odd, add, sub, mul, neg, sum, up, down, unlike, low, emax, prec}
-use Rattle.complex.specs.declared.Complex.{Complex}
-use Rattle.complex.specs.Arithmetic.{complexOf, product, conjugate}
 
 pub neg-neg : (x : Float) → neg (neg x) ≡ x
 unfolding neg
@@ -124,25 +123,79 @@ add-swap (fin s m e) (fin t n d) =
     (beq-swap s t (round binary64 s (a + b) (down e * down d)) (round binary64 t (b + a) (down e * down d)) (λ h. rw (h, add-comm a b))
     _ _ (apart-swap s t a b (down e * down d)))
 
--- ---- a product with a conjugate
-
--- re: a.re*b.re + a.im*b.im, im: a.im*b.re + (-a.re)*b.im
-unfoldable pub conjugateProduct : Complex → Complex → Complex
-conjugateProduct a b =
-    complexOf (add binary64 (mul binary64 (a .re) (b .re)) (mul binary64 (a .im) (b .im)))
-    (add binary64 (mul binary64 (a .im) (b .re)) (mul binary64 (neg (a .re)) (b .im)))
+-- ---- a factor negated
 
 pub neg-mul : (x y : Float) → mul binary64 (neg x) y ≡ neg (mul binary64 x y)
 neg-mul x y = mul-swap (neg x) y ∙ mul-neg y x ∙ ap neg (mul-swap y x)
 
-sub-neg : (x y z : Float) → sub binary64 x (mul binary64 y (neg z)) ≡ add binary64 x (mul binary64 y z)
+pub sub-neg : (x y z : Float) → sub binary64 x (mul binary64 y (neg z)) ≡ add binary64 x (mul binary64 y z)
 unfolding sub
 sub-neg x y z = ap (add binary64 x) (ap neg (mul-neg y z) ∙ neg-neg (mul binary64 y z))
 
--- THE SAME BITS AS THE PRODUCT WITH THE CONJUGATE
-pub conjugate-product : (a b : Complex) → conjugateProduct a b ≡ product a (conjugate b)
-unfolding conjugateProduct product conjugate
-conjugate-product a b =
-    ap₂ complexOf (sym (sub-neg (mul binary64 (a .re) (b .re)) (a .im) (b .im)))
-    (add-swap (mul binary64 (a .im) (b .re)) (mul binary64 (neg (a .re)) (b .im))
-    ∙ ap (λ (x : Float). add binary64 x (mul binary64 (a .im) (b .re))) (neg-mul (a .re) (b .im) ∙ sym (mul-neg (a .re) (b .im))))
+-- ---- numbers without a minus sign
+
+-- no minus sign, NaN included
+unfoldable pub plus : Float → Bool
+plus nan = true
+plus (inf s) = not s
+plus (fin s m e) = not s
+
+cond-plus : (b : Bool) (x y : Float) → plus x ≡ true → plus y ≡ true → plus (cond b x y) ≡ true
+cond-plus true x y h g = h
+cond-plus false x y h g = g
+
+odd-plus : (d q k l : ℕ) → plus (odd d false q k l) ≡ true
+unfolding odd plus
+odd-plus d zero k l = refl
+odd-plus d (suc q) k l = refl
+
+inf-plus : plus (inf false) ≡ true
+unfolding plus
+inf-plus = refl
+
+units-plus : (f : Format) (q k : ℕ) → plus (units f false q k) ≡ true
+unfolding units
+units-plus f q k =
+    cond-plus (ltb (q * 2 ^ k) (2 ^ (low f + suc (emax f)))) (odd (suc (prec f)) false q k (low f)) (inf false)
+    (odd-plus (suc (prec f)) q k (low f)) inf-plus
+
+round-plus : (f : Format) (a b : ℕ) → plus (round f false a b) ≡ true
+unfolding round
+round-plus f a b = units-plus f _ _
+
+-- a square has none
+pub own-plus : (x : Float) → plus (mul binary64 x x) ≡ true
+unfolding mul plus
+own-plus nan = refl
+own-plus (inf true) = refl
+own-plus (inf false) = refl
+own-plus (fin true m e) = round-plus binary64 (m * up e * (m * up e)) (down e * down e)
+own-plus (fin false m e) = round-plus binary64 (m * up e * (m * up e)) (down e * down e)
+
+-- nor has a sum of two such
+pub add-plus : (x y : Float) → plus x ≡ true → plus y ≡ true → plus (add binary64 x y) ≡ true
+unfolding add sum plus
+add-plus nan y h g = refl
+add-plus (inf true) y h g = cc
+add-plus (inf false) nan h g = refl
+add-plus (inf false) (inf true) h g = cc
+add-plus (inf false) (inf false) h g = refl
+add-plus (inf false) (fin t n d) h g = refl
+add-plus (fin true m e) y h g = cc
+add-plus (fin false m e) nan h g = refl
+add-plus (fin false m e) (inf true) h g = cc
+add-plus (fin false m e) (inf false) h g = refl
+add-plus (fin false m e) (fin true n d) h g = cc
+add-plus (fin false m e) (fin false n d) h g = round-plus binary64 (m * up e * down d + n * up d * down e) (down e * down d)
+
+from-zero : (b c : ℕ) → round binary64 false (0 + b) c ≡ cond (ltb 0 b) (round binary64 false (b - 0) c) (round binary64 (true && ltb b 0) (0 - b) c)
+from-zero zero c = refl
+from-zero (suc b) c = rw (lt-ltb 0 (suc b) (omega arith)) (ap (λ (x : ℕ). round binary64 false x c) (omega arith))
+
+-- added to either zero it gives the same
+pub zeros-alike : (e : ℤ) (y : Float) → plus y ≡ true → add binary64 (fin false 0 e) y ≡ add binary64 (fin true 0 e) y
+unfolding add sum plus
+zeros-alike e nan h = refl
+zeros-alike e (inf t) h = refl
+zeros-alike e (fin true n d) h = cc
+zeros-alike e (fin false n d) h = rw (zero-mul (up e), zero-mul (down d)) (from-zero (n * up d * down e) (down e * down d))

@@ -1,9 +1,9 @@
 -- The eigenvalues at each way out, and that the contract leaves one outcome. Assumes nothing.
 use mathlib.Core.Path.{_≡_, refl, sym, ap, _∙_}
 use mathlib.Core.Bool.{Bool, true, false, not}
-use mathlib.Core.List.{List, [], _∷_, _++_, append-nil}
+use mathlib.Core.List.{List, _++_, append-nil}
 use mathlib.Core.Logic.{inl}
-use Prim.Native.Nat.{ℕ, suc, _*_, _/_, _≤_, _<_}
+use Prim.Native.Nat.{ℕ, _*_, _≤_, _<_}
 use native.Mathlib.Omega.{arith}
 use borrow.Author.Tests.{lt-ltb, le-ltb, ltb-false, eq-eqb, ne-eqb, eqb-true, not-false}
 use lib.Dec.{eqb, ltb}
@@ -14,10 +14,9 @@ use Rattle.answers.specs.declared.Answer.{Answer}
 use Rattle.answers.specs.declared.Answer.the-variants.{Done, NotFinite}
 use Rattle.answers.specs.Paper.{Reply, paper, done, refuse}
 use Rattle.answers.proofs.PaperLaws.{Ended, refuse-done, stays, nine-ended, worked-new, worked-old, end-old, end-worked}
-use Rattle.numbers.specs.Numbers.{allowed}
 use Rattle.complex.specs.declared.Complex.{Complex}
 use Rattle.complex.specs.Cells.{cellAt, written, components}
-use Rattle.complex.proofs.CellLaws.{cell-written}
+use Rattle.complex.proofs.CellLaws.{cell-written, components-small}
 use Rattle.complex.specs.Zeros.{zeroed}
 use Rattle.svd_load.specs.Numbers.{numbersOf, filled}
 use Rattle.svd_load.proofs.NumbersLaws.{length-numbers}
@@ -66,15 +65,6 @@ module _ (a : List Float) (n out scratch : ℕ) where
         pub square-cells : n ≤ out → 2 * (n * n) ≤ scratch → components 0 a ≡ squareRefusal a n out scratch
         unfolding squareRefusal
         square-cells h g = rw (le-ltb _ _ h1, le-ltb _ _ h2, eq-eqb _ _ h3, le-ltb _ _ h, le-ltb _ _ g)
-
-components-small : (i : ℕ) (l : List Float) → components i l .0 < 8
-unfolding components
-components-small i [] = omega arith
-components-small i (x ∷ l) = pick (allowed x) (components-small (suc i) l)
-  where
-    pick : (t : Bool) → components (suc i) l .0 < 8 → refuse (not t) (7, i / 2) (components (suc i) l) .0 < 8
-    pick true h = h
-    pick false h = omega arith
 
 pub square-small : (a : List Float) (n out scratch : ℕ) → squareRefusal a n out scratch .0 < 8
 unfolding squareRefusal

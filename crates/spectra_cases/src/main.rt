@@ -8,35 +8,14 @@
 //   3 rho dim out scratch    schmidt_values_from_density
 //   4 matrix dim values vectors scratch    hermitian_eigen
 use factored::Counted;
-use factored::Factored;
-use sweeps::Sweeps;
 
-// Writes how the sweeps went: those begun, 1 where the last one was quiet, and the pairs turned.
-fn print_sweeps(s: Sweeps) {
-    replay::print_word(replay::word_of(s.begun));
-    if s.quiet {
-        replay::print_word(1);
-    } else {
-        replay::print_word(0);
-    }
-    replay::print_word(replay::word_of(s.turned));
-}
-
-// Writes an answer and how its sweeps went.
-fn print_factored(r: Factored) {
-    let answer = r.answer;
-    let sweeps = r.sweeps;
-    replay::print_answer(answer);
-    print_sweeps(sweeps);
-}
-
-// The same with a count.
+// Writes an answer, its count and how its sweeps went.
 fn print_counted(r: Counted) {
     let answer = r.answer;
     let sweeps = r.sweeps;
     replay::print_answer(answer);
     replay::print_word(replay::word_of(r.count));
-    print_sweeps(sweeps);
+    replay::print_sweeps(sweeps);
 }
 
 fn print_kept(r: finish::Kept) {
@@ -46,7 +25,7 @@ fn print_kept(r: finish::Kept) {
 }
 
 fn eigenvalues(a: &[f64], dim: usize, out: &mut [f64], scratch: &mut [f64]) {
-    print_factored(spectra::hermitian_eigenvalues(a, dim, out, scratch));
+    replay::print_factored(spectra::hermitian_eigenvalues(a, dim, out, scratch));
     replay::print_floats(out);
     replay::print_floats(scratch);
 }
@@ -58,7 +37,7 @@ fn from_density(rho: &[f64], dim: usize, out: &mut [f64], scratch: &mut [f64]) {
 }
 
 fn eigen(matrix: &[f64], dim: usize, values: &mut [f64], vectors: &mut [f64], scratch: &mut [f64]) {
-    print_factored(hermitian_eigen::hermitian_eigen(matrix, dim, values, vectors, scratch));
+    replay::print_factored(hermitian_eigen::hermitian_eigen(matrix, dim, values, vectors, scratch));
     replay::print_floats(values);
     replay::print_floats(vectors);
     replay::print_floats(scratch);

@@ -3,27 +3,6 @@
 // and holds 3.0 everywhere. Each case writes one line of words: the answer's number and place, the sweeps begun, 1 where the last
 // was quiet and else 0, the pairs turned, and the lent slices as they stand afterwards.
 //   1 a m n u s vt scratch
-use factored::Factored;
-use sweeps::Sweeps;
-
-// Writes how the sweeps went: those begun, 1 where the last one was quiet, and the pairs turned.
-fn print_sweeps(s: Sweeps) {
-    replay::print_word(replay::word_of(s.begun));
-    if s.quiet {
-        replay::print_word(1);
-    } else {
-        replay::print_word(0);
-    }
-    replay::print_word(replay::word_of(s.turned));
-}
-
-// Writes an answer and how its sweeps went.
-fn print_factored(r: Factored) {
-    let answer = r.answer;
-    let sweeps = r.sweeps;
-    replay::print_answer(answer);
-    print_sweeps(sweeps);
-}
 
 // The call, its answer and the lent slices as it leaves them.
 fn factor(
@@ -35,7 +14,7 @@ fn factor(
     vt: &mut [f64],
     scratch: &mut [f64],
 ) {
-    print_factored(svd::svd_jacobi(a, m, n, u, s, vt, scratch));
+    replay::print_factored(svd::svd_jacobi(a, m, n, u, s, vt, scratch));
     replay::print_floats(u);
     replay::print_floats(s);
     replay::print_floats(vt);
