@@ -1,10 +1,13 @@
 // Inner: what the chain of sites asks of its state, and the rows of its first step.
 use answers::Answer;
 ghost use mathlib.Core.Path.{_≡_};
-ghost use Prim.Native.Nat.{_*_, _^_, _≤_};
+ghost use mathlib.Core.List.{List};
+ghost use Prim.Native.Nat.{_+_, _*_, _^_, _≤_};
+ghost use lib.Ieee.{Float};
 ghost use lib.ListN.{length};
 ghost use Rattle.answers.specs.Paper.{paper};
-ghost use Rattle.chain_start.specs.Start.{allowedFor, componentsFor, stateZero, reversed, carriedFirst};
+ghost use Rattle.complex.specs.Cells.{written};
+ghost use Rattle.chain_start.specs.Start.{allowedFor, componentsFor, stateZero, reversed, cellReversed, carriedFirst, TurnedTo, BlockRoom};
 
 // Finite, and of magnitude at most 2^190.
 fn state_allowed(x: f64) -> bool
@@ -63,15 +66,44 @@ fn other_way(n: usize, x: usize) -> usize
     r
 }
 
-// The state with qubit 0 as the highest bit.
+// The low bits of a number in the other order, as they stand above the high ones.
+fn turn_round(low: usize, high: usize, backs: &mut [usize])
+    requires { ⌜ (low ≤ 6) × (high ≤ 6) × (length (now backs) ≡ 64) ⌝ }
+    ensures { λ _. ⌜ (length (now (backs .exit)) ≡ 64) × TurnedTo low high (2 ^ low) (now (backs .exit)) ⌝ }
+{
+    let count = submasks::bit(low);
+    let step = submasks::bit(high);
+    for x in 0..count {
+        backs[x] = other_way(low, x) * step;
+    }
+}
+
+// The cells whose high bits are y.
+fn lay_block(state: &[f64], low: usize, high: usize, y: usize, backs: &[usize], u: &mut [f64])
+    requires { ⌜ BlockRoom low high y (length (now state)) (now backs) (length (now u)) ⌝ }
+    ensures { λ _. ⌜ ((old : List Float) → length old ≡ 2 * 2 ^ (low + high) → now (u .entry) ≡ written (y * 2 ^ low) (cellReversed (now (state .entry)) (low + high)) old
+        → now (u .exit) ≡ written (y * 2 ^ low + 2 ^ low) (cellReversed (now (state .entry)) (low + high)) old) ⌝ }
+{
+    let count = submasks::bit(low);
+    let base = y * count;
+    let from = other_way(high, y);
+    for x in 0..count {
+        let z = complex::read_cell(state, backs[x] + from);
+        complex::write_cell(u, base + x, z);
+    }
+}
+
+// The state with qubit 0 as the highest bit. The low bits are turned round once for all.
 pub fn lay_state(state: &[f64], n: usize, u: &mut [f64])
     requires { ⌜ (n ≤ 12) × (length (now state) ≡ 2 * 2 ^ n) × (length (now u) ≡ 2 * 2 ^ n) ⌝ }
     ensures { λ _. ⌜ now (u .exit) ≡ carriedFirst (now (state .entry)) n ⌝ }
 {
-    let cells = submasks::bit(n);
-    for x in 0..cells {
-        let from = other_way(n, x);
-        let z = complex::read_cell(state, from);
-        complex::write_cell(u, x, z);
+    let low = n / 2;
+    let high = n - low;
+    let mut backs = [0usize; 64];
+    turn_round(low, high, &mut backs);
+    let blocks = submasks::bit(high);
+    for y in 0..blocks {
+        lay_block(state, low, high, y, &backs, u);
     }
 }

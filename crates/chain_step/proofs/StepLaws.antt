@@ -2,11 +2,12 @@
 use mathlib.Core.Path.{_≡_, refl, sym, ap, ap₂, _∙_}
 use mathlib.Core.Bool.{Bool, true, false, not, cond}
 use mathlib.Core.List.{List, [], _∷_, _++_, append-nil}
-use Prim.Native.Nat.{ℕ, suc, _+_, _*_, _≤_, min}
-use native.Mathlib.Nat.{mul-comm, mul-le-mul-left, mul-le-mul-right, le-trans, min-le-left, min-le-right, max-le, le-min, mul-le-mul}
+use Prim.Native.Nat.{ℕ, zero, suc, _+_, _*_, _/_, _%_, _≤_, _<_, min}
+use native.Mathlib.Nat.{mul-comm, mul-le-mul-left, mul-le-mul-right, div-lt-iff-lt-mul, mod-lt, div-add-mod', le-trans, min-le-left, min-le-right, max-le, le-min, mul-le-mul}
 use native.Mathlib.Omega.{arith}
 use lib.ListN.{length, drop, drop-of-length-le, take, length-append}
 use lib.Seq.{take-at}
+use lib.Arith.{digits-div, digits-mod, digits-lt}
 use lib.Dec.{ltb, leb}
 use borrow.Author.Tests.{leb-true, leb-false}
 use lib.Ieee as Ieee
@@ -15,10 +16,15 @@ use Rattle.answers.specs.declared.Answer.{Answer}
 use Rattle.answers.specs.Paper.{Reply, paper, done, refuse, after, andThen}
 use Rattle.answers.proofs.PaperLaws.{done-new, stays}
 use Rattle.complex.specs.declared.Complex.{Complex}
-use Rattle.complex.specs.Cells.{cellsOf, written, components}
-use Rattle.complex.proofs.CellLaws.{length-cells}
-use Rattle.site_lines.specs.Sources.{siteCell, isometryCell, scaledVtCell, LineReady}
-use Rattle.svd.specs.Svd.{sideOf, needU, needVt, uOf, sOf, vtOf, svdSweeps, svdEnd, SvdExact, SvdWorked}
+use Rattle.complex.specs.Arithmetic.{conjugate}
+use Rattle.complex.specs.Cells.{cellAt, cellsOf, written, components}
+use Rattle.complex.proofs.CellLaws.{length-cells, cell-of}
+use Rattle.svd_load.specs.Loading.{conjugateTransposed}
+use Rattle.cut_planes.proofs.CutPlanesLaws.{all-same}
+use Rattle.chain_load.specs.Carried.{conjugatedAt, acrossAt, carriedWork}
+use Rattle.site_lines.specs.Sources.{lineCell, siteCell, isometryCell, scaledVtCell, LineReady}
+use Rattle.svd.specs.Svd.{sideOf, needU, needVt, workOf, uOf, sOf, vtOf, svdSweeps, svdEnd, SvdExact}
+use Rattle.svd_loaded.specs.Loaded.{SvdLoaded}
 use Rattle.svd.proofs.SvdLaws.{side-low, side-cells}
 use Rattle.components.specs.Every.{everyAllowed}
 use Rattle.components.proofs.EveryLaws.{every-done, every-from-done}
@@ -37,27 +43,37 @@ written-all m f old e =
     let h : length old ≤ 2 * m = omega arith in
     rw (drop-of-length-le old h, append-nil)
 
-pub lay-ready : (rows columns source room : ℕ) → 1 ≤ rows → 1 ≤ columns → rows * columns ≤ 4096 → source ≡ 2 * (rows * columns)
-    → room ≡ 2 * (rows * columns) → LineReady columns columns rows source room
-lay-ready rows columns source room a b h e f =
-    let c : rows * columns ≡ columns * rows = mul-comm rows columns in
-    let p : 1 * columns ≤ rows * columns = mul-le-mul-right columns a in
-    let q : rows * 1 ≤ rows * columns = mul-le-mul-left rows b in
-    record {
-      stride-small = omega arith;
-      chi-small = omega arith;
-      inside = omega arith;
-      few = omega arith;
-      lines = omega arith;
-      site = omega arith;
-    }
+-- ---- the work matrix
 
-pub laid : (carried old : List Float) (rows columns : ℕ) {end : List Float} → length old ≡ 2 * (rows * columns)
-    → end ≡ written (columns * rows) (siteCell rows (isometryCell carried columns)) old → end ≡ columnwise carried rows columns
-unfolding columnwise
-laid carried old rows columns e h =
-    let l : length old ≡ 2 * (columns * rows) = e ∙ ap (λ (x : ℕ). 2 * x) (mul-comm rows columns) in
-    h ∙ written-all (columns * rows) (siteCell rows (isometryCell carried columns)) old l
+-- in the wide case the cell i of the carried rows is the cell i of the conjugate transpose
+wide-cell : (carried : List Float) (rows columns i : ℕ) → i < rows * columns
+    → conjugatedAt carried i ≡ conjugateTransposed (columnwise carried rows columns) rows columns i
+unfolding conjugatedAt conjugateTransposed columnwise siteCell isometryCell lineCell
+wide-cell carried rows columns i h =
+    let pos : 0 < columns = right-some columns h in
+    let q : i / columns < rows = div-lt-iff-lt-mul pos .1 h in
+    let p : i % columns < columns = mod-lt i pos in
+    let l : i % columns * rows + i / columns < columns * rows = digits-lt p q in
+    let e : (i % columns * rows + i / columns) % rows * columns + (i % columns * rows + i / columns) / rows ≡ i =
+    rw (digits-mod (i % columns) q, digits-div (i % columns) q) (div-add-mod' i columns) in
+    sym (ap conjugate (cell-of (columns * rows) (i % columns * rows + i / columns) (siteCell rows (isometryCell carried columns)) l ∙ ap (cellAt carried) e))
+  where
+    right-some : (columns : ℕ) → i < rows * columns → 0 < columns
+    right-some zero l = absurd (omega arith)
+    right-some (suc c) l = omega arith
+
+tall-cell : (carried : List Float) (rows columns i : ℕ) → i < columns * rows → acrossAt carried columns rows i ≡ cellAt (columnwise carried rows columns) i
+unfolding acrossAt columnwise siteCell isometryCell lineCell
+tall-cell carried rows columns i h = sym (cell-of (columns * rows) i (siteCell rows (isometryCell carried columns)) h)
+
+-- what is loaded is the work matrix of the step's matrix
+pub carried-work : (carried : List Float) (rows columns : ℕ) → carriedWork carried rows columns ≡ workOf (columnwise carried rows columns) rows columns
+unfolding carriedWork workOf
+carried-work carried rows columns =
+    rw (
+      all-same (rows * columns) (conjugatedAt carried) (conjugateTransposed (columnwise carried rows columns) rows columns) (wide-cell carried rows columns),
+      all-same (columns * rows) (acrossAt carried columns rows) (cellAt (columnwise carried rows columns)) (tall-cell carried rows columns),
+    )
 
 -- ---- the factors
 
@@ -69,32 +85,35 @@ rooms rows columns {k} e h =
     let q : k * columns ≤ rows * columns = c .1 in
     (omega arith, omega arith, p, q)
 
-pub exact : (rows columns carried matrix vt scratch u' s vt' : ℕ) {k m : ℕ} → k ≡ sideOf rows columns → StepSizes rows columns carried matrix vt scratch
-    → m ≡ matrix → s ≡ sideOf rows columns → u' ≡ 2 * (rows * k) → vt' ≡ 2 * (k * columns) → SvdExact rows columns m u' s vt' scratch
-exact rows columns carried matrix vt scratch u' s vt' e z em es eu ev =
+pub exact : (rows columns carried matrix vt scratch u' s vt' scratch' : ℕ) {k : ℕ} → k ≡ sideOf rows columns → StepSizes rows columns carried matrix vt scratch
+    → s ≡ sideOf rows columns → u' ≡ 2 * (rows * k) → vt' ≡ 2 * (k * columns) → scratch' ≡ scratch → SvdExact rows columns (2 * (rows * columns)) u' s vt' scratch'
+exact rows columns carried matrix vt scratch u' s vt' scratch' e z es eu ev ec =
     record {
       rows = z .rows-some;
       columns = z .columns-some;
       cells = z .few;
-      a-is = em ∙ z .matrix-is;
+      a-is = refl;
       u-is = rw e at eu;
       s-is = es;
       vt-is = rw e at ev;
-      scratch-is = z .scratch-is;
+      scratch-is = ec ∙ z .scratch-is;
     }
 
-pub factored : (a b : List Float) (rows columns : ℕ) (r : Factored) {u s vt scratch : List Float} (rest rest' : List Float) {k : ℕ} → k ≡ sideOf rows columns → b ≡ a
-    → length u ≡ 2 * (rows * k) → length vt ≡ 2 * (k * columns) → SvdWorked b rows columns r u s vt scratch
-    → StepFactors a rows columns r (u ++ rest) s (vt ++ rest')
-factored a b rows columns r {u} {s} {vt} rest rest' {k} e i lu lv w =
+pub factored : (carried planes : List Float) (rows columns : ℕ) (r : Factored) {u s vt : List Float} (rest rest' : List Float) {k : ℕ} → k ≡ sideOf rows columns
+    → planes ≡ carriedWork carried rows columns
+    → length u ≡ 2 * (rows * k) → length vt ≡ 2 * (k * columns) → ((a : List Float) → planes ≡ workOf a rows columns → SvdLoaded a rows columns r u s vt)
+    → StepFactors (columnwise carried rows columns) rows columns r (u ++ rest) s (vt ++ rest')
+factored carried planes rows columns r {u} {s} {vt} rest rest' {k} e i lu lv made =
+    let a = columnwise carried rows columns in
+    let w = made a (i ∙ carried-work carried rows columns) in
     let mu : length u ≡ needU rows columns = rw e at lu in
     let mv : length vt ≡ needVt rows columns = rw e at lv in
     record {
-      answer = w .answer ∙ rw i;
-      u-is = λ d. take-at u rest (needU rows columns) mu ∙ w .u-is ∙ sym (done-new (paper (r .answer) .0) (uOf b rows columns) _ d) ∙ rw i;
-      s-is = λ d. w .s-is ∙ sym (done-new (paper (r .answer) .0) (sOf b rows columns) _ d) ∙ rw i;
-      vt-is = λ d. take-at vt rest' (needVt rows columns) mv ∙ w .vt-is ∙ sym (done-new (paper (r .answer) .0) (vtOf b rows columns) _ d) ∙ rw i;
-      sweeps-are = λ d. w .sweeps-are ∙ sym (done-new (paper (r .answer) .0) (svdSweeps b rows columns) noSweeps d) ∙ rw i;
+      answer = w .answer;
+      u-is = λ d. take-at u rest (needU rows columns) mu ∙ w .u-is ∙ sym (done-new (paper (r .answer) .0) (uOf a rows columns) _ d);
+      s-is = λ d. w .s-is ∙ sym (done-new (paper (r .answer) .0) (sOf a rows columns) _ d);
+      vt-is = λ d. take-at vt rest' (needVt rows columns) mv ∙ w .vt-is ∙ sym (done-new (paper (r .answer) .0) (vtOf a rows columns) _ d);
+      sweeps-are = λ d. w .sweeps-are ∙ sym (done-new (paper (r .answer) .0) (svdSweeps a rows columns) noSweeps d);
     }
 
 -- ---- the two fills

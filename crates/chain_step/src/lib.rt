@@ -19,15 +19,6 @@ pub struct Link {
     pub sweeps: Sweeps,
 }
 
-// The carried rows as the SVD takes a matrix, column after column.
-fn lay(carried: &[f64], rows: usize, columns: usize, matrix: &mut [f64])
-    requires { ⌜ (1 ≤ rows) × (1 ≤ columns) × (rows * columns ≤ 4096) × (length (now carried) ≡ 2 * (rows * columns))
-        × (length (now matrix) ≡ 2 * (rows * columns)) ⌝ }
-    ensures { λ _. ⌜ now (matrix .exit) ≡ columnwise (now (carried .entry)) rows columns ⌝ }
-{
-    site_lines::fill_isometry(carried, columns, columns, rows, matrix);
-}
-
 // The factors of what is carried in u; U comes to its place.
 fn factor(
     rows: usize,
@@ -43,12 +34,12 @@ fn factor(
     ensures { λ r. ⌜ StepFactors (columnwise (now (u .entry)) rows columns) rows columns r (now (u .exit)) (now (s .exit))
         (now (vt .exit)) ⌝ }
 {
-    lay(u, rows, columns, matrix);
+    let w = 2 * (rows * columns);
+    chain_load::load(u, rows, columns, &mut scratch[..w]);
     let k = svd::smaller_size(rows, columns);
     let for_u = 2 * (rows * k);
     let for_vt = 2 * (k * columns);
-    svd::work(
-        matrix,
+    svd_loaded::factor_loaded(
         rows,
         columns,
         &mut u[..for_u],

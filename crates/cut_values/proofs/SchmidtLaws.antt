@@ -46,7 +46,7 @@ use Rattle.svd_thin.specs.Thin.{swept, orderOf, valuesOf}
 use Rattle.svd.specs.Svd.{sideOf, workOf, sOf, svdSweeps}
 use Rattle.svd.specs.Svd as svd
 use Rattle.svd.proofs.SvdLaws.{side-wide, side-tall, svd-ceiling}
-use Rattle.cut_values.specs.Schmidt.{cutRows, cutColumns, singularValues, cutSweeps, columnsExact, cutExact, columnsExactOf, cutValuesScratch, cutValuesLengths, cutValuesRest, cutValuesTests, valuesReply, cutValuesAnswer, Schmidt, CutValuesSized, sidesMatrix, normsAfter, singularOf, sweepsOf, CutValuesFinished, CutValuesWorked}
+use Rattle.cut_values.specs.Schmidt.{cutRows, cutColumns, singularValues, cutSweeps, columnsExact, cutExact, columnsExactOf, cutValuesScratch, cutValuesLengths, cutValuesRest, cutValuesTests, valuesReply, cutValuesAnswer, Schmidt, CutValuesSized, sidesMatrix, normsAfter, singularOf, sweepsOf, CutValuesFinished, CutValuesMade, CutValuesWorked}
 use Rattle.sweeps.proofs.Ceiling.{Ceiling}
 
 -- ---- the lengths
@@ -241,23 +241,33 @@ and-done zero a b = refl
 and-done (suc x) true b = refl
 and-done (suc x) false b = refl
 
-pub worked : (s : List Float) (n : ℕ) (z : Sides) (old values mid : List Float) (r : Finished) (q : CutCounted) {out scratch : List Float} {sweeps : Sweeps} {b : Bool} (k : ℕ)
+pub made : (s : List Float) (n : ℕ) (z : Sides) (old values : List Float) (r : Finished) (q : CutCounted) {out : List Float} {sweeps : Sweeps} {b : Bool}
     → values ≡ singularOf s n z → length values ≡ z .rows → sweeps ≡ sweepsOf s n z → b ≡ columnsExactOf s n z → CutValuesFinished values old r out
-    → length mid ≡ cutValuesScratch n (z .rows) → k ≡ cutValuesScratch n (z .rows) → scratch ≡ zeroed k mid
     → (q .answer ≡ r .answer) × (q .count ≡ r .count) × (q .sweeps ≡ keptSweeps (r .answer) sweeps) → q .exact ≡ (b && r .exact)
-    → CutValuesWorked s n z old q out scratch
-unfolding zeroed
-worked s n z old values mid r q k e l g y f lm ek h i t =
-    let m : length mid ≤ k = omega arith in
+    → CutValuesMade s n z old q out
+made s n z old values r q e l g y f i t =
     record {
       answer = rw (i .0) (f .answer ∙ ap valuesReply e);
       count = i .1 ∙ rw (i .0) (f .count ∙ ap (λ (x : List Float). ifDone (paper (r .answer) .0) (length (finishOf x)) 0) e);
       out-is = rw (i .0) (f .out-is ∙ ap₂ (λ (x : ℕ) (y : List Float). ifDone (paper (r .answer) .0) (padded x (finishOf y) old) (zeroed x old)) l e);
-      scratch-is = h ∙ rw (drop-of-length-le mid m, append-nil, ek);
       sweeps-are = kept-by (i .0) g (i .2);
       exact-is =
           rw (i .0)
           (t ∙ ap₂ _&&_ y (f .exact-is ∙ ap (λ (x : List Float). ifDone (paper (r .answer) .0) (finishExact x) false) e) ∙ and-done (paper (r .answer) .0) (columnsExactOf s n z) (finishExact (singularOf s n z)));
+    }
+
+pub worked : (s : List Float) (n : ℕ) (z : Sides) (old mid : List Float) (q : CutCounted) {out scratch : List Float} (k : ℕ) → CutValuesMade s n z old q out
+    → length mid ≡ cutValuesScratch n (z .rows) → k ≡ cutValuesScratch n (z .rows) → scratch ≡ zeroed k mid → CutValuesWorked s n z old q out scratch
+unfolding zeroed
+worked s n z old mid q k w lm ek h =
+    let m : length mid ≤ k = omega arith in
+    record {
+      answer = w .answer;
+      count = w .count;
+      out-is = w .out-is;
+      scratch-is = h ∙ rw (drop-of-length-le mid m, append-nil, ek);
+      sweeps-are = w .sweeps-are;
+      exact-is = w .exact-is;
     }
 
 -- ---- the call

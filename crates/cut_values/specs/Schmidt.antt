@@ -117,6 +117,13 @@ pub record CutValuesFinished (values old : List Float) (r : Finished) (end : Lis
   pub out-is : end ≡ ifDone (paper (r .answer) .0) (padded (length values) (finishOf values) old) (zeroed (length values) old)
   pub exact-is : r .exact ≡ ifDone (paper (r .answer) .0) (finishExact values) false
 
+pub record CutValuesMade (s : List Float) (n : ℕ) (z : Sides) (old : List Float) (r : CutCounted) (out : List Float) : Type 0 where
+  pub answer : paper (r .answer) ≡ valuesReply (singularOf s n z)
+  pub count : r .count ≡ ifDone (paper (r .answer) .0) (length (finishOf (singularOf s n z))) 0
+  pub out-is : out ≡ ifDone (paper (r .answer) .0) (padded (z .rows) (finishOf (singularOf s n z)) old) (zeroed (z .rows) old)
+  pub sweeps-are : r .sweeps ≡ keptSweeps (r .answer) (sweepsOf s n z)
+  pub exact-is : r .exact ≡ ifDone (paper (r .answer) .0) (columnsExactOf s n z && finishExact (singularOf s n z)) false
+
 pub record CutValuesWorked (s : List Float) (n : ℕ) (z : Sides) (old : List Float) (r : CutCounted) (out scratch : List Float) : Type 0 where
   pub answer : paper (r .answer) ≡ valuesReply (singularOf s n z)
   pub count : r .count ≡ ifDone (paper (r .answer) .0) (length (finishOf (singularOf s n z))) 0

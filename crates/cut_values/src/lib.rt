@@ -9,7 +9,7 @@ ghost use Prim.Native.Nat.{_+_, _*_, _^_, _≤_};
 ghost use lib.ListN.{length};
 ghost use Rattle.answers.specs.Paper.{paper};
 ghost use Rattle.sweeps.specs.Sweeping.{noSweeps};
-ghost use Rattle.cut_values.specs.Schmidt.{cutValuesLengths, cutValuesRest, normsAfter, singularOf, sweepsOf, columnsExactOf, CutValuesSized, CutValuesFinished, CutValuesWorked, Schmidt};
+ghost use Rattle.cut_values.specs.Schmidt.{cutValuesLengths, cutValuesRest, normsAfter, singularOf, sweepsOf, columnsExactOf, CutValuesSized, CutValuesFinished, CutValuesMade, CutValuesWorked, Schmidt};
 
 // The answer, how many values were kept, the sweeps, and whether every root of a column's norm and the root of the final scale
 // came out even.
@@ -104,15 +104,20 @@ fn finish_finite(values: &[f64], out: &mut [f64]) -> Finished
     }
 }
 
-// The work of an accepted call, over scratch of exactly the needed length: 0, 8 or 9.
-fn work(state: &[f64], n: usize, cut: Sides, out: &mut [f64], scratch: &mut [f64]) -> CutCounted
-    requires { ⌜ CutValuesSized n cut (now state) × (cut .rows ≤ length (now out)) × (length (now scratch) ≡ 8 * 2 ^ n + 2 * cut .rows) ⌝ }
-    ensures { λ r. ⌜ CutValuesWorked (now (state .entry)) n cut (now (out .entry)) r (now (out .exit)) (now (scratch .exit)) ⌝ }
+// Inner: the work of an accepted call, which leaves scratch as it comes: 0, 8 or 9.
+pub fn values_made(
+    state: &[f64],
+    n: usize,
+    cut: Sides,
+    out: &mut [f64],
+    scratch: &mut [f64],
+) -> CutCounted
+    requires { ⌜ CutValuesSized n cut (now state) × (cut .rows ≤ length (now out)) × (2 * 2 ^ n ≤ length (now scratch)) ⌝ }
+    ensures { λ r. ⌜ CutValuesMade (now (state .entry)) n cut (now (out .entry)) r (now (out .exit)) ⌝ }
 {
     let rows = cut.rows;
     let mut values = [0.0f64; 64];
     let swept = singular_values(state, n, cut, &mut values[..rows], scratch);
-    complex::zero_first(scratch, scratch.len());
     let kept = finish_finite(&values[..rows], out);
     let exact = swept.exact & kept.exact;
     let answer = kept.answer;
@@ -125,6 +130,16 @@ fn work(state: &[f64], n: usize, cut: Sides, out: &mut [f64], scratch: &mut [f64
         sweeps,
         exact,
     }
+}
+
+// The same over scratch of exactly the needed length, which is zeroed.
+fn work(state: &[f64], n: usize, cut: Sides, out: &mut [f64], scratch: &mut [f64]) -> CutCounted
+    requires { ⌜ CutValuesSized n cut (now state) × (cut .rows ≤ length (now out)) × (length (now scratch) ≡ 8 * 2 ^ n + 2 * cut .rows) ⌝ }
+    ensures { λ r. ⌜ CutValuesWorked (now (state .entry)) n cut (now (out .entry)) r (now (out .exit)) (now (scratch .exit)) ⌝ }
+{
+    let made = values_made(state, n, cut, out, scratch);
+    complex::zero_first(scratch, scratch.len());
+    made
 }
 
 // A refusal before the work: no value, no sweep, and the mark is no.

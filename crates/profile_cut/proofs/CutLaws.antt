@@ -13,20 +13,20 @@ use lib.Seq.{take-at, take-length, take-append-le, getD-at, take-suc-set, take-s
 use lib.Ieee.{Float}
 use Rattle.answers.specs.declared.Answer.{Answer}
 use Rattle.answers.specs.declared.Answer.the-variants.{Done}
-use Rattle.answers.specs.Paper.{Reply, paper, done, refuse, after, andThen, ifDone, atEnd}
-use Rattle.answers.proofs.PaperLaws.{refuse-done, andThen-done, done-new, end-new}
-use Rattle.answers.proofs.Theorems.{paper-one}
-use Rattle.complex.specs.Cells.{components}
+use Rattle.answers.specs.Paper.{Reply, paper, done, refuse, ifDone}
+use Rattle.answers.proofs.PaperLaws.{refuse-done, done-new, end-new}
 use Rattle.complex.specs.Zeros.{zeros}
 use Rattle.qubits.specs.Lists.{stands, placesFrom, places, qubitSet, subsystem}
-use Rattle.cut_sides.specs.Sides.{cutSizes, cutRefusal}
+use Rattle.cut_sides.specs.declared.Sides.{Sides}
+use Rattle.cut_sides.specs.Sides.{cutSizes, cutRefusal, sidesOf, Parted}
+use Rattle.cut_sides.proofs.SideLaws.{is-parted}
 use Rattle.cut_naming.proofs.ReorderedLaws.{pass, places-pass}
 use Rattle.cut_values.specs.declared.CutCounted.{CutCounted}
 use Rattle.factored.specs.Factored.{keptSweeps}
 use Rattle.factored.proofs.Laws.{kept-done}
 use Rattle.finish.specs.Finish.{finishOf, padded}
-use Rattle.cut_values.specs.Schmidt.{cutRows, singularValues, cutSweeps, cutExact, cutValuesLengths, cutValuesRest, cutValuesTests, valuesReply, cutValuesAnswer, Schmidt}
-use Rattle.cut_values.proofs.SchmidtLaws.{lengths-good, cut-counted-one}
+use Rattle.cut_values.specs.Schmidt.{cutRows, singularValues, cutSweeps, cutExact, cutValuesTests, valuesReply, cutValuesAnswer, singularOf, sweepsOf, columnsExactOf, CutValuesSized, CutValuesMade, Schmidt}
+use Rattle.cut_values.proofs.SchmidtLaws.{sized, cut-counted-one}
 use Rattle.profile_cut.specs.Cut.{firstQubits, cutList, roomAt, valuesAt, replyAt, resultAt, oneIf, marksOf, marksEach, CutRoom, AloneAt}
 
 -- ---- the first qubits
@@ -75,6 +75,9 @@ stands-first : (q k : ℕ) → k ≤ q → stands q (firstQubits k) ≡ false
 unfolding firstQubits stands
 stands-first q zero h = refl
 stands-first q (suc k) h = stands-more q k (firstQubits k) (stands-first q k (omega arith)) (λ e. omega (arith, e))
+
+pub names-few : (n j : ℕ) → suc j < n → n ≤ 12 → j < 12
+names-few n j h k = omega arith
 
 pub names-are : (j : ℕ) → j < 12 → take (j + 1) (0 ∷ 1 ∷ 2 ∷ 3 ∷ 4 ∷ 5 ∷ 6 ∷ 7 ∷ 8 ∷ 9 ∷ 10 ∷ 11 ∷ []) ≡ cutList j
 unfolding firstQubits
@@ -127,53 +130,66 @@ first-accepted n cap j s h =
 pub rows-are : (n j : ℕ) → cutRows n (cutList j) ≡ roomAt n j
 rows-are n j = ap (λ (k : ℕ). 2 ^ min k (n - k)) (length-first (suc j))
 
--- 1 to 7 do not refuse
-tests-pass : (s : List Float) (n j cap out scratch : ℕ) → CutRoom s n j cap out scratch → cutValuesTests s n (cutList j) cap out scratch .0 ≡ 0
-unfolding cutValuesTests cutValuesRest
-tests-pass s n j cap out scratch p =
+-- the list 0..j parts the qubits
+pub first-parted : (s : List Float) (n j cap out scratch : ℕ) (names : List ℕ) → CutRoom s n j cap out scratch → names ≡ cutList j → Parted names n
+first-parted s n j cap out scratch names p e = rw e (is-parted (cutList j) n cap (first-accepted n cap j (p .sizes) (p .inside)))
+
+-- what the work asks of the sides of cut j
+pub sides-ready : (s : List Float) (n j cap out scratch : ℕ) (names : List ℕ) (z : Sides) → CutRoom s n j cap out scratch → names ≡ cutList j → z ≡ sidesOf names n
+    → CutValuesSized n z s × (z .rows ≤ out) × (2 * 2 ^ n ≤ scratch)
+sides-ready s n j cap out scratch names z p e h =
+    let rows : z .rows ≡ roomAt n j = rw (h, e) (rows-are n j) in (
+      sized s n names z (first-parted s n j cap out scratch names p e) h (p .state-is),
+      omega (arith, rows, p .out-fits),
+      omega (arith, p .scratch-fits),
+    )
+
+-- what the call of cut j leaves, by its parts
+alone-by : (s : List Float) (n j : ℕ) (out : List Float) (r : CutCounted) {out' : List Float} → let kept = finishOf (singularValues s n (cutList j)) in
+    paper (r .answer) ≡ valuesReply (singularValues s n (cutList j)) → r .count ≡ ifDone (paper (r .answer) .0) (length kept) 0
+    → (paper (r .answer) .0 ≡ 0 → out' ≡ padded (cutRows n (cutList j)) kept out) → r .sweeps ≡ keptSweeps (r .answer) (cutSweeps s n (cutList j))
+    → r .exact ≡ ifDone (paper (r .answer) .0) (cutExact s n (cutList j)) false → AloneAt s n j r out'
+unfolding replyAt resultAt valuesAt padded
+alone-by s n j out r a c o w x =
+    let kept = finishOf (singularValues s n (cutList j)) in
+    let k = paper (r .answer) .0 in
     let rows = cutRows n (cutList j) in
-    let e : rows ≡ roomAt n j = rows-are n j in
-    let a : cutRefusal (cutList j) n cap .0 ≡ 0 = first-accepted n cap j (p .sizes) (p .inside) in
-    let fits : 8 * 2 ^ n + 2 * rows ≤ scratch = omega (arith, e, p .scratch-fits) in
-    let room : rows ≤ out = omega (arith, e, p .out-fits) in
-    let lengths : done ≡ cutValuesLengths n rows (length s) out scratch = lengths-good n rows (length s) out scratch {cells = 2 ^ n} refl (p .state-is) room fits in
-    let b : cutValuesLengths n rows (length s) out scratch .0 ≡ 0 = ap (λ (x : Reply). x .0) (sym lengths) in
-    ap (λ (x : Reply). x .0)
-    (pass (cutRefusal (cutList j) n cap) (andThen (cutValuesLengths n rows (length s) out scratch) (components 0 s)) a
-    ∙ pass (cutValuesLengths n rows (length s) out scratch) (components 0 s) b)
-    ∙ p .allowed
+    let more = zeros (rows - length kept) in
+    let number : r .answer ≡ Done → k ≡ 0 = λ d. ap (λ (y : Answer). paper y .0) d in
+    let inside : length kept ≤ length (kept ++ more) = omega (arith, length-append kept more) in
+    record {
+      answer = a;
+      result = λ d.
+          cut-counted-one r _ d (c ∙ sym (done-new k (length kept) 0 (number d)))
+          (w ∙ sym (kept-done (r .answer) (cutSweeps s n (cutList j)) d))
+          (x ∙ sym (done-new k (cutExact s n (cutList j)) false (number d)));
+      values = λ d.
+          ap (take (length kept)) (o (number d))
+          ∙ take-append-le (length kept) (kept ++ more) (drop rows out) inside
+          ∙ take-append-seam kept more;
+    }
 
 -- the call of cut j, by what it leaves
 pub alone-is : (s : List Float) (n j cap : ℕ) (out scratch : List Float) (r : CutCounted) {out' scratch' : List Float}
     → cutValuesTests s n (cutList j) cap (length out) (length scratch) .0 ≡ 0
     → Schmidt s n (cutList j) cap out scratch r out' scratch' → AloneAt s n j r out'
-unfolding cutValuesAnswer replyAt resultAt valuesAt padded
-alone-is s n j cap out scratch r {out'} t x =
-    let v = valuesReply (singularValues s n (cutList j)) in
-    let kept = finishOf (singularValues s n (cutList j)) in
-    let k = paper (r .answer) .0 in
-    let rows = cutRows n (cutList j) in
-    let more = zeros (rows - length kept) in
-    let tail = drop rows out in
-    let number : r .answer ≡ Done → k ≡ 0 = λ d. ap (λ (y : Answer). paper y .0) d in
-    let inside : length kept ≤ length (kept ++ more) = omega (arith, length-append kept more) in
-    record {
-      answer = x .answer ∙ pass (cutValuesTests s n (cutList j) cap (length out) (length scratch)) v t;
-      result = λ d.
-          cut-counted-one r _ d (x .count ∙ sym (done-new k (length kept) 0 (number d)))
-          (x .sweeps-are ∙ sym (kept-done (r .answer) (cutSweeps s n (cutList j)) d))
-          (x .exact-is ∙ sym (done-new k (cutExact s n (cutList j)) false (number d)));
-      values = λ d.
-          ap (take (length kept)) (x .out-is ∙ sym (end-new k (kept ++ more ++ tail) _ out (number d)))
-          ∙ take-append-le (length kept) (kept ++ more) tail inside
-          ∙ take-append-seam kept more;
-    }
+unfolding cutValuesAnswer
+alone-is s n j cap out scratch r t x =
+    alone-by s n j out r
+    (x .answer ∙ pass (cutValuesTests s n (cutList j) cap (length out) (length scratch)) (valuesReply (singularValues s n (cutList j))) t)
+    (x .count)
+    (λ d. x .out-is ∙ sym (end-new (paper (r .answer) .0) _ _ out d))
+    (x .sweeps-are)
+    (x .exact-is)
 
-pub alone-made : (s : List Float) (n j cap : ℕ) (out scratch : List Float) (names : List ℕ) (r : CutCounted) {out' scratch' : List Float}
-    → CutRoom s n j cap (length out) (length scratch) → names ≡ cutList j
-    → Schmidt s n names cap out scratch r out' scratch' → AloneAt s n j r out'
-alone-made s n j cap out scratch names r p e x =
-    alone-is s n j cap out scratch r (tests-pass s n j cap (length out) (length scratch) p) (rw e at x)
+-- the work of cut j, by what it leaves
+made-is : (s : List Float) (n j : ℕ) (out : List Float) (r : CutCounted) {out' : List Float} → CutValuesMade s n (sidesOf (cutList j) n) out r out' → AloneAt s n j r out'
+unfolding singularValues cutSweeps cutExact singularOf sweepsOf columnsExactOf
+made-is s n j out r x = alone-by s n j out r (x .answer) (x .count) (λ d. x .out-is ∙ sym (done-new (paper (r .answer) .0) _ _ d)) (x .sweeps-are) (x .exact-is)
+
+pub alone-made : (s : List Float) (n j : ℕ) (out : List Float) (names : List ℕ) (z : Sides) (r : CutCounted) {out' : List Float}
+    → names ≡ cutList j → z ≡ sidesOf names n → CutValuesMade s n z out r out' → AloneAt s n j r out'
+alone-made s n j out names z r e h x = made-is s n j out r (rw (h, e) at x)
 
 -- ---- the marks
 

@@ -29,7 +29,8 @@ pub fn put_marks(j: usize, result: CutCounted, marks: &mut [usize])
     marks[at + 3] = one_if(result.exact);
 }
 
-// Cut j, asked for alone: its values at the front of out.
+// Cut j as asked for alone: its values at the front of out. The list and the state are known to be accepted, and scratch is left as
+// the work leaves it.
 pub fn cut_alone(
     state: &[f64],
     n: usize,
@@ -43,5 +44,6 @@ pub fn cut_alone(
 {
     let names = [0usize, 1, 2, 3, 4, 5, 6, 7, 8, 9, 10, 11];
     let end = j + 1;
-    cut_values::dense_schmidt_values(state, n, &names[..end], cap, out, scratch)
+    let cut = cut_sides::sides_of(&names[..end], n);
+    cut_values::values_made(state, n, cut, out, scratch)
 }

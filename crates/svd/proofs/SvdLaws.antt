@@ -236,11 +236,11 @@ sweeps-same : {rows rows' side side' : ℕ} {w w' : List Float} → rows ≡ row
 sweeps-same {rows} {rows'} {side} {side'} {w} {w'} d e f =
     ap (λ (x : ℕ). swept x side w .sweeps) d ∙ ap (λ (x : ℕ). swept rows' x w .sweeps) e ∙ ap (λ (x : List Float). swept rows' side' x .sweeps) f
 
-work-wide : (a : List Float) (m n : ℕ) → m < n → planesOf (m * n) (conjugateTransposed a m n) ≡ workOf a m n
+pub work-wide : (a : List Float) (m n : ℕ) → m < n → planesOf (m * n) (conjugateTransposed a m n) ≡ workOf a m n
 unfolding workOf
 work-wide a m n h = rw (lt-ltb m n h)
 
-work-tall : (a : List Float) (m n : ℕ) → n ≤ m → planesOf (n * m) (cellAt a) ≡ workOf a m n
+pub work-tall : (a : List Float) (m n : ℕ) → n ≤ m → planesOf (n * m) (cellAt a) ≡ workOf a m n
 unfolding workOf
 work-tall a m n h = rw (le-ltb m n h)
 

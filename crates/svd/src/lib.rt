@@ -126,8 +126,8 @@ fn finite_factors(u: &[f64], s: &[f64], vt: &[f64]) -> bool
     values::all_finite(vt)
 }
 
-// 9 where a number of a factor is not finite, and then all three are +0.0.
-fn finish(u: &mut [f64], s: &mut [f64], vt: &mut [f64]) -> Answer
+// Inner. 9 where a number of a factor is not finite, and then all three are +0.0.
+pub fn finish(u: &mut [f64], s: &mut [f64], vt: &mut [f64]) -> Answer
     ensures { λ r. ⌜ SvdFinished (now (u .entry)) (now (s .entry)) (now (vt .entry)) r (now (u .exit)) (now (s .exit)) (now (vt .exit)) ⌝ }
 {
     if finite_factors(u, s, vt) {
@@ -139,8 +139,8 @@ fn finish(u: &mut [f64], s: &mut [f64], vt: &mut [f64]) -> Answer
     Answer::NotFinite
 }
 
-// Inner. The work of an accepted call, over slices of exactly the needed lengths.
-pub fn work(
+// The work of an accepted call, over slices of exactly the needed lengths.
+fn work(
     a: &[f64],
     m: usize,
     n: usize,

@@ -1,13 +1,13 @@
-//! Cases for `chain_cases`, in its own format: a state is counted up from a first word, or nothing, and the text has what differs; long
-//! slices of floats are printed as a digest.
+//! Cases for `chain_cases` and `profile_cases`, in a format of their own: a state is counted up from a first word, or nothing, and the text
+//! has what differs; long slices of floats are printed as a digest.
 
-use crate::call::{Call, Entry::chain_of_sites, Kind};
+use crate::call::{Arg, Call, Entry::{chain_of_sites, cut_profile}, Kind};
 use crate::cases::{self, Bounds, Cells, numbers, one, power};
 use crate::oracle::{Build, outcome};
 use crate::random::Random;
 use crate::sample::lend;
 use crate::sites_sample::{LONG, READ, counted, digest};
-use crate::table::CHAIN_LARGEST;
+use crate::table::{CHAIN_LARGEST, LARGEST};
 
 /// The state's length, the first word of the count or 0, how many numbers differ, and the place and bits of each.
 pub fn asked(call: &Call) -> String {
@@ -18,15 +18,18 @@ pub fn asked(call: &Call) -> String {
         if changes(&up).len() < changes(&nothing).len() { (READ, changes(&up)) } else { (0, changes(&nothing)) };
     let mut words = vec![1, state.len() as u64, first, differ.len() as u64];
     words.extend(differ.into_iter().flat_map(|at| [at as u64, state[at]]));
-    words.extend((1..4).map(|at| call.one(at) as u64));
+    words.extend(call.args.iter().filter_map(|arg| if let Arg::One(word) = arg { Some(*word) } else { None }));
     words.extend(call.slices()[1..].iter().map(|&at| call.many(at).len() as u64));
     words.iter().map(|word| format!("{word:X}")).collect::<Vec<_>>().join(" ")
 }
 
-/// What the case prints: number, place, the cuts that dropped a value, and each lent slice or its digest.
+/// What the case prints: number, place, of a chain the cuts that dropped a value, and each lent slice or its digest.
 pub fn printed(call: &Call) -> String {
     let made = outcome(call, Build::Counting);
-    let mut words = vec![u64::from(made.number), made.place, made.value];
+    let mut words = vec![u64::from(made.number), made.place];
+    if call.entry == chain_of_sites {
+        words.push(made.value);
+    }
     for (slice, &at) in call.slices().iter().enumerate().skip(1) {
         let left = &made.slices[slice];
         if call.entry.kinds()[at] == Kind::MutFloats && left.len() >= LONG {
@@ -39,7 +42,6 @@ pub fn printed(call: &Call) -> String {
 }
 
 fn chain(rng: &mut Random, state: &Cells, n: usize, epsilon: f64, limit: usize) -> Call {
-    use crate::call::Arg;
     lend(rng, chain_of_sites, vec![Arg::Many(numbers(state)), one(n), Arg::One(epsilon.to_bits()), one(limit)])
 }
 
@@ -108,5 +110,43 @@ pub fn cases_of(rng: &mut Random, calls: &mut Vec<Call>) {
         if call.many(0).len() <= 64 && call.slices()[1..].iter().all(|&at| call.many(at).len() <= 400) {
             calls.push(call);
         }
+    }
+}
+
+/// Pages of every kind of state, the longest one, those of one qubit, those at the edges, refused ones, and those that give up.
+pub fn pages_of(rng: &mut Random, calls: &mut Vec<Call>) {
+    let page = |rng: &mut Random, state: &Cells, n: usize, cap: usize| {
+        lend(rng, cut_profile, vec![Arg::Many(numbers(state)), one(n), one(cap)])
+    };
+    for kind in 0..cases::CHAIN_KINDS {
+        for n in [2 + kind % 2, 4] {
+            let state = cases::chain_state_of(rng, n, kind);
+            calls.push(page(rng, &state, n, [13, n + 1, usize::MAX][kind % 3]));
+        }
+    }
+    for (kind, n) in [(12, 6), (2, 7), (13, 5)] {
+        let state = cases::chain_state_of(rng, n, kind);
+        calls.push(page(rng, &state, n, 13));
+    }
+    let up: Vec<f64> = counted(READ, 2 << 12).into_iter().map(f64::from_bits).collect();
+    calls.push(page(rng, &up.chunks_exact(2).map(|parts| (parts[0], parts[1])).collect(), 12, 13));
+    let real = |values: &[f64]| values.iter().map(|&value| (value, 0.0)).collect::<Cells>();
+    for (n, cap) in [(1, 13), (1, 2), (1, 1), (0, 13), (13, 14), (2, 2), (usize::MAX, 13)] {
+        calls.push(page(rng, &real(&[1.0, 0.0, 0.0, 1.0][..2]), n, cap));
+    }
+    let above = f64::from_bits(LARGEST.to_bits() + 1);
+    for x in [LARGEST, above, f64::NAN, 0.0, -0.0, power(-538), power(-1074)] {
+        calls.push(page(rng, &real(&[0.0, x, 0.0, -0.0]), 2, 13));
+    }
+    // Each slice one number short of its need.
+    for (slice, length) in [7, 1, 1, 0, 0, 3, 35].into_iter().enumerate() {
+        let mut call = page(rng, &real(&[0.6, 0.0, 0.0, 0.8]), 2, 13);
+        let at = call.slices()[slice];
+        call.many_mut(at).resize(length, 0);
+        calls.push(call);
+    }
+    for code in [275u32, 5655, 4406] {
+        let state: Vec<f64> = (0..16).map(|at| f64::from(code >> at & 1)).collect();
+        calls.push(page(rng, &real(&state), 4, 13));
     }
 }

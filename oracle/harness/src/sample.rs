@@ -30,6 +30,7 @@ pub fn entries(kind: &str) -> &'static [Entry] {
             fill_scaled_vt_data,
         ],
         "chain_cases" => &[chain_of_sites],
+        "profile_cases" => &[cut_profile],
         _ => panic!("no such replay program: {kind}"),
     }
 }
@@ -40,7 +41,7 @@ pub fn asked(kind: &str, call: &Call) -> String {
         entries(kind).iter().position(|&entry| entry == call.entry).expect("an entry point of the program") + 1;
     match kind {
         "sites_cases" => return sites_sample::asked(number, call),
-        "chain_cases" => return chains_sample::asked(call),
+        "chain_cases" | "profile_cases" => return chains_sample::asked(call),
         _ => {}
     }
     let mut line = format!("{number:X}");
@@ -66,7 +67,7 @@ pub fn asked(kind: &str, call: &Call) -> String {
 pub fn printed(kind: &str, call: &Call) -> String {
     match kind {
         "sites_cases" => return sites_sample::printed(call),
-        "chain_cases" => return chains_sample::printed(call),
+        "chain_cases" | "profile_cases" => return chains_sample::printed(call),
         _ => {}
     }
     let outcome = outcome(call, Build::Counting);
@@ -327,6 +328,7 @@ pub fn cases_of(kind: &str, seed: u64) -> Vec<Call> {
             hermitian_eigenvalues | schmidt_values_from_density | hermitian_eigen => squares(rng, entry, &mut calls),
             dense_schmidt_values => cuts(rng, &mut calls),
             chain_of_sites => chains_sample::cases_of(rng, &mut calls),
+            cut_profile => chains_sample::pages_of(rng, &mut calls),
             _ => sites_sample::cases_of(rng, entry, &mut calls),
         }
     }

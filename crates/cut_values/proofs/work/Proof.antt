@@ -1,37 +1,15 @@
--- `cut_values::work` meets its contract: the singular values, scratch zeroed, and the finish. Assumes nothing.
-use mathlib.Core.Path.{refl, sym, _∙_}
-use native.Mathlib.Omega.{arith}
-use lib.Seq.{length-take-le, take-at}
-use Rattle.cut_values.proofs.SchmidtLaws.{front-length, front-in, same-le, worked}
+-- `cut_values::work` meets its contract: the values, and scratch zeroed. Assumes nothing.
+use mathlib.Core.Path.{_∙_}
+use Rattle.cut_values.proofs.SchmidtLaws.{worked}
 use borrow.Author.Needs.{needs}
 use Rattle.cut_values.proofs.work.Statement.{statement}
 use Rattle.cut_values.proofs.work.Tie as tie
 
-array-borrow-prefix-values : tie.Need-array-borrow-prefix-values
-array-borrow-prefix-values c = c .before .before .before .pre .0 .few
-
-slice-aggregate-singular-values : tie.Need-slice-aggregate-singular-values
-slice-aggregate-singular-values c = sym (length-take-le _ _ (c .before .before .before .before .pre .0 .few))
-
-singular-values-requires : tie.Need-singular-values-requires
-singular-values-requires c κs = let p = c .before .before .before .before .before .pre in (p .0, length-take-le _ _ (p .0 .few), omega (arith, p .2))
+values-made-requires : tie.Need-values-made-requires
+values-made-requires c κs = search needs
 
 zero-first-requires : tie.Need-zero-first-requires
 zero-first-requires c κs = search needs
-
-array-share-prefix-values : tie.Need-array-share-prefix-values
-array-share-prefix-values c = front-in _ (c .before .before .before .before .before .before .before .singular-values .last .1 .1 .1 .0) _ (c .before .before .before .before .before .before .before .singular-values .kept .1 .1 .1 .0 ∙ length-take-le _ _ (c .before .before .before .before .before .before .before .before .before .before .before .before .before .pre .0 .few))
-
-slice-aggregate-finish-finite : tie.Need-slice-aggregate-finish-finite
-slice-aggregate-finish-finite c = sym (front-length _ (c .before .before .before .before .before .before .before .before .singular-values .last .1 .1 .1 .0) _ (c .before .before .before .before .before .before .before .before .singular-values .kept .1 .1 .1 .0 ∙ length-take-le _ _ (c .before .before .before .before .before .before .before .before .before .before .before .before .before .before .pre .0 .few)))
-
-finish-finite-requires : tie.Need-finish-finite-requires
-finish-finite-requires c κs =
-    let p = c .before .before .before .before .before .before .before .before .before .before .before .before .before .before .before .pre in
-    same-le (front-length _ (c .before .before .before .before .before .before .before .before .before .singular-values .last .1 .1 .1 .0) _ (c .before .before .before .before .before .before .before .before .before .singular-values .kept .1 .1 .1 .0 ∙ length-take-le _ _ (p .0 .few))) (p .1)
-
-answered-count-requires : tie.Need-answered-count-requires
-answered-count-requires c κs = search needs
 
 same-length : tie.Need-same-length
 same-length c = search needs
@@ -41,26 +19,10 @@ same-length-2 c = search needs
 
 returns : tie.Need-returns
 returns c =
-    let p = c .before .before .before .before .before .before .before .before .before .before .before .before .before .before .before .before .before .before .before .before .before .before .before .pre in
-    let v = c .before .before .before .before .before .before .before .before .before .before .before .before .before .before .before .before .before .singular-values in
-    let f = c .before .before .before .before .before .before .before .finish-finite in
-    let k = v .kept .1 .1 .1 .0 ∙ length-take-le _ _ (p .0 .few) in
-    let m = v .kept .1 .1 .1 .1 .0 ∙ p .2 in
-    let t = c .before .answered-count .ensures in
-    worked _ _ _ _ _ _ (f .result) _ _ (take-at _ _ _ k ∙ v .ensures .0) (front-length _ (v .last .1 .1 .1 .0) _ k) (v .ensures .1) (v .ensures .2) (f .ensures) m m (c .before .before .before .before .before .before .before .before .before .before .before .before .zero-first .ensures) (refl, t .1, t .2) refl
+    let v = c .before .before .before .before .before .before .before .before .values-made in
+    let m = v .kept .1 .1 .1 .1 .0 ∙ c .before .before .before .before .before .before .before .before .before .before .before .before .before .before .pre .2 in
+    worked _ _ _ _ _ _ _ (v .ensures) m m (c .before .before .zero-first .ensures)
 
 pub work-spec : {M : Type 1} → statement M
 work-spec =
-    tie.close
-    (tie.spec
-    array-borrow-prefix-values
-    slice-aggregate-singular-values
-    singular-values-requires
-    zero-first-requires
-    array-share-prefix-values
-    slice-aggregate-finish-finite
-    finish-finite-requires
-    answered-count-requires
-    same-length
-    same-length-2
-    returns)
+    tie.close (tie.spec values-made-requires zero-first-requires same-length same-length-2 returns)

@@ -1,0 +1,2 @@
+-- What the contracts of `chain_load` cite.
+pub mod Carried
