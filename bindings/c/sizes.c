@@ -207,8 +207,10 @@ int main(void) {
         puts("a size that the library does not take has a length");
         failed = 1;
     }
-    if (strcmp(zg_version(), ZEGRAFULT_VERSION) != 0)
+    if (zg_version() != ZEGRAFULT_VERSION_NUMBER || strcmp(zg_version_text(), ZEGRAFULT_VERSION) != 0) {
+        printf("the library's version is %lu, the headers' %s\n", (unsigned long)zg_version(), ZEGRAFULT_VERSION);
         failed = 1;
+    }
     if (!failed)
         printf("sizes: %d lengths are taken, and one less is refused by 6 at its slice\n", tried);
     return failed;

@@ -28,7 +28,7 @@ static bool yes;
 static void nothing(void) {}
 static void numbers(void) {
     number = zg_sqrt(2.0) + zg_sqrt_marked(2.0, &exact) + zg_modulus(3.0, 4.0) + zg_magnitude(-1.0) + zg_sign(-0.0);
-    bits = zg_sqrt_bits(0x4000000000000000u) + zg_is_finite(1.0) + zg_component_allowed(1.0) + zg_total_less(0.0, 1.0) + zg_total_order(0.0, 1.0);
+    bits = zg_sqrt_bits(0x4000000000000000u) + zg_is_finite(1.0) + zg_component_allowed(1.0) + zg_total_less(0.0, 1.0) + zg_total_order(0.0, 1.0) + zg_version();
     answer = 0;
 }
 static void qubit_set(void) { answer = zg_validate_qubit_set(eleven, 11, 12, &place); }

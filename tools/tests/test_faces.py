@@ -21,7 +21,7 @@ class Faces(unittest.TestCase):
         self.room = tempfile.TemporaryDirectory()
         self.addCleanup(self.room.cleanup)
         self.root = pathlib.Path(self.room.name)
-        for path in [faces.EXPORTS, faces.HEADER, faces.SIZES, faces.SIZES_TRIED, faces.VERSION, faces.CARGO, faces.PORT]:
+        for path in [faces.EXPORTS, faces.ANSWERS, faces.HEADER, faces.SIZES, faces.SIZES_TRIED, faces.VERSION, faces.CARGO, faces.PORT]:
             (self.root / path).parent.mkdir(parents=True, exist_ok=True)
             shutil.copy(ROOT / path, self.root / path)
         for folder in ['bindings/rust/src', faces.PYTHON]:
@@ -107,7 +107,44 @@ class Faces(unittest.TestCase):
         self.edit(faces.SIZES_TRIED, 'zg_cut_matrix_out_len(n)', 'zg_state_len(n)')
         self.says('bindings/c/sizes.c: lacks zg_cut_matrix_out_len')
 
+    # ---- what is said of the arguments
+
+    def test_an_argument_is_not_explained(self):
+        self.edit(faces.HEADER, ' *   exact  [out]     whether it came out even */', ' */')
+        self.says('include/zegrafult.h: the comment of zg_sqrt_marked has no line "exact [out]"')
+
+    def test_an_argument_is_said_to_be_read(self):
+        self.edit(faces.HEADER, ' *   exact  [out]     whether', ' *   exact  [in]      whether')
+        self.says('include/zegrafult.h: the comment of zg_sqrt_marked has no line "exact [out]"')
+
+    def test_a_length_is_not_said(self):
+        self.edit(faces.HEADER, 'list_len is k', 'of k')
+        self.says('include/zegrafult.h: the comment of zg_validate_qubit_set does not say how long list is')
+
+    # ---- the answers
+
+    def test_an_answer_has_another_number(self):
+        self.edit(faces.REFUSAL, 'Refusal::NoRun => 14,', 'Refusal::NoRun => 15,')
+        self.says('bindings/rust/src/refusal.rs: lacks "Refusal::NoRun => 14,"')
+
+    def test_an_answer_loses_its_place(self):
+        self.edit(faces.MEANING, 'Cell {place} is not a whole', 'A cell is not a whole')
+        self.says('bindings/python/zegrafult/refusal.py: lacks the answer 11, or its place')
+
+    def test_an_answer_is_not_in_c(self):
+        self.edit(faces.SIZES, 'ZG_NO_RUN = 14', 'ZG_NO_RUN = 17')
+        self.says('include/zegrafult_sizes.h: lacks the answer 14')
+
     # ---- Rust
+
+    def test_no_example(self):
+        self.edit('bindings/rust/src/numbers.rs', '/// ```\n/// assert_eq!(zegrafult::sign(-0.0), -1.0);\n/// ```\n', '')
+        self.says('bindings/rust/src/numbers.rs: sign has no example')
+
+    def test_no_reason(self):
+        self.edit('bindings/rust/src/lib.rs', '    // SAFETY: the call takes nothing and gives a number alone.\n', '')
+        self.assertEqual(len(self.found()), 1)
+        self.assertIn('has no SAFETY', self.found()[0])
 
     def test_ffi_lacks_a_call(self):
         self.edit(faces.FFI, '    pub fn zg_total_less(x: f64, y: f64) -> bool;\n', '')
@@ -152,6 +189,10 @@ class Faces(unittest.TestCase):
         with self.assertRaises(faces.Unreadable):
             self.found()
 
+    def test_library_of_another_version(self):
+        self.edit(faces.EXPORTS, '⌜ r ≡ 100 ⌝', '⌜ r ≡ 101 ⌝')
+        self.says('crates/exports/src/lib.rt: the version is not 0.1.0, that is 100')
+
     # ---- a new call
 
     def test_new_call(self):
@@ -166,9 +207,11 @@ class Faces(unittest.TestCase):
         self.assertEqual(run.returncode, 1)
         self.assertEqual(sorted(run.stdout.split('\n')[:-1]), sorted(lacks))
         said = subprocess.run([sys.executable, str(TOOL), '--declare', 'zg_never_there', '--root', str(self.root)], capture_output=True, text=True)
-        c, ffi, port = said.stdout.split('\n')[:3]
+        lines = said.stdout.split('\n')
+        comment, (c, ffi, port) = '\n'.join(lines[:6]), lines[6:9]
+        self.assertEqual(lines[1], ' *   bytes      [in]      .; bytes_len')
         self.assertEqual(c, 'uint32_t zg_never_there(const uint8_t *bytes, size_t bytes_len, size_t sheet[32], double *out, size_t out_len, size_t *place);')
-        self.edit(faces.HEADER, 'double zg_sign(double x);', 'double zg_sign(double x);\n' + c)
+        self.edit(faces.HEADER, 'double zg_sign(double x);', 'double zg_sign(double x);\n' + comment + '\n' + c)
         self.edit(faces.FFI, '    pub fn zg_sign(', ffi + '\n    pub fn zg_sign(')
         self.edit(faces.PORT, '    pub fn zg_sign(', port + '\n    pub fn zg_sign(')
         self.assertEqual(sorted(self.found()), sorted(lacks[3:]))

@@ -3,6 +3,7 @@ by path and from Python, and is moved and unpacked anywhere. It needs the proved
 import hashlib
 import os
 import pathlib
+import re
 import shutil
 import subprocess
 import tempfile
@@ -23,7 +24,7 @@ int main(void) {
     bool quiet;
     uint32_t answer = zg_svd_jacobi(a, zg_matrix_len(2, 2), 2, 2, u, zg_svd_jacobi_u_len(2, 2), s, zg_svd_jacobi_s_len(2, 2), vt,
                                     zg_svd_jacobi_vt_len(2, 2), scratch, zg_svd_jacobi_scratch_len(2, 2), &place, &sweeps, &quiet, &turned);
-    printf("%s %u %g %g %d %s\n", zg_answer_text(answer), (unsigned)answer, s[0], s[1], (int)zg_environment(), zg_version());
+    printf("%s %u %g %g %d %s\n", zg_answer_text(answer), (unsigned)answer, s[0], s[1], (int)zg_environment(), zg_version() == ZEGRAFULT_VERSION_NUMBER ? zg_version_text() : "another");
     return 0;
 }
 '''
@@ -31,6 +32,16 @@ RUST = '''
 fn main() {
     let svd = zegrafult::svd_jacobi(&[3.0, 0.0, 0.0, 4.0].map(zegrafult::Complex::real), 2, 2).unwrap();
     println!("{:?} {}", svd.s, zegrafult::environment());
+}
+'''
+NUM_COMPLEX = '''
+use num_complex::Complex64;
+use zegrafult::num_complex::cells;
+
+fn main() {
+    let state = [1.0, 0.0, 0.0, 1.0].map(Complex64::from);
+    let found = zegrafult::dense_schmidt_values(cells(&state), 2, &[0], zegrafult::CAP).unwrap();
+    println!("{} {}", found.values.len(), zegrafult::dense_schmidt_values(cells(&state[1..]), 2, &[0], 13).unwrap_err());
 }
 '''
 PYTHON = "import zegrafult as zg; print(zg.svd_jacobi([[3, 0], [0, 4]]).s.tolist(), zg.environment(), zg.__version__, zg.LIBRARY)"
@@ -99,6 +110,29 @@ class Installed(unittest.TestCase):
         shutil.copy(ROOT / 'examples' / 'paper.cut', self.path / 'state.bin')
         self.assertEqual(self.said(self.prefix / 'bin' / 'cutprint'), (ROOT / 'examples' / 'paper.txt').read_text())
 
+    def test_lot_and_tools(self):
+        """An operator's night without the repository: a state packed, certified, read, all cuts, the chain, a lot."""
+        tool = lambda name: self.prefix / 'bin' / ('zg-' + name)
+        self.env['HOME'] = '/nonexistent'
+        self.env['PYTHONDONTWRITEBYTECODE'] = '1'
+        shutil.copy(ROOT / 'examples' / 'ghz.state.txt', self.path / 'ghz.txt')
+        self.said(tool('pack'), 'ghz.txt', '-q', '0,1,2', '-o', 'ghz.cut')
+        self.assertEqual((self.path / 'ghz.cut').read_bytes(), (ROOT / 'examples' / 'ghz.cut').read_bytes())
+        printed = self.said(self.prefix / 'bin' / 'certify', 'ghz.cut')
+        self.assertEqual(printed, (ROOT / 'examples' / 'ghz.txt').read_text())
+        (self.path / 'printed').write_text(printed)
+        self.assertIn('0.7071', self.said(tool('read'), 'printed', '--cut', 'ghz.cut', '--svg', 'page.svg'))
+        self.said(tool('lot'), 'pack', 'ghz.cut', ROOT / 'examples' / 'refused-3.cut', '-o', 'night.lot')
+        sheet = self.said(self.prefix / 'bin' / 'certify', '--lot', 'night.lot')
+        self.assertTrue(sheet.startswith('lot 2\nanswer 0 1\n'), sheet)
+        (self.path / 'sheet').write_text(sheet)
+        self.said(tool('lot'), 'show', 'sheet')
+        if has('cc'):
+            for said in (self.said(tool('profile'), 'ghz.cut'), self.said(self.prefix / 'bin' / 'certify', '--profile', 'ghz.cut')):
+                self.assertTrue(said.startswith('profile 6\ncut 0 2 1 yes'), said)
+            self.assertIn('site', self.said(tool('chain'), 'ghz.cut'))
+        self.assertFalse(list(self.prefix.rglob('*.pyc')) + list(self.prefix.rglob('libexports*')))
+
     def test_another_program_is_not_run(self):
         copy = self.path / 'copy'
         shutil.copytree(self.prefix, copy, symlinks=True)
@@ -125,7 +159,7 @@ class Installed(unittest.TestCase):
         self.assertEqual(self.said(self.path / 'static'), wanted)
         self.said('cc', '-std=c99', self.prefix / 'share' / 'zegrafult' / 'examples' / 'from_file.c', *cflags, archive, '-o', 'from_file')
         ghz = self.said(self.path / 'from_file', self.prefix / 'share' / 'zegrafult' / 'examples' / 'ghz.cut')
-        self.assertIn('value 0 3FE6A09E667F3BCC', ghz)
+        self.assertEqual(ghz, (ROOT / 'examples' / 'ghz.txt').read_text())
         if has('c++'):
             self.said('c++', '-x', 'c++', 'program.c', '-x', 'none', *cflags, archive, '-o', 'plus')
             self.assertEqual(self.said(self.path / 'plus'), wanted)
@@ -152,6 +186,17 @@ class Installed(unittest.TestCase):
         self.assertNotEqual(done.returncode, 0)
         self.assertIn('tools/install PREFIX', done.stderr)
 
+    @unittest.skipUnless(has('cargo') and list(pathlib.Path('/usr/share/cargo/registry').glob('num-complex-0.4*')), 'no num-complex')
+    def test_rust_with_num_complex(self):
+        for folder in ('src', '.cargo'):
+            (self.path / folder).mkdir()
+        (self.path / '.cargo' / 'config.toml').write_text('[source.crates-io]\nreplace-with = "debian"\n[source.debian]\ndirectory = "/usr/share/cargo/registry"\n')
+        (self.path / 'src' / 'main.rs').write_text(NUM_COMPLEX)
+        crate = self.prefix / 'share' / 'zegrafult' / 'rust'
+        (self.path / 'Cargo.toml').write_text('[package]\nname = "host"\nversion = "0.0.0"\nedition = "2021"\n\n[dependencies]\nnum-complex = "0.4"\n'
+                                              'zegrafult = { path = "%s", features = ["num-complex"] }\n' % crate)
+        self.assertEqual(self.said('cargo', 'run', '--offline', '--quiet', CARGO_TARGET_DIR=str(self.path / 'target')), '2 refused 6 0: Argument slice 0 has a wrong length.\n')
+
     # ---- Python
 
     @unittest.skipUnless(with_numpy() and has('cc'), 'no numpy')
@@ -162,15 +207,42 @@ class Installed(unittest.TestCase):
 
     @unittest.skipUnless(with_numpy() and has('cc'), 'no numpy')
     def test_example_and_certificate(self):
-        """The values that the example prints are those of the certificate, to the last bit."""
+        """The certificate that the example prints is certify's, to the last bit; the chain gives the state back."""
         where = {'PYTHONPATH': str(self.prefix / 'lib' / 'python'), 'PYTHONDONTWRITEBYTECODE': '1'}
         example = self.prefix / 'share' / 'zegrafult' / 'examples' / 'circuit.py'
-        said = self.said(with_numpy(), example, '--qubits', 7, '--layers', 5, '--cut', 'state.cut', **where)
-        ours = [line.split()[-1] for line in said.splitlines() if ' bits ' in line]
-        printed = self.said(self.prefix / 'bin' / 'certify', 'state.cut').splitlines()
-        certified = [line.split()[2] for line in printed if line.startswith('value ')]
-        self.assertEqual(len(ours), 4)
-        self.assertEqual(ours, certified[:4])
+        for qubits, layers in ((7, 5), (6, 2), (9, 3)):
+            said = self.said(with_numpy(), example, '--qubits', qubits, '--layers', layers, '--cut', 'state.cut', '--plot', 'page.png', **where)
+            ours = [line[4:] for line in said.splitlines() if line.startswith('    ')]
+            self.assertEqual(ours, self.said(self.prefix / 'bin' / 'certify', 'state.cut').splitlines())
+            last = [line for line in said.splitlines() if line.startswith('chain with')][-1]
+            self.assertRegex(last, r'overlap 1\.000000000000, 0 cuts dropped')
+            drawn = (self.path / 'page.png').is_file()
+            self.assertIn('page.png is drawn' if drawn else 'there is no matplotlib to draw page.png with', said)
+
+    @unittest.skipUnless(with_numpy() and has('cc'), 'no numpy')
+    def test_wheel(self):
+        """It is installed by pip, with no index, in an environment of its own, and works there."""
+        python = with_numpy()
+        names = []
+        for folder in ('one', 'two'):
+            done = subprocess.run([ROOT / 'tools' / 'wheel', self.path / folder], capture_output=True, text=True)
+            self.assertEqual(done.returncode, 0, done.stderr)
+            names.append(pathlib.Path(done.stdout.strip()))
+        self.assertEqual(names[0].read_bytes(), names[1].read_bytes(), 'made twice, the wheel has other bytes')
+        if subprocess.run([python, '-c', 'import ensurepip'], capture_output=True).returncode != 0:
+            self.skipTest('%s has no ensurepip (Debian: python3-venv)' % python)
+        self.said(python, '-m', 'venv', '--system-site-packages', 'apart')
+        own = self.path / 'apart' / 'bin' / 'python'
+        self.said(own, '-m', 'pip', 'install', '--no-index', '--disable-pip-version-check', names[0])
+        said = self.said(own, '-c', PYTHON).split()
+        self.assertEqual(said[:4], ['[4.0,', '3.0]', 'True', version()])
+        self.assertTrue(said[4].startswith(str(self.path / 'apart')), said[4])
+        self.assertIn('zegrafult', self.said(own, '-m', 'pip', 'list', '--disable-pip-version-check'))
+        self.said(own, '-m', 'pip', 'check', '--disable-pip-version-check')
+        if has('readelf'):
+            shared = said[4]
+            versions = [tuple(map(int, v.split('.'))) for v in re.findall(r'GLIBC_([0-9.]+)', self.said('readelf', '-V', shared))]
+            self.assertLessEqual(max(versions), (2, 17), "the wheel's name promises less than its library needs")
 
     # ---- papers and pages
 
@@ -202,7 +274,11 @@ class Installed(unittest.TestCase):
             done = subprocess.run([ROOT / 'tools' / 'release', self.path / folder], capture_output=True, text=True)
             self.assertEqual(done.returncode, 0, done.stderr)
             made.append((self.path / folder / (name + '.tar.gz')).read_bytes())
-            self.assertEqual(done.stdout.split()[0], hashlib.sha256(made[-1]).hexdigest())
+            sums = dict(reversed(line.split()) for line in done.stdout.splitlines())
+            self.assertEqual(sums[name + '.tar.gz'], hashlib.sha256(made[-1]).hexdigest())
+            for file, found in sums.items():
+                self.assertEqual(hashlib.sha256((self.path / folder / file).read_bytes()).hexdigest(), found)
+            self.assertEqual(any(file.endswith('.whl') for file in sums), has('cc'))
         self.assertEqual(made[0], made[1], 'made twice, the archive has other bytes')
         self.said('tar', 'xf', self.path / 'one' / (name + '.tar.gz'))
         unpacked = self.path / name
@@ -213,6 +289,20 @@ class Installed(unittest.TestCase):
         listed = {line.split('  ', 1)[1] for line in (unpacked / 'SHA256SUMS').read_text().splitlines()}
         there = {str(p.relative_to(unpacked)) for p in unpacked.rglob('*') if p.is_file() and not p.is_symlink()}
         self.assertEqual(there - {'SHA256SUMS'}, listed)
+        # who did not make it compares it with what the sources give
+        archive = self.path / 'one' / (name + '.tar.gz')
+        done = subprocess.run([ROOT / 'tools' / 'release', '--check', archive], capture_output=True, text=True)
+        self.assertEqual((done.returncode, done.stdout), (0, 'release: the %d files of %s are what these sources give\n' % (len(listed), archive.name)))
+        program = unpacked / 'lib' / 'zegrafult' / 'target' / 'certify' / 'cutprint'
+        program.write_bytes(program.read_bytes() + b'.')
+        (unpacked / 'SHA256SUMS').write_text((unpacked / 'SHA256SUMS').read_text().replace('a', 'b', 1))
+        self.said('tar', 'czf', 'other.tar.gz', name)
+        done = subprocess.run([ROOT / 'tools' / 'release', '--check', self.path / 'other.tar.gz'], capture_output=True, text=True)
+        self.assertEqual(done.returncode, 1)
+        self.assertIn('\nlib/zegrafult/target/certify/cutprint\n', done.stdout)
+        self.assertEqual(len(done.stdout.splitlines()), 3, done.stdout)
+        for words in (['--check'], ['--check', 'a', 'b'], ['--other'], ['a', 'b']):
+            self.assertEqual(self.run_it(ROOT / 'tools' / 'release', *words).returncode, 2)
 
 
 if __name__ == '__main__':

@@ -391,6 +391,28 @@ class Given(unittest.TestCase):
     def test_environment(self):
         self.assertTrue(zg.environment())
         self.assertRegex(zg.__version__, r'^\d+\.\d+\.\d+$')
+        self.assertEqual(zg.version(), sum(w * int(p) for w, p in zip((10000, 100, 1), zg.__version__.split('.'))))
+
+    def test_the_import_asks_for_the_environment(self):
+        """A thread that fesetround left rounding upward, downward or to zero is warned of at the import; one as promised is not."""
+        code = 'import ctypes, numpy; ctypes.CDLL("libm.so.6").fesetround(%d); import zegrafult; print(zegrafult.environment())'
+        for mode in (0, 0x400, 0x800, 0xc00):
+            run = self.run_python(code % mode)
+            self.assertEqual((run.returncode, run.stdout), (0, '%s\n' % (mode == 0)), run.stderr)
+            self.assertEqual('RuntimeWarning: zegrafult: this thread does not round to nearest' in run.stderr, mode != 0, run.stderr)
+        run = self.run_python('import warnings; warnings.simplefilter("error"); ' + code % 0x400)
+        self.assertNotEqual(run.returncode, 0)
+
+    def test_library_of_another_version(self):
+        package = ROOT / 'bindings' / 'python' / 'zegrafult'
+        with tempfile.TemporaryDirectory() as room:
+            copy = pathlib.Path(room) / 'zegrafult'
+            copy.mkdir()
+            for file in package.glob('*.py'):
+                text = file.read_text()
+                (copy / file.name).write_text(text.replace("VERSION = '0.", "VERSION = '7.") if file.name == '_table.py' else text)
+            run = self.run_python('import zegrafult', PYTHONPATH=room)
+            self.assertRegex(run.stderr, r'ImportError: .* is of version \d+, this package is 7\.')
 
 
 @unittest.skipIf(qutip is None, 'QuTiP is not installed')

@@ -22,6 +22,9 @@ zegrafult.Refusal: refused 3 1: The qubit at list position 1 is listed twice.
 
 What is not a number, a whole number or an array at all is a TypeError, ValueError or OverflowError and never reaches the library.
 
+The import asks once whether the thread rounds to nearest and keeps subnormals, which every promise is about, and warns (RuntimeWarning)
+where it does not; `environment()` tells it of any thread.
+
 The shared library is looked for beside this package, where $ZEGRAFULT_LIBRARY says (a file or a folder), and in the lib folder of
 the prefix that tools/install put the package into.
 
@@ -43,3 +46,8 @@ from .slab import *
 from .spectra import *
 
 Refusal.__module__ = __name__  # as it is written where it is caught
+
+if not environment():
+    import warnings
+    warnings.warn('zegrafult: this thread does not round to nearest or drops subnormals, as a library built with -ffast-math or fesetround '
+                  'leaves it; what the calls promise is about one that does', RuntimeWarning, stacklevel=2)

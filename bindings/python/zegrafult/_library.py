@@ -12,6 +12,8 @@ from ._table import CALLS, VERSION
 from .refusal import Refusal
 
 NAME = 'libzegrafult.so'
+# The version as the library tells it: 10000 major + 100 minor + patch.
+NUMBER = sum(weight * int(part) for weight, part in zip((10000, 100, 1), VERSION.split('.')))
 # The element types of the table: C's, numpy's, and how many bits a whole number has.
 TYPES = {
     'f64': (ctypes.c_double, np.dtype(np.float64), None),
@@ -45,6 +47,8 @@ def load():
             for name in CALLS:
                 if not hasattr(library, name):
                     raise ImportError('%s lacks %s: it is of another version than this package (%s)' % (path, name, VERSION))
+            if library.zg_version() != NUMBER:
+                raise ImportError('%s is of version %d, this package is %s, that is %d' % (path, library.zg_version(), VERSION, NUMBER))
             return library, str(path)
         tried.append(str(path))
     raise ImportError('%s is not found; tools/install puts it beside the package, or ZEGRAFULT_LIBRARY names it. Looked for: %s'

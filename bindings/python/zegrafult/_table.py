@@ -3,6 +3,8 @@
 VERSION = '0.1.0'
 
 CALLS = {
+    'zg_version': ('u32', [
+    ]),
     'zg_sqrt': ('f64', [
         ('x', 'f64'),
     ]),

@@ -1,7 +1,19 @@
-"""The floating-point environment that the promises are about."""
+"""The library's version, and the floating-point environment that the promises are about."""
 import struct
 
-__all__ = ['environment']
+from ._library import ask
+
+__all__ = ['environment', 'version']
+
+
+def version():
+    """The version of the shared library, 10000 major + 100 minor + patch. It is that of the package (`__version__`), else the import fails.
+
+    >>> import zegrafult as zg
+    >>> zg.version()
+    100
+    """
+    return ask('zg_version')
 
 
 def environment():

@@ -44,20 +44,27 @@ def sqrt_bits(bits):
 
 
 class Marked(NamedTuple):
-    """A square root, and whether its square, as real numbers, is the argument."""
+    """A square root, and whether its square, as real numbers, is the argument; of an array, arrays."""
     root: float
     exact: bool
 
 
 def sqrt_marked(x):
-    """The root of a number, and whether it came out even. Both zeros yes; an infinity, a NaN and a negative number no.
+    """The root of a number, and whether it came out even. Both zeros yes; an infinity, a NaN and a negative number no. Of an array, two
+    arrays.
 
     >>> import zegrafult as zg
     >>> zg.sqrt_marked(2.25), zg.sqrt_marked(2.0).exact
     (Marked(root=1.5, exact=True), False)
+    >>> zg.sqrt_marked([4.0, 2.0]).exact
+    array([ True, False])
     """
-    found = ask('zg_sqrt_marked', x=x)
-    return Marked(found.result, found.exact)
+    x = loaded(x)
+    if x.ndim == 0:
+        found = ask('zg_sqrt_marked', x=x.item())
+        return Marked(found.result, found.exact)
+    marked = [ask('zg_sqrt_marked', x=number.item()) for number in x.reshape(-1)]
+    return Marked(*(np.array([getattr(m, part) for m in marked], dtype=kind).reshape(x.shape) for part, kind in (('result', np.float64), ('exact', np.bool_))))
 
 
 def modulus(z):

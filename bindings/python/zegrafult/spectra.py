@@ -5,7 +5,7 @@ from typing import NamedTuple
 
 import numpy as np
 
-from ._arrays import CAP, area, ask_of_list, column_major, complex_zeros, power, square, state_of, whole
+from ._arrays import CAP, area, ask_of_list, column_major, complex_zeros, in_order, power, square, state_of, whole
 from ._arrays import values as real_values
 from ._library import ask
 
@@ -54,7 +54,7 @@ class Profile(NamedTuple):
     ranks: list
 
 
-def cut_profile(state, n=None, cap=CAP):
+def cut_profile(state, n=None, cap=CAP, order='bits'):
     """All cuts of a chain on one page: entry j is the cut of qubits 0..j against the rest, and reads the same as the cut asked for alone.
 
     >>> import zegrafult as zg
@@ -63,6 +63,7 @@ def cut_profile(state, n=None, cap=CAP):
     ([2, 2], array([0.70710678, 0.70710678]))
     """
     state, n = state_of(state, n)
+    state = in_order(state, n, order)
     cuts = n - 1 if 2 <= n <= 12 else 0
     header, ranks, marks = (np.zeros(length * cuts, dtype=np.uintp) for length in (2, 1, 4))
     values, largest = np.zeros(sum(power(min(k, n - k)) for k in range(1, cuts + 1))), np.zeros(cuts)

@@ -142,7 +142,7 @@ fn main() {
     });
     println!("replace          {ours:8.2} us   plain {theirs:8.2} us");
     let ours = best(|| {
-        assert_eq!(slab.put(99, black_box(&data)).unwrap_err().number, 14);
+        assert_eq!(slab.put(99, black_box(&data)).unwrap_err().number(), 14);
     });
     let theirs = best(|| {
         assert_eq!(plain.put(99, black_box(&bits)), 14);

@@ -1,6 +1,8 @@
 //! The declarations of `include/zegrafult.h`.
 
 extern "C" {
+    pub fn zg_version() -> u32;
+
     pub fn zg_sqrt(x: f64) -> f64;
     pub fn zg_sqrt_bits(b: u64) -> u64;
     pub fn zg_sqrt_marked(x: f64, exact: &mut bool) -> f64;

@@ -1,13 +1,35 @@
-//! The two largest calls on lent buffers, so that a host which calls them often allocates once; and how long these must be.
+//! The two largest calls on lent buffers, so that a host which calls them often allocates once; and how long these must be. The others
+//! stand beside the calls that allocate, and their lengths in `sizes`.
 use crate::{area, ffi, numbers_of, numbers_of_mut, power, refusal::answered, Complex, Refusal};
 
 /// The largest cap that counts.
+///
+/// ```
+/// use zegrafult::{row_offsets, CAP};
+///
+/// assert_eq!(row_offsets(&[0], 12, CAP), row_offsets(&[0], 12, usize::MAX));
+/// ```
 pub const CAP: usize = 13;
 /// The most qubits of a register.
+///
+/// ```
+/// use zegrafult::{validate_qubit_set, Refusal, QUBITS};
+///
+/// assert_eq!(validate_qubit_set(&[0], QUBITS), Ok(()));
+/// assert_eq!(validate_qubit_set(&[0], QUBITS + 1), Err(Refusal::Size));
+/// ```
 pub const QUBITS: usize = 12;
 
 /// The sweeps of a factorisation: how many were begun, the quiet one included, whether the last turned no pair, and how many pairs were
 /// turned in all.
+///
+/// ```
+/// use zegrafult::{hermitian_eigenvalues_into, Complex, Sweeps};
+///
+/// let (mut out, mut scratch) = ([0.0], [0.0; 2]);
+/// let found = hermitian_eigenvalues_into(&[Complex::real(5.0)], 1, &mut out, &mut scratch);
+/// assert_eq!(found, Ok(Sweeps { sweeps: 1, quiet: true, turned: 0 }));
+/// ```
 #[derive(Clone, Copy, Debug, PartialEq, Eq)]
 pub struct Sweeps {
     /// How many were begun.
@@ -19,6 +41,10 @@ pub struct Sweeps {
 }
 
 /// k = min(m, n) where a matrix may be m by n, else 0: the values of [`svd_jacobi_into`]; U has m·k cells, V† k·n.
+///
+/// ```
+/// assert_eq!(zegrafult::svd_jacobi_values(4, 2), 2);
+/// ```
 pub fn svd_jacobi_values(m: usize, n: usize) -> usize {
     if area(m, n) == 0 {
         0
@@ -28,6 +54,10 @@ pub fn svd_jacobi_values(m: usize, n: usize) -> usize {
 }
 
 /// The numbers of scratch of [`svd_jacobi_into`].
+///
+/// ```
+/// assert_eq!(zegrafult::svd_jacobi_scratch_len(4, 2), 52);
+/// ```
 pub fn svd_jacobi_scratch_len(m: usize, n: usize) -> usize {
     6 * area(m, n) + 2 * svd_jacobi_values(m, n)
 }
@@ -44,7 +74,7 @@ pub fn svd_jacobi_scratch_len(m: usize, n: usize) -> usize {
 /// let sweeps = svd_jacobi_into(&a, 2, 2, &mut u, &mut s, &mut vt, &mut scratch)?;
 /// assert_eq!((s, sweeps.quiet), ([4.0, 3.0], true));
 /// let short = svd_jacobi_into(&a, 2, 2, &mut u, &mut s, &mut vt, &mut scratch[1..]).unwrap_err();
-/// assert_eq!((short.number, short.place), (6, 4));
+/// assert_eq!(short, zegrafult::Refusal::Length(4));
 /// # Ok::<(), zegrafult::Refusal>(())
 /// ```
 pub fn svd_jacobi_into(
@@ -72,11 +102,19 @@ pub fn svd_jacobi_into(
 }
 
 /// The numbers of the output of [`dense_schmidt_values_into`] for k listed qubits of n.
+///
+/// ```
+/// assert_eq!(zegrafult::dense_schmidt_values_out_len(4, 3), 2);
+/// ```
 pub fn dense_schmidt_values_out_len(n: usize, k: usize) -> usize {
     power(k.min(n.saturating_sub(k)))
 }
 
 /// The numbers of scratch of [`dense_schmidt_values_into`] for k listed qubits of n.
+///
+/// ```
+/// assert_eq!(zegrafult::dense_schmidt_values_scratch_len(4, 3), 132);
+/// ```
 pub fn dense_schmidt_values_scratch_len(n: usize, k: usize) -> usize {
     8 * power(n) + 2 * dense_schmidt_values_out_len(n, k)
 }
@@ -93,7 +131,7 @@ pub fn dense_schmidt_values_scratch_len(n: usize, k: usize) -> usize {
 /// let (count, sweeps, _exact) = dense_schmidt_values_into(&state, 2, &[0], CAP, &mut out, &mut scratch)?;
 /// assert_eq!((count, out[0] == out[1], sweeps.sweeps), (2, true, 1));
 /// let short = dense_schmidt_values_into(&state, 2, &[0], CAP, &mut out[1..], &mut scratch).unwrap_err();
-/// assert_eq!((short.number, short.place), (6, 2));
+/// assert_eq!(short, zegrafult::Refusal::Length(2));
 /// # Ok::<(), zegrafult::Refusal>(())
 /// ```
 pub fn dense_schmidt_values_into(

@@ -1,7 +1,14 @@
 //! The night batch: the sheet of a lot of cut files.
 use crate::{ffi, refusal::answered, Refusal};
 
-/// The sheet of a lot. A file's number counts from 1.
+/// The sheet of a lot, as [`lot_sheet`] gives it. A file's number counts from 1.
+///
+/// ```
+/// let empty = zegrafult::lot_sheet(&0u32.to_le_bytes())?;
+/// assert_eq!((empty.answers, empty.ranks), ([0; 11], [0; 16]));
+/// assert_eq!((empty.smallest, empty.largest, empty.sum), (None, None, 0));
+/// # Ok::<(), zegrafult::Refusal>(())
+/// ```
 #[derive(Clone, Copy, Debug, PartialEq, Eq)]
 pub struct LotSheet {
     /// How many files gave each answer from 0 to 10; answer 0 is a certificate.
@@ -17,9 +24,19 @@ pub struct LotSheet {
 }
 
 /// A rank and the first file that had it.
+///
+/// ```
+/// // a lot of one file: two qubits, both 0 or both 1, cut at qubit 0
+/// let head: Vec<u8> = [1u32, 96, u32::from_le_bytes(*b"CUT1"), 2, 1, 24, 32, 96, 0, 0].into_iter().flat_map(u32::to_le_bytes).collect();
+/// let state = [1.0f64, 0.0, 0.0, 0.0, 0.0, 0.0, 1.0, 0.0].map(f64::to_le_bytes).concat();
+/// assert_eq!(zegrafult::lot_sheet(&[head, state].concat())?.smallest, Some(zegrafult::RankAt { rank: 2, file: 1 }));
+/// # Ok::<(), zegrafult::Refusal>(())
+/// ```
 #[derive(Clone, Copy, Debug, PartialEq, Eq)]
 pub struct RankAt {
+    /// The rank.
     pub rank: usize,
+    /// The file's number, from 1.
     pub file: usize,
 }
 
@@ -32,7 +49,7 @@ pub struct RankAt {
 /// let lot = [2u32, 3, 0].map(u32::to_le_bytes).concat(); // two files: three bytes that are not there, and none
 /// let sheet = lot_sheet(&lot)?;
 /// assert_eq!((sheet.answers[10], sheet.smallest, sheet.sum), (2, None, 0));
-/// assert_eq!(lot_sheet(&lot[..11]).unwrap_err().number, 16);
+/// assert_eq!(lot_sheet(&lot[..11]), Err(zegrafult::Refusal::BrokenLot));
 /// # Ok::<(), zegrafult::Refusal>(())
 /// ```
 pub fn lot_sheet(lot: &[u8]) -> Result<LotSheet, Refusal> {

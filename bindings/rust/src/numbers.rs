@@ -1,5 +1,5 @@
 //! Number helpers: nothing is refused.
-use crate::ffi;
+use crate::{environment, ffi};
 use std::cmp::Ordering;
 
 /// The float nearest to the exact square root.
@@ -9,6 +9,7 @@ use std::cmp::Ordering;
 /// assert_eq!(zegrafult::sqrt(-1.0).to_bits(), 0x7FF8_0000_0000_0000);
 /// ```
 pub fn sqrt(x: f64) -> f64 {
+    environment::ask();
     // SAFETY: the call takes and gives numbers alone.
     unsafe { ffi::zg_sqrt(x) }
 }
@@ -21,6 +22,7 @@ pub fn sqrt(x: f64) -> f64 {
 /// assert_eq!(zegrafult::sqrt_marked(f64::INFINITY), (f64::INFINITY, false));
 /// ```
 pub fn sqrt_marked(x: f64) -> (f64, bool) {
+    environment::ask();
     let mut exact = false;
     // SAFETY: the mark is a borrowed place, and the rest is handed over by value.
     let root = unsafe { ffi::zg_sqrt_marked(x, &mut exact) };
@@ -28,7 +30,12 @@ pub fn sqrt_marked(x: f64) -> (f64, bool) {
 }
 
 /// [`sqrt`] on bit patterns.
+///
+/// ```
+/// assert_eq!(zegrafult::sqrt_bits(0x4010_0000_0000_0000), 0x4000_0000_0000_0000);
+/// ```
 pub fn sqrt_bits(bits: u64) -> u64 {
+    environment::ask();
     // SAFETY: the call takes and gives numbers alone.
     unsafe { ffi::zg_sqrt_bits(bits) }
 }
@@ -41,28 +48,47 @@ pub fn sqrt_bits(bits: u64) -> u64 {
 /// assert_eq!(zegrafult::modulus(-0.0, -0.0).to_bits(), 0);
 /// ```
 pub fn modulus(re: f64, im: f64) -> f64 {
+    environment::ask();
     // SAFETY: the call takes and gives numbers alone.
     unsafe { ffi::zg_modulus(re, im) }
 }
 
 /// The sign cleared, that of -0 too.
+///
+/// ```
+/// assert_eq!(zegrafult::magnitude(-0.0).to_bits(), 0);
+/// ```
 pub fn magnitude(x: f64) -> f64 {
     // SAFETY: the call takes and gives numbers alone.
     unsafe { ffi::zg_magnitude(x) }
 }
 
 /// 1 for +0.0 and above, -1 for -0.0 and below, NaN for NaN.
+///
+/// ```
+/// assert_eq!(zegrafult::sign(-0.0), -1.0);
+/// ```
 pub fn sign(x: f64) -> f64 {
     // SAFETY: the call takes and gives numbers alone.
     unsafe { ffi::zg_sign(x) }
 }
 
+/// Whether a number is neither infinite nor a NaN.
+///
+/// ```
+/// assert!(!zegrafult::is_finite(f64::INFINITY));
+/// ```
 pub fn is_finite(x: f64) -> bool {
     // SAFETY: the call takes and gives numbers alone.
     unsafe { ffi::zg_is_finite(x) }
 }
 
 /// Finite and of magnitude at most 2^200.
+///
+/// ```
+/// assert!(zegrafult::component_allowed(2f64.powi(200)));
+/// assert!(!zegrafult::component_allowed(2f64.powi(201)));
+/// ```
 pub fn component_allowed(x: f64) -> bool {
     // SAFETY: the call takes and gives numbers alone.
     unsafe { ffi::zg_component_allowed(x) }
@@ -80,6 +106,11 @@ pub fn total_less(x: f64, y: f64) -> bool {
 }
 
 /// The total order: -0 is below +0, a NaN above all else.
+///
+/// ```
+/// assert!(zegrafult::total_order(f64::NAN, f64::INFINITY).is_gt());
+/// assert!(zegrafult::total_order(-0.0, 0.0).is_lt());
+/// ```
 pub fn total_order(x: f64, y: f64) -> Ordering {
     // SAFETY: the call takes and gives numbers alone.
     match unsafe { ffi::zg_total_order(x, y) } {

@@ -104,7 +104,7 @@ fn one_qubit_and_twelve() {
 fn refusals() {
     let refused = |state: &[Complex], n, limit| {
         let refusal = chain_of_sites(state, n, 1e-12, limit).unwrap_err();
-        (refusal.number, refusal.place)
+        (refusal.number(), refusal.place())
     };
     let state = [1.0, 0.0, 0.0, 1.0].map(Complex::real);
     for (n, limit) in [(2, 0), (13, 0), (0, 1), (13, 1), (usize::MAX, usize::MAX)] {

@@ -3,13 +3,20 @@
 use std::arch::asm;
 
 fn with_control(change: impl Fn(u32) -> u32 + Sync) -> bool {
+    with_control_in(change, zegrafult::environment)
+}
+
+fn with_control_in(change: impl Fn(u32) -> u32 + Sync, ask: impl Fn() -> bool + Sync) -> bool {
     std::thread::scope(|scope| {
         let asked = scope.spawn(|| {
             let mut before = 0u32;
+            // SAFETY: the control word is stored into a borrowed u32.
             unsafe { asm!("stmxcsr [{}]", in(reg) &mut before) };
             let changed = change(before);
+            // SAFETY: a control word of this thread with its rounding or flush bits changed, which no exception follows.
             unsafe { asm!("ldmxcsr [{}]", in(reg) &changed) };
-            let told = zegrafult::environment();
+            let told = ask();
+            // SAFETY: the word that the thread had.
             unsafe { asm!("ldmxcsr [{}]", in(reg) &before) };
             told
         });
@@ -21,6 +28,17 @@ fn with_control(change: impl Fn(u32) -> u32 + Sync) -> bool {
 fn as_it_is() {
     assert!(zegrafult::environment());
     assert!(with_control(|word| word));
+}
+
+/// The first call of a thread asks: here one whose thread rounds upward, after one whose thread is as promised.
+#[test]
+fn the_first_call_asks() {
+    zegrafult::sqrt(2.0);
+    zegrafult::validate_qubit_set(&[0], 1).unwrap();
+    assert!(!zegrafult::environment_was_wrong());
+    let call = || zegrafult::validate_qubit_set(&[0], 1).is_ok();
+    assert!(with_control_in(|word| word | 2 << 13, call), "the call is made all the same");
+    assert!(zegrafult::environment_was_wrong());
 }
 
 #[test]

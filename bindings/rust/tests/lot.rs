@@ -23,7 +23,7 @@ fn the_kept_lots() {
         let (lot, next) = behind.split_at(u32::from_le_bytes(size.try_into().unwrap()) as usize);
         match lot_sheet(lot) {
             Ok(sheet) => out += &printed(&sheet),
-            Err(refusal) => out += &format!("refused {} {}\n", refusal.number, refusal.place),
+            Err(refusal) => out += &format!("refused {} {}\n", refusal.number(), refusal.place()),
         }
         rest = next;
     }
@@ -42,5 +42,5 @@ fn a_lot_of_a_thousand() {
     let sheet = lot_sheet(&lot_of(1000)).unwrap();
     assert_eq!((sheet.answers[0], sheet.ranks[3], sheet.sum), (1000, 1000, 4000));
     assert_eq!(sheet.smallest, Some(RankAt { rank: 4, file: 1 }));
-    assert_eq!(lot_sheet(&lot_of(1001)).unwrap_err().number, 16);
+    assert_eq!(lot_sheet(&lot_of(1001)).unwrap_err().number(), 16);
 }

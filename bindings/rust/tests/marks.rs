@@ -33,6 +33,6 @@ fn norms_and_scale() {
 #[test]
 fn refusals() {
     let refused = |state: &[f64], list: &[usize]| dense_schmidt_values(&reals(state), 2, list, 13).unwrap_err();
-    assert_eq!(refused(&[0.0; 4], &[0]).number, 8);
-    assert_eq!(refused(&[0.0; 4], &[2]).number, 2);
+    assert_eq!(refused(&[0.0; 4], &[0]).number(), 8);
+    assert_eq!(refused(&[0.0; 4], &[2]).number(), 2);
 }

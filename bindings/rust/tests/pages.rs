@@ -48,11 +48,11 @@ fn the_largest_register() {
 
 #[test]
 fn refusals() {
-    let numbers = |list: &[usize], n, cap| pages_agree(&state(n, 1), n, list, cap).map_err(|r| (r.number, r.place));
+    let numbers = |list: &[usize], n, cap| pages_agree(&state(n, 1), n, list, cap).map_err(|r| (r.number(), r.place()));
     assert_eq!(numbers(&[0], 3, 3), Err((1, 0)));
     assert_eq!(numbers(&[3], 3, 13), Err((2, 0)));
     assert_eq!(numbers(&[1, 1], 3, 13), Err((3, 1)));
     assert_eq!(numbers(&[], 3, 13), Err((4, 0)));
     assert_eq!(numbers(&[2, 1, 0], 3, 13), Err((5, 0)));
-    assert_eq!(pages_agree(&state(2, 1), 3, &[0], 13).map_err(|r| (r.number, r.place)), Err((6, 0)));
+    assert_eq!(pages_agree(&state(2, 1), 3, &[0], 13).map_err(|r| (r.number(), r.place())), Err((6, 0)));
 }

@@ -83,7 +83,7 @@ fn refused_alike() {
         }
         let other = behind(&mut draw, &state, n, &list);
         let refusal = dense_reduced_density(&state, n, &list, 13).unwrap_err();
-        assert_eq!(refusal.number, 7);
+        assert_eq!(refusal.number(), 7);
         assert_eq!(dense_reduced_density(&other, n, &list, 13).unwrap_err(), refusal, "{n} {list:?}");
     }
 }

@@ -29,7 +29,7 @@ fn refusals() {
     let none = Complex { re: 0.0, im: 0.0 };
     let refused = |state: &[Complex], n, cap| {
         let refusal = cut_profile(state, n, cap).unwrap_err();
-        (refusal.number, refusal.place)
+        (refusal.number(), refusal.place())
     };
     assert_eq!(refused(&[one; 2], 1, 13), (5, 0));
     assert_eq!(refused(&[one; 2], 1, 1), (1, 0));

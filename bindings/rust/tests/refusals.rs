@@ -8,7 +8,7 @@ fn state(reals: &[f64]) -> Vec<Complex> {
 fn refused<T: std::fmt::Debug>(result: Result<T, Refusal>) -> (u32, usize) {
     let refusal = result.unwrap_err();
     assert!(refusal.sentence().ends_with('.') && refusal.to_string().starts_with("refused "));
-    (refusal.number, refusal.place)
+    (refusal.number(), refusal.place())
 }
 
 #[test]
@@ -79,7 +79,9 @@ fn sizes() {
 #[test]
 fn the_papers_file() {
     let mut amplitudes = vec![0.0; 16];
-    [0, 5, 10, 15].map(|i| amplitudes[i] = 1.0);
+    for i in [0, 5, 10, 15] {
+        amplitudes[i] = 1.0;
+    }
     let found = dense_schmidt_values(&state(&amplitudes), 4, &[0, 1], 10);
     assert_eq!(found, Ok(CutValues { values: vec![0.5; 4], sweeps: 1, quiet: true, turned: 0, exact: true }));
     assert_eq!(smaller_side(&[0, 1], 4, 10), Ok(vec![0, 1]));

@@ -35,10 +35,10 @@ fn dropped_room_is_used_again() {
     let held: Vec<Held> = slab.sites().collect();
     let runs: Vec<_> = held.iter().map(|s| (s.number, s.start, s.cells)).collect();
     assert_eq!(runs, [(1, 0, 10), (3, 14, 6), (4, 20, 5), (5, 10, 4)]);
-    assert_eq!(slab.replace(3, &site(SLAB_CELLS - 24, 4)).unwrap_err().number, 14);
+    assert_eq!(slab.replace(3, &site(SLAB_CELLS - 24, 4)).unwrap_err().number(), 14);
     slab.drop(4).unwrap();
     slab.replace(3, &site(SLAB_CELLS - 14, 4)).unwrap();
-    assert_eq!(slab.put(6, &site(1, 5)).unwrap_err().number, 14);
+    assert_eq!(slab.put(6, &site(1, 5)).unwrap_err().number(), 14);
 }
 
 #[test]
@@ -59,7 +59,7 @@ fn refusals_change_nothing() {
         (slab.replace(3, &site(SLAB_CELLS - 62, 1)), 14),
     ];
     for (answer, number) in answers {
-        assert_eq!(answer.map_err(|r| (r.number, r.place)), Err((number, 0)));
+        assert_eq!(answer.map_err(|r| (r.number(), r.place())), Err((number, 0)));
     }
     assert_eq!(bits(slab.parts().0), bits(before.parts().0));
     assert_eq!(slab.parts().1, before.parts().1);
@@ -70,12 +70,12 @@ fn a_broken_slab_is_refused() {
     let mut cells = [Complex::default(); SLAB_CELLS];
     let mut index = [0; SLAB_INDEX];
     index[0] = 65;
-    assert_eq!(Slab::from_parts(&cells, index).drop(0).unwrap_err().number, 1);
+    assert_eq!(Slab::from_parts(&cells, index).drop(0).unwrap_err().number(), 1);
     index[..4].copy_from_slice(&[1, 0, u32::MAX, 2]);
-    assert_eq!(Slab::from_parts(&cells, index).drop(0).unwrap_err().number, 1);
+    assert_eq!(Slab::from_parts(&cells, index).drop(0).unwrap_err().number(), 1);
     assert_eq!(Slab::from_parts(&cells, index).get(0), None);
     index[2] = 4094;
     assert_eq!(Slab::from_parts(&cells, index).drop(0), Ok(()));
     cells[9].im = -0.0;
-    assert_eq!(Slab::from_parts(&cells, index).drop(0).unwrap_err().number, 1);
+    assert_eq!(Slab::from_parts(&cells, index).drop(0).unwrap_err().number(), 1);
 }

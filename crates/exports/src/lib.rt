@@ -53,6 +53,16 @@ ghost use Rattle.cut_values.specs.declared.CutCounted.{CutCounted};
 ghost use Rattle.entropy_bands.specs.declared.Entropy.{Entropy};
 ghost use Rattle.entropy_bands.specs.Bands.{EntropyBand};
 
+// ---- the version
+
+// 10000·major + 100·minor + patch of include/zegrafult_version.h.
+#[no_mangle]
+pub extern "C" fn zg_version() -> u32
+    ensures { λ r. ⌜ r ≡ 100 ⌝ }
+{
+    100
+}
+
 // ---- numbers: nothing is refused
 
 #[no_mangle]

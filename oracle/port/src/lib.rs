@@ -23,6 +23,7 @@ unsafe extern "C" {
     pub fn zg_normalize_trace(rho: *mut f64, rho_len: usize, dim: usize, place: *mut usize) -> u32;
     pub fn zg_multiply_block_factor(rho: *mut f64, rho_len: usize, dim: usize, positions: *const usize, positions_len: usize, factor: *const f64, factor_len: usize, side: usize, place: *mut usize) -> u32;
     // Not in the published Rust, so never compared with it.
+    pub fn zg_version() -> u32;
     pub fn zg_density_from_cut(matrix: *const f64, matrix_len: usize, n: usize, list: *const usize, list_len: usize, cap: usize, out: *mut f64, out_len: usize, place: *mut usize) -> u32;
     pub fn zg_pages_agree(state: *const f64, state_len: usize, n: usize, list: *const usize, list_len: usize, cap: usize, place: *mut usize, yes: *mut bool) -> u32;
     pub fn zg_countersign(a: *const f64, a_len: usize, m: usize, n: usize, u: *const f64, u_len: usize, s: *const f64, s_len: usize, vt: *const f64, vt_len: usize, tolerance: u64, place: *mut usize, yes: *mut bool, test: *mut usize, cell: *mut usize) -> u32;
