@@ -541,6 +541,28 @@ uint32_t zg_slab_replace(double cells[8192], uint32_t index[193], uint32_t site,
  * Refused by 16 (the count is over 1,000 or the header is cut short; then the sheet is as it was). */
 uint32_t zg_lot_sheet(const uint8_t *lot, size_t lot_len, size_t sheet[32], size_t *place);
 
+/* ---- the certificate of a cut file as text, with no folder and no process: what cutprint and pageprint print, byte for byte */
+
+/* Page one. The printout is ASCII with \n at the end of each line and no zero byte behind it; the rest of text stays as it was. The answer
+ * and *place are the file's: 0, 1 to 5, 7 to 9 or 10; where it is refused, the printout is the one line `refused ANSWER PLACE`.
+ *   file    [in]      slice 0: the bytes of a cut file, file_len of them, any number (docs/CONVENTIONS.md has its layout)
+ *   text    [out]     slice 1: its front becomes the printout; text_len at least 2,048 (zg_certificate_text_len)
+ *   place   [out]     the file's place
+ *   length  [out]     the printout's length; 0 on 6
+ * 6 with place 1: text has less room. Then text is as it was and *length is 0. */
+uint32_t zg_certificate(const uint8_t *file, size_t file_len, uint8_t *text, size_t text_len, size_t *place, size_t *length);
+
+/* Both pages: page one with a digest and a mark, then the reduced density matrix of the named qubits (docs/CONVENTIONS.md has the lines).
+ * The answer and *place are page one's. By 8 and 9 page one alone is refused, and the printout has both pages; where page two alone is
+ * refused, for more than five named qubits, the answer is 0 and the printout says so in its lines. By any other answer the file is refused
+ * as a whole, in one line.
+ *   file    [in]      slice 0: the bytes of a cut file, file_len of them, any number (docs/CONVENTIONS.md has its layout)
+ *   text    [out]     slice 1: its front becomes the printout; text_len at least 102,400 (zg_certificate_pages_text_len)
+ *   place   [out]     the file's place
+ *   length  [out]     the printout's length; 0 on 6
+ * 6 with place 1: text has less room. Then text is as it was and *length is 0. */
+uint32_t zg_certificate_pages(const uint8_t *file, size_t file_len, uint8_t *text, size_t text_len, size_t *place, size_t *length);
+
 #ifdef __cplusplus
 }
 #endif

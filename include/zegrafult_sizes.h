@@ -186,6 +186,11 @@ static inline size_t zg_chain_of_sites_u_len(size_t n) { return zg_state_len(n);
 static inline size_t zg_chain_of_sites_vt_len(size_t n) { return zg_state_len(n); }
 static inline size_t zg_chain_of_sites_scratch_len(size_t n) { return zg_power(n) == 0 ? 0 : 6 * zg_power(n) + 2 * zg_power(n / 2); }
 
+/* ---- the certificate as text, in bytes: of page one, and of both pages */
+
+static inline size_t zg_certificate_text_len(void) { return 2048; }
+static inline size_t zg_certificate_pages_text_len(void) { return 102400; }
+
 #ifdef __cplusplus
 }
 #endif

@@ -183,6 +183,19 @@ static void squares(void) {
          zg_hermitian_eigen_scratch_len(dim));
 }
 
+/* The certificates of a file of two qubits. */
+static unsigned char file[96], text[1 << 17];
+static uint32_t certificate(const size_t *len) { return zg_certificate(file, sizeof file, text, len[0], &place, &count); }
+static uint32_t certificate_pages(const size_t *len) { return zg_certificate_pages(file, sizeof file, text, len[0], &place, &count); }
+static void certificates(void) {
+    static const uint32_t head[] = {0x31545543, 2, 1, 24, 32, 96, 0, 0};
+    const double one = 1.0;
+    memcpy(file, head, sizeof head);
+    memcpy(file + 32, &one, sizeof one);
+    SHOW(certificate, 1, ONE, zg_certificate_text_len());
+    SHOW(certificate_pages, 1, ONE, zg_certificate_pages_text_len());
+}
+
 int main(void) {
     static const size_t qubits[][2] = {{1, 1}, {2, 1}, {3, 2}, {5, 4}, {6, 3}, {12, 6}, {7, 6}};
     static const size_t shapes[][2] = {{1, 1}, {2, 3}, {7, 4}, {32, 64}, {1, 4096}, {64, 64}};
@@ -201,6 +214,7 @@ int main(void) {
         m = shapes[i][0], c = shapes[i][1], matrices();
     for (i = 0; i < sizeof sides / sizeof sides[0]; i++)
         dim = sides[i], squares();
+    certificates();
     if (zg_state_len(13) || zg_state_len(64) || zg_matrix_len(huge, huge) || zg_svd_jacobi_u_len(huge, 2) || zg_thin(0, 5) ||
         zg_square_len((size_t)1 << 33) || zg_fill_vt_site_data_out_len(huge, huge, huge) || zg_svd_jacobi_scratch_len(65, 64) ||
         zg_dense_reduced_density_out_len(7) || zg_side(2, 3)) {

@@ -115,6 +115,25 @@ static void lot(void) {
     answer = zg_lot_sheet(bytes, sizeof bytes, sheet, &place) + (uint32_t)(sheet[0] != 1);
 }
 
+/* The certificates of a file of nine qubits, five of them named, all amplitudes 1 / 3. */
+static unsigned char nine[44 + 4 + 8192], text[1 << 17];
+static void make_nine(void) {
+    static const uint32_t head[] = {0x31545543, 9, 5, 24, 48, 48 + 8192, 0, 2, 4, 6, 8, 0};
+    size_t i;
+    double third_part = 1.0 / 3.0;
+    memcpy(nine, head, sizeof head);
+    for (i = 0; i < 1024; i++)
+        memcpy(nine + sizeof head + 8 * i, &third_part, sizeof third_part);
+}
+static void certificate(void) {
+    make_nine();
+    answer = zg_certificate(nine, sizeof nine, text, sizeof text, &place, &count);
+}
+static void certificate_pages(void) {
+    make_nine();
+    answer = zg_certificate_pages(nine, sizeof nine, text, sizeof text, &place, &count);
+}
+
 static const struct {
     const char *name;
     void (*call)(void);
@@ -147,7 +166,9 @@ static const struct {
              {"zg_chain_of_sites", chain, 16 * KB},
              {"zg_countersign", signed_factors, 16 * KB},
              {"zg_slab_put, replace, drop", slab, 16 * KB},
-             {"zg_lot_sheet", lot, 96 * KB}};
+             {"zg_lot_sheet", lot, 96 * KB},
+             {"zg_certificate", certificate, 96 * KB},
+             {"zg_certificate_pages", certificate_pages, 320 * KB}};
 
 static void *run(void *call) {
     (*(void (**)(void))call)();

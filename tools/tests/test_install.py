@@ -133,6 +133,12 @@ class Installed(unittest.TestCase):
             self.assertIn('site', self.said(tool('chain'), 'ghz.cut'))
         self.assertFalse(list(self.prefix.rglob('*.pyc')) + list(self.prefix.rglob('libexports*')))
 
+    def test_both_pages(self):
+        done = self.run_it(self.prefix / 'bin' / 'certify', '--pages', ROOT / 'examples' / 'circuit.cut', HOME='/nonexistent')
+        self.assertEqual((done.returncode, done.stdout, done.stderr), (0, (ROOT / 'examples' / 'circuit.pages.txt').read_text(), ''))
+        shutil.copy(ROOT / 'examples' / 'circuit.cut', self.path / 'state.bin')
+        self.assertEqual(self.said(self.prefix / 'bin' / 'pageprint'), (ROOT / 'examples' / 'circuit.pages.txt').read_text())
+
     def test_another_program_is_not_run(self):
         copy = self.path / 'copy'
         shutil.copytree(self.prefix, copy, symlinks=True)
@@ -248,7 +254,7 @@ class Installed(unittest.TestCase):
 
     @unittest.skipUnless(has('groff') and has('tbl'), 'no groff')
     def test_pages(self):
-        for page in ('man1/certify.1', 'man1/cutprint.1', 'man3/zegrafult.3'):
+        for page in ('man1/certify.1', 'man1/cutprint.1', 'man1/pageprint.1', 'man3/zegrafult.3'):
             done = self.run_it('groff', '-t', '-man', '-ww', '-Tascii', self.prefix / 'share' / 'man' / page)
             self.assertEqual((done.returncode, done.stderr), (0, ''))
             self.assertIn('Zegrafult ' + version(), done.stdout)

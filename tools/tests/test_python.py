@@ -205,6 +205,18 @@ class Numpy(unittest.TestCase):
             self.assertTrue(all((a == b).all() for a, b in zip(chain.sites, turned.sites)))
         self.assertEqual(max(cut.rank for cut in zg.chain_of_sites(random_state(self.rng, 8), 0.0, 3).cuts), 3)
 
+    def test_certificates(self):
+        folder = pathlib.Path(__file__).resolve().parents[2] / 'examples'
+        for path in sorted(folder.glob('*.cut')):
+            stored = path.with_suffix('.txt').read_text()
+            for page in (zg.certificate(path), zg.certificate(path.read_bytes())):
+                self.assertEqual(page.text, stored)
+                self.assertEqual(f'refused {page.number} {page.place}\n' == stored, page.number != 0)
+            both = zg.certificate_pages(path)
+            self.assertEqual(both[1:], page[1:])
+            self.assertIn(stored, both.text)
+        self.assertEqual(zg.certificate_pages(str(folder / 'circuit.cut')).text, (folder / 'circuit.pages.txt').read_text())
+
     def test_lot(self):
         files = [(ROOT / 'examples' / name).read_bytes() for name in ('ghz.cut', 'refused-3.cut', 'product.cut', 'ghz.cut')]
         lot = np.array([len(files), *map(len, files)], dtype='<u4').tobytes() + b''.join(files)

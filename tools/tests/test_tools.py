@@ -143,7 +143,7 @@ class Pack(Case):
 
     def test_the_examples_states(self):
         states = sorted((TOOLS.parent / 'examples').glob('*.state.txt'))
-        self.assertEqual(len(states), 3)
+        self.assertEqual(len(states), 4)
         for state in states:
             cut = (TOOLS.parent / 'examples' / state.name.replace('.state.txt', '.cut')).read_bytes()
             k = struct.unpack('<I', cut[8:12])[0]

@@ -44,9 +44,19 @@ def turn(x, y, c, s, phase):
     return one, two
 
 
+def even(x):
+    """Whether a float of at least 0 is the square of a float: its odd part is a square and the power of two beside it is even."""
+    if not x:
+        return True
+    top, bottom = x.as_integer_ratio()
+    zeros = (top & -top).bit_length() - 1
+    odd = top >> zeros
+    return (zeros - bottom.bit_length() + 1) % 2 == 0 and math.isqrt(odd) ** 2 == odd
+
+
 def singular_values(columns):
     """One-sided Jacobi on columns that are at least as long as they are many: the values, unsorted, how many sweeps were begun,
-    and whether the last one turned no pair."""
+    whether the last one turned no pair, and whether every value is exact."""
     tolerance = 1e-15 * 1e-15
     begun = 0
     for sweep in range(100):
@@ -73,13 +83,14 @@ def singular_values(columns):
                     columns[p][r], columns[q][r] = turn(columns[p][r], columns[q][r], c, s, phase)
         if not turned:
             break
-    values = []
+    values, exact = [], True
     for column in columns:
         total = 0.0
         for x in column:
             total += norm_sqr(x)
         values.append(math.sqrt(total))
-    return values, begun, not turned
+        exact = exact and math.isfinite(total) and even(total)
+    return values, begun, not turned, exact
 
 
 def submasks(mask):
@@ -92,7 +103,8 @@ def submasks(mask):
 
 
 def cut_values(state, n, named):
-    """The answer with its place, the values, the sweeps begun and whether the last was quiet, for a list that was validated."""
+    """For a list that was validated: the answer with its place, the values, the sweeps begun, whether the last was quiet, the total
+    of the squares of the kept values before the scale, and whether all roots came out even."""
     k = len(named)
     side = min(k, n - k)
     inside = sum(1 << q for q in named)
@@ -103,9 +115,9 @@ def cut_values(state, n, named):
         columns = [[conjugate(state[row | col]) for col in submasks(cols)] for row in submasks(rows)]
     else:
         columns = [[state[row | col] for row in submasks(rows)] for col in submasks(cols)]
-    values, begun, quiet = singular_values(columns)
+    values, begun, quiet, exact = singular_values(columns)
     if not all(math.isfinite(v) for v in values):
-        return (9, 0), [], 0, False
+        return (9, 0), [], 0, False, 0.0, False
     values.sort(reverse=True)
     floor = values[0] * 1e-14
     kept = []
@@ -114,12 +126,12 @@ def cut_values(state, n, named):
             break
         kept.append(v)
     if not kept:
-        return (8, 0), [], 0, False
+        return (8, 0), [], 0, False, 0.0, False
     total = 0.0
     for v in kept:
         total += v * v
     scale = 1.0 / math.sqrt(total)
-    return (0, 0), [v * scale for v in kept], begun, quiet
+    return (0, 0), [v * scale for v in kept], begun, quiet, total, exact and even(total)
 
 
 def answer_list(named, n):
@@ -152,24 +164,34 @@ def answer_header(file):
     return (0, 0)
 
 
-def printout(file):
-    refused = 'refused %d %d\n'
+def contents(file):
+    """The answer as far as header, list and amplitudes give one, and of an accepted file n, the list and the state."""
     answer = answer_header(file)
     if answer[0]:
-        return refused % answer
+        return answer, None
     n, k = struct.unpack('<2I', file[4:12])
     named = list(struct.unpack('<%dI' % k, file[24:24 + 4 * k]))
     answer = answer_list(named, n)
     if answer[0]:
-        return refused % answer
+        return answer, None
     numbers = struct.unpack('<%dd' % (2 * 2 ** n), file[offset(k):])
     for i, x in enumerate(numbers):
         if not abs(x) <= 2.0 ** 200:
-            return refused % (7, i // 2)
-    state = list(zip(numbers[::2], numbers[1::2]))
-    answer, values, begun, quiet = cut_values(state, n, named)
+            return (7, i // 2), None
+    return (0, 0), (n, named, list(zip(numbers[::2], numbers[1::2])))
+
+
+def printout(file):
+    answer, held = contents(file)
     if answer[0]:
-        return refused % answer
+        return 'refused %d %d\n' % answer
+    return page_one(*held[:2], *cut_values(held[2], *held[:2]))
+
+
+def page_one(n, named, answer, values, begun, quiet, *_):
+    if answer[0]:
+        return 'refused %d %d\n' % answer
+    k = len(named)
     side = min(k, n - k)
     smaller = named if k == side else [q for q in range(n) if q not in named]
     lines = ['cut %d %d %d %d' % (n, k, 2 ** side, 2 ** (n - side)), ' '.join(['side'] + [str(q) for q in smaller])]
@@ -213,6 +235,32 @@ def product_state(n):
     return cells
 
 
+HALF = math.sqrt(0.5)   # of binary64, rounded once
+
+
+def circuit(n, gates):
+    """The state after gates on qubits that are all 0: H on one qubit, T on one, C (the controlled not) on control and target."""
+    cells = [(1.0, 0.0)] + [(0.0, 0.0)] * (2 ** n - 1)
+    for gate in gates.split():
+        kind, qubits = gate[0], [int(q) for q in gate[1:]]
+        bit = 1 << qubits[-1]
+        if kind == 'T':
+            cells = [product(x, (HALF, HALF)) if i & bit else x for i, x in enumerate(cells)]
+        elif kind == 'H':
+            sums = [plus(cells[i & ~bit], signed(cells[i | bit], i & bit)) for i in range(2 ** n)]
+            cells = [(re * HALF, im * HALF) for re, im in sums]
+        else:
+            cells = [cells[i ^ bit] if i >> qubits[0] & 1 else cells[i] for i in range(2 ** n)]
+    return cells
+
+
+def signed(x, negative):
+    return (-x[0], -x[1]) if negative else x
+
+
+# Clifford+T: gate and qubits, in the order in which they are done
+CIRCUIT = 'H0 H2 H4 C01 C23 C45 T1 T3 T5 H1 H3 H5 C12 C34 C50 T2 T4 T0 H2 H4 H0 C01 C23 C45 T1 T4'
+
 # all 100 sweeps turn a pair
 GIVES_UP = cut_file(4, [0, 1], set_at(4, {0: 1.0, 1: 1.0, 4: 1.0, 8: 1.0}))
 
@@ -222,6 +270,9 @@ EXAMPLES = {
     'product': cut_file(5, [4, 0], product_state(5)),
     'refused': cut_file(3, [2, 0, 2], set_at(3, {0: 1.0})),
 }
+
+# those whose two pages stand beside them too, as NAME.pages.txt (pages.py)
+BOTH_PAGES = {'circuit': cut_file(6, [4, 1, 2], circuit(6, CIRCUIT))}
 
 
 NAN_AT_2 = [(1.0, 0.0), (0.0, 0.0), (struct.pack('<Q', 0x7ff8000000000000), 0.0), (0.0, 0.0)]
@@ -315,6 +366,7 @@ def state_text(name, file):
     numbers = struct.unpack('<%dd' % (2 * 2 ** n), file[offset(k):])
     lines = ['# The state of examples/%s.cut, amplitude by amplitude: real part, imaginary part. Qubit q is bit q of the index.' % name,
              '# tools/pack examples/%s.state.txt -q %s' % (name, ','.join(map(str, named)))]
+    lines += ['# Clifford+T, from all qubits 0: ' + CIRCUIT] if name == 'circuit' else []
     lines += ['%r %r' % numbers[i:i + 2] + '   # %s' % format(i // 2, '0%db' % n) for i in range(0, len(numbers), 2)]
     return '\n'.join(lines) + '\n'
 
@@ -322,14 +374,14 @@ def state_text(name, file):
 def main():
     kind = sys.argv[1]
     if kind == 'examples':
-        for name, file in (EXAMPLES | REFUSED).items():
+        for name, file in (EXAMPLES | BOTH_PAGES | REFUSED).items():
             with open(os.path.join(sys.argv[2], name + '.cut'), 'wb') as f:
                 f.write(file)
             with open(os.path.join(sys.argv[2], name + '.txt'), 'w') as f:
                 f.write(printout(file))
-        for name in ('paper', 'ghz', 'product'):
+        for name in ('paper', 'ghz', 'product', 'circuit'):
             with open(os.path.join(sys.argv[2], name + '.state.txt'), 'w') as f:
-                f.write(state_text(name, EXAMPLES[name]))
+                f.write(state_text(name, (EXAMPLES | BOTH_PAGES)[name]))
     elif kind == 'cases':
         with open(sys.argv[2], 'wb') as table, open(sys.argv[3], 'w') as out:
             for name, file in cases():

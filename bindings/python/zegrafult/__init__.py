@@ -33,6 +33,7 @@ where it belongs makes the arrays it needs and hands them to `ask` by the names 
 and the references are seen to by `ask`), with a docstring whose example runs. `tools/faces` says which call has none yet."""
 from ._library import LIBRARY
 from ._table import VERSION as __version__
+from .certificates import *
 from .chains import *
 from .densities import *
 from .environment import *

@@ -3,8 +3,6 @@
 VERSION = '0.1.0'
 
 CALLS = {
-    'zg_version': ('u32', [
-    ]),
     'zg_sqrt': ('f64', [
         ('x', 'f64'),
     ]),
@@ -429,5 +427,23 @@ CALLS = {
         ('lot_len', 'usize'),
         ('sheet', '*mut usize[32]'),
         ('place', '*mut usize'),
+    ]),
+    'zg_certificate': ('u32', [
+        ('file', '*const u8'),
+        ('file_len', 'usize'),
+        ('text', '*mut u8'),
+        ('text_len', 'usize'),
+        ('place', '*mut usize'),
+        ('length', '*mut usize'),
+    ]),
+    'zg_certificate_pages': ('u32', [
+        ('file', '*const u8'),
+        ('file_len', 'usize'),
+        ('text', '*mut u8'),
+        ('text_len', 'usize'),
+        ('place', '*mut usize'),
+        ('length', '*mut usize'),
+    ]),
+    'zg_version': ('u32', [
     ]),
 }

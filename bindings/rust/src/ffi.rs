@@ -378,4 +378,21 @@ extern "C" {
     ) -> u32;
 
     pub fn zg_lot_sheet(lot: *const u8, lot_len: usize, sheet: *mut usize, place: &mut usize) -> u32;
+
+    pub fn zg_certificate(
+        file: *const u8,
+        file_len: usize,
+        text: *mut u8,
+        text_len: usize,
+        place: &mut usize,
+        length: &mut usize,
+    ) -> u32;
+    pub fn zg_certificate_pages(
+        file: *const u8,
+        file_len: usize,
+        text: *mut u8,
+        text_len: usize,
+        place: &mut usize,
+        length: &mut usize,
+    ) -> u32;
 }

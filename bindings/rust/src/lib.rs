@@ -31,6 +31,7 @@
 mod ffi;
 mod refusal;
 
+mod certificate;
 mod chain;
 mod densities;
 mod environment;
@@ -46,6 +47,7 @@ mod lot;
 mod slab;
 mod spectra;
 
+pub use certificate::*;
 pub use chain::*;
 pub use densities::*;
 pub use environment::{environment, environment_was_wrong};

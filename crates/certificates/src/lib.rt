@@ -3,7 +3,9 @@ use answers::Answer;
 ghost use mathlib.Core.Path.{_≡_};
 ghost use Prim.Native.Nat.{_≤_};
 ghost use lib.ListN.{length};
+ghost use Rattle.answers.specs.Paper.{paper};
 ghost use Rattle.io.specs.Counts.{Counts};
+ghost use Rattle.cutfile_result.specs.Result.{fileReply};
 ghost use Rattle.certificates.specs.Accepted.{Printable, acceptedText, Printed};
 ghost use Rattle.certificates.specs.Certificate.{certificateOf};
 
@@ -40,12 +42,19 @@ pub fn put_accepted(
     )
 }
 
-// Inner: puts the certificate of a file, or `refused N P`, at the front of out, which the program lends with room for any;
-// answers its length.
-pub fn certificate(file: &[u8], out: &mut [u8]) -> usize
+// Inner. The file's answer, and how long its text is.
+pub struct Written {
+    pub answer: Answer,
+    pub length: usize,
+}
+
+// Inner: puts the certificate of a file, or `refused N P`, at the front of out, which the caller lends with room for any;
+// answers as the file is answered, with the text's length.
+pub fn answered(file: &[u8], out: &mut [u8]) -> Written
     requires { ⌜ 2048 ≤ length (now out) ⌝ }
-    ensures { λ r. ⌜ Printed (certificateOf (now (file .entry))) (now (out .entry)) r (now (out .exit)) ⌝ }
-    ensures { λ r. ⌜ Counts r (now (out .exit)) ⌝ }
+    ensures { λ r. ⌜ Printed (certificateOf (now (file .entry))) (now (out .entry)) (r .length) (now (out .exit)) ⌝ }
+    ensures { λ r. ⌜ Counts (r .length) (now (out .exit)) ⌝ }
+    ensures { λ r. ⌜ paper (r .answer) ≡ fileReply (now (file .entry)) ⌝ }
 {
     let mut list = [0usize; 64];
     let mut values = [0.0f64; 16];
@@ -56,14 +65,26 @@ pub fn certificate(file: &[u8], out: &mut [u8]) -> usize
     let count = result.count;
     let sweeps = result.sweeps;
     let Answer::Done = answer else {
-        return lines::put_refused(out, answer);
+        let length = lines::put_refused(out, answer);
+        return Written { answer, length };
     };
-    put_accepted(
+    let length = put_accepted(
         &list[..k],
         n,
         &values[..count],
         sweeps.begun,
         sweeps.quiet,
         out,
-    )
+    );
+    Written { answer, length }
+}
+
+// Inner: the same; answers the text's length alone, as the program wants it.
+pub fn certificate(file: &[u8], out: &mut [u8]) -> usize
+    requires { ⌜ 2048 ≤ length (now out) ⌝ }
+    ensures { λ r. ⌜ Printed (certificateOf (now (file .entry))) (now (out .entry)) r (now (out .exit)) ⌝ }
+    ensures { λ r. ⌜ Counts r (now (out .exit)) ⌝ }
+{
+    let all = answered(file, out);
+    all.length
 }

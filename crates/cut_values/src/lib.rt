@@ -20,10 +20,10 @@ pub struct CutCounted {
     pub exact: bool,
 }
 
-// How the sweeps went, and whether every root of a column's norm came out even.
-struct SweptNorms {
-    sweeps: Sweeps,
-    exact: bool,
+// Inner. How the sweeps went, and whether every root of a column's norm came out even.
+pub struct SweptNorms {
+    pub sweeps: Sweeps,
+    pub exact: bool,
 }
 
 // The first slice of a wrong length, or too short: 6.
@@ -68,8 +68,8 @@ fn sweep(state: &[f64], n: usize, cut: Sides, work: &mut [f64], norms: &mut [f64
     SweptNorms { sweeps, exact }
 }
 
-// The singular values of the cut matrix, falling. Scratch holds the work matrix, and after it the order.
-fn singular_values(
+// Inner. The singular values of the cut matrix, falling. Scratch holds the work matrix, and after it the order.
+pub fn singular_values(
     state: &[f64],
     n: usize,
     cut: Sides,

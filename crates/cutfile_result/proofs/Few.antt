@@ -1,5 +1,6 @@
 -- How many values a file can have, and that they stand at the front. Assumes nothing.
 use mathlib.Core.Path.{_≡_, sym, ap₂, _∙_}
+use mathlib.Core.Bool.{false}
 use mathlib.Core.List.{List, _++_}
 use Prim.Native.Nat.{ℕ, zero, suc, _-_, _≤_}
 use native.Mathlib.Nat.{min-le-left, min-le-right}
@@ -22,7 +23,7 @@ use Rattle.sweeps.specs.Sweeping.{noSweeps}
 use Rattle.cut_values.specs.Schmidt.{cutRows, singularValues, cutValuesRest, cutValuesTests, valuesReply, cutValuesAnswer}
 use Rattle.cut_values.proofs.Few.{few-left, few-singular}
 use Rattle.cutfile_result.specs.declared.CutResult.{CutResult}
-use Rattle.cutfile_result.specs.Result.{stateOf, cutReply, valuesAt, libraryReply, fileReply, fileList, fileValues, fileSweeps, Result}
+use Rattle.cutfile_result.specs.Result.{stateOf, cutReply, valuesAt, libraryReply, fileReply, fileList, fileValues, fileSweeps, fileExact, Result}
 
 -- a file's cut has at most 16 rows
 pub few-rows : (n : ℕ) (l : List ℕ) → n ≤ 9 → cutRows n l ≤ 16
@@ -68,6 +69,9 @@ module _ (file list : List ℕ) (values : List Float) (r : CutResult) (list' : L
 
   pub sweeps-is : r .sweeps ≡ fileSweeps file
   sweeps-is = is .sweeps-are ∙ sym (done-new (fileReply file .0) (fileSweeps file) noSweeps e)
+
+  pub exact-file : r .exact ≡ fileExact file
+  exact-file = is .exact-is ∙ sym (done-new (fileReply file .0) (fileExact file) false e)
 
   pub count-few : r .count ≤ 16
   count-few =

@@ -1,5 +1,6 @@
 -- Laws of the result of a file. Assumes nothing.
 use mathlib.Core.Path.{_≡_, refl, sym, ap, ap₂, subst, _∙_}
+use mathlib.Core.Bool.{Bool, false}
 use mathlib.Core.List.{List}
 use Prim.Native.Nat.{ℕ, zero, suc, _*_, _^_}
 use native.Mathlib.Omega.{arith}
@@ -15,17 +16,16 @@ use Rattle.cutfile.proofs.LayoutLaws.{accepted}
 use Rattle.decode.specs.Tables.{filled}
 use Rattle.decode.proofs.TablesLaws.{take-filled}
 use Rattle.sweeps.specs.Sweeping.{noSweeps}
-use Rattle.factored.specs.declared.Counted.{Counted}
 use Rattle.finish.specs.Finish.{padded}
 use Rattle.cut_values.specs.declared.CutCounted.{CutCounted}
-use Rattle.cut_values.specs.Schmidt.{cutRows, cutSweeps, cutValuesAnswer, Schmidt}
-use Rattle.cutfile_result.specs.Result.{listOf, stateOf, cutReply, valuesOf, valuesAt, libraryReply, fileReply, fileList, fileValues, fileSweeps, Valued, FileValued, Result}
+use Rattle.cut_values.specs.Schmidt.{cutRows, cutSweeps, cutExact, cutValuesAnswer, Schmidt}
+use Rattle.cutfile_result.specs.Result.{listOf, stateOf, cutReply, valuesOf, valuesAt, libraryReply, fileReply, fileList, fileValues, fileSweeps, fileExact, Valued, FileValued, Result}
 
 -- ---- the library's call over the room that is lent here
 
 pub valued : (state : List Float) (n : ℕ) (list : List ℕ) (values scratch : List Float) → length values ≡ 16 → length scratch ≡ 4128 → (r : CutCounted)
     (end scratch' : List Float) → Schmidt state n list 10 values scratch r end scratch'
-    → Valued state n list values (record { answer = r .answer; count = r .count; sweeps = r .sweeps }) end
+    → Valued state n list values r end
 unfolding cutReply
 valued state n list values scratch lv ls r end scratch' is =
     let e : paper (r .answer) ≡ cutReply state n list = is .answer ∙ ap₂ (cutValuesAnswer state n list 10) lv ls in
@@ -34,13 +34,14 @@ valued state n list values scratch lv ls r end scratch' is =
       answer = e;
       count = is .count ∙ ap (λ (a : ℕ). ifDone a (length (valuesOf state n list)) 0) x;
       sweeps-are = is .sweeps-are ∙ ap (λ (a : ℕ). ifDone a (cutSweeps state n list) noSweeps) x;
+      exact-is = is .exact-is ∙ ap (λ (a : ℕ). ifDone a (cutExact state n list) false) x;
       values-are =
           is .out-is
           ∙ ap (λ (a : ℕ). atEnd a (padded (cutRows n list) (valuesOf state n list) values) (zeroed (cutRows n list) values) values) x;
     }
 
 -- what was decoded is what the file holds
-pub file-valued : (file : List ℕ) (n k m : ℕ) (old list : List ℕ) (before state : List Float) (values : List Float) (r : Counted) (end : List Float) → m ≡ 2 * 2 ^ n
+pub file-valued : (file : List ℕ) (n k m : ℕ) (old list : List ℕ) (before state : List Float) (values : List Float) (r : CutCounted) (end : List Float) → m ≡ 2 * 2 ^ n
     → list ≡ filled k (fileEntry file) old → state ≡ filled (2 * 2 ^ n) (componentAt file k) before
     → Valued (take m state) n (take k list) values r end → FileValued file n k old values r list end
 file-valued file n k m old list before state values r end l e f v =
@@ -61,7 +62,7 @@ passes (suc k) x b e = absurd (omega arith)
 module _ (file : List ℕ) (h : Header) (is : Header·is file h) where
   -- it is refused: nothing was touched
   pub header-refused : (list : List ℕ) (values : List Float) → (paper (h .answer) .0 ≡ 0 → ⊥)
-      → Result file list values (record { answer = h .answer; n = h .n; k = h .k; count = 0; sweeps = noSweeps }) list values
+      → Result file list values (record { answer = h .answer; n = h .n; k = h .k; count = 0; sweeps = noSweeps; exact = false }) list values
   unfolding fileReply
   header-refused list values f =
       let g : headerAnswer file .0 ≡ 0 → ⊥ = λ e. f (ap (λ (r : Reply). r .0) (is .answer-is) ∙ e) in
@@ -72,6 +73,7 @@ module _ (file : List ℕ) (h : Header) (is : Header·is file h) where
         k-is = is .k-is;
         count = done-old (fileReply file .0) (length (fileValues file)) 0 (λ e. g (ap (λ (r : Reply). r .0) s ∙ e));
         sweeps-are = done-old (fileReply file .0) (fileSweeps file) noSweeps (λ e. g (ap (λ (r : Reply). r .0) s ∙ e));
+        exact-is = done-old (fileReply file .0) (fileExact file) false (λ e. g (ap (λ (r : Reply). r .0) s ∙ e));
         list-is = done-old (headerAnswer file .0) (filled (word32 file 8) (fileEntry file) list) list g;
         values-are = done-old (headerAnswer file .0) (valuesAt (stateOf file (word32 file 4) (word32 file 8)) (word32 file 4) (fileList file) values) values g;
         list-long = refl;
@@ -89,9 +91,9 @@ module _ (file : List ℕ) (h : Header) (is : Header·is file h) where
     header-fits = rw (n-word, k-word) (accepted file e .0)
 
     -- it is answered 0: the library's call decides
-    pub header-done : (list : List ℕ) (values : List Float) (r : Counted) (list' : List ℕ) (values' : List Float)
+    pub header-done : (list : List ℕ) (values : List Float) (r : CutCounted) (list' : List ℕ) (values' : List Float)
         → FileValued file (h .n) (h .k) list values r list' values' → length list' ≡ length list → length values' ≡ length values
-        → Result file list values (record { answer = r .answer; n = h .n; k = h .k; count = r .count; sweeps = r .sweeps }) list' values'
+        → Result file list values (record { answer = r .answer; n = h .n; k = h .k; count = r .count; sweeps = r .sweeps; exact = r .exact }) list' values'
     unfolding fileReply
     header-done list values r list' values' v ll lv =
         let w : FileValued file (word32 file 4) (word32 file 8) list values r list' values'
@@ -105,6 +107,7 @@ module _ (file : List ℕ) (h : Header) (is : Header·is file h) where
           k-is = is .k-is;
           count = w .valued .count ∙ ap (λ (a : Reply). ifDone (a .0) (length (fileValues file)) 0) (sym s);
           sweeps-are = w .valued .sweeps-are ∙ ap (λ (a : Reply). ifDone (a .0) (fileSweeps file) noSweeps) (sym s);
+          exact-is = w .valued .exact-is ∙ ap (λ (a : Reply). ifDone (a .0) (fileExact file) false) (sym s);
           list-is = w .list-is ∙ done-new (headerAnswer file .0) (filled (word32 file 8) (fileEntry file) list) list e;
           values-are =
               w .valued .values-are

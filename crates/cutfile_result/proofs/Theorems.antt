@@ -32,16 +32,16 @@ use Rattle.cut_values.proofs.SchmidtLaws.{lengths-good}
 use Rattle.cut_values.proofs.Few.{few-left, few-singular, some-kept}
 use Rattle.cutfile_result.proofs.Few.{few-rows}
 
-same-result : {a a' : Answer} {n n' k k' c c' : ℕ} {w w' : Sweeps} → a ≡ a' → n ≡ n' → k ≡ k' → c ≡ c' → w ≡ w'
-    → _≡_ {A = CutResult} (record { answer = a; n = n; k = k; count = c; sweeps = w }) (record { answer = a'; n = n'; k = k'; count = c'; sweeps = w' })
-same-result e f g h i = cc
+same-result : {a a' : Answer} {n n' k k' c c' : ℕ} {w w' : Sweeps} {x x' : Bool} → a ≡ a' → n ≡ n' → k ≡ k' → c ≡ c' → w ≡ w' → x ≡ x'
+    → _≡_ {A = CutResult} (record { answer = a; n = n; k = k; count = c; sweeps = w; exact = x }) (record { answer = a'; n = n'; k = k'; count = c'; sweeps = w'; exact = x' })
+same-result e f g h i j = cc
 
--- Only one outcome meets the contract of `cut_result`: its answer, n, k, count and sweeps, and every cell of the list and the values.
+-- Only one outcome meets the contract of `cut_result`: its answer, n, k, count, sweeps and mark, and every cell of the list and the values.
 pub cut-result-one : (file list : List ℕ) (values : List Float) (r s : CutResult) (list' list″ : List ℕ) (values' values″ : List Float)
     → Result file list values r list' values' → Result file list values s list″ values″ → (r ≡ s) × (list' ≡ list″) × (values' ≡ values″)
 cut-result-one file list values r s list' list″ values' values″ x y = (
   same-result (paper-one (r .answer) (s .answer) (x .answer ∙ sym (y .answer))) (x .n-is ∙ sym (y .n-is)) (x .k-is ∙ sym (y .k-is)) (x .count ∙ sym (y .count))
-      (x .sweeps-are ∙ sym (y .sweeps-are)),
+      (x .sweeps-are ∙ sym (y .sweeps-are)) (x .exact-is ∙ sym (y .exact-is)),
   x .list-is ∙ sym (y .list-is),
   x .values-are ∙ sym (y .values-are),
 )

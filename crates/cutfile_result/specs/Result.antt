@@ -1,5 +1,6 @@
 -- What a cut file gives, for every list of bytes. Definitions only.
 use mathlib.Core.Path.{_≡_}
+use mathlib.Core.Bool.{Bool, false}
 use mathlib.Core.List.{List}
 use Prim.Native.Nat.{ℕ, _*_, _^_}
 use lib.Ieee.{Float}
@@ -11,9 +12,9 @@ use Rattle.cutfile.specs.Layout.{headerAnswer, nOf, kOf, fileEntry, componentAt
 use Rattle.decode.specs.Tables.{table, filled}
 use Rattle.sweeps.specs.declared.Sweeps.{Sweeps}
 use Rattle.sweeps.specs.Sweeping.{noSweeps}
-use Rattle.factored.specs.declared.Counted.{Counted}
 use Rattle.finish.specs.Finish.{finishOf, padded}
-use Rattle.cut_values.specs.Schmidt.{cutRows, singularValues, cutSweeps, cutValuesAnswer}
+use Rattle.cut_values.specs.declared.CutCounted.{CutCounted}
+use Rattle.cut_values.specs.Schmidt.{cutRows, singularValues, cutSweeps, cutExact, cutValuesAnswer}
 use Rattle.cutfile_result.specs.declared.CutResult.{CutResult}
 
 -- the list and the state that a file of k entries and n qubits holds
@@ -57,13 +58,18 @@ fileValues file = valuesOf (stateOf file (word32 file 4) (word32 file 8)) (word3
 abbrev pub fileSweeps : List ℕ → Sweeps
 fileSweeps file = cutSweeps (stateOf file (word32 file 4) (word32 file 8)) (word32 file 4) (fileList file)
 
--- the answer; n and k, 0 where the header is refused; the count and the sweeps; the lent list and values, as they were where the header is refused
+-- the mark of its roots
+abbrev pub fileExact : List ℕ → Bool
+fileExact file = cutExact (stateOf file (word32 file 4) (word32 file 8)) (word32 file 4) (fileList file)
+
+-- the answer; n and k, 0 where the header is refused; the count, the sweeps and the mark; the lent list and values, as they were where the header is refused
 pub record Result (file : List ℕ) (list : List ℕ) (values : List Float) (r : CutResult) (list' : List ℕ) (values' : List Float) : Type 0 where
   pub answer : paper (r .answer) ≡ fileReply file
   pub n-is : r .n ≡ nOf file
   pub k-is : r .k ≡ kOf file
   pub count : r .count ≡ ifDone (fileReply file .0) (length (fileValues file)) 0
   pub sweeps-are : r .sweeps ≡ ifDone (fileReply file .0) (fileSweeps file) noSweeps
+  pub exact-is : r .exact ≡ ifDone (fileReply file .0) (fileExact file) false
   pub list-is : list' ≡ ifDone (headerAnswer file .0) (filled (word32 file 8) (fileEntry file) list) list
   pub values-are : values' ≡ ifDone (headerAnswer file .0) (valuesAt (stateOf file (word32 file 4) (word32 file 8)) (word32 file 4) (fileList file) values) values
   pub list-long : length list' ≡ length list
@@ -72,13 +78,14 @@ pub record Result (file : List ℕ) (list : List ℕ) (values : List Float) (r :
 -- ---- the steps
 
 -- the cut values over the room that is lent here
-pub record Valued (state : List Float) (n : ℕ) (list : List ℕ) (values : List Float) (r : Counted) (values' : List Float) : Type 0 where
+pub record Valued (state : List Float) (n : ℕ) (list : List ℕ) (values : List Float) (r : CutCounted) (values' : List Float) : Type 0 where
   pub answer : paper (r .answer) ≡ cutReply state n list
   pub count : r .count ≡ ifDone (cutReply state n list .0) (length (valuesOf state n list)) 0
   pub sweeps-are : r .sweeps ≡ ifDone (cutReply state n list .0) (cutSweeps state n list) noSweeps
+  pub exact-is : r .exact ≡ ifDone (cutReply state n list .0) (cutExact state n list) false
   pub values-are : values' ≡ valuesAt state n list values
 
 -- of a file whose header was answered 0
-pub record FileValued (file : List ℕ) (n k : ℕ) (list : List ℕ) (values : List Float) (r : Counted) (list' : List ℕ) (values' : List Float) : Type 0 where
+pub record FileValued (file : List ℕ) (n k : ℕ) (list : List ℕ) (values : List Float) (r : CutCounted) (list' : List ℕ) (values' : List Float) : Type 0 where
   pub list-is : list' ≡ filled k (fileEntry file) list
   pub valued : Valued (stateOf file n k) n (listOf file k) values r values'

@@ -2,41 +2,35 @@
 // prints, counts or goes on from it starts here. A file has at most 9 qubits, so 1,024 numbers of state, 4,128 of scratch and 16
 // values are enough, and no file is refused by 6.
 use answers::Answer;
-use factored::Counted;
+use cut_values::CutCounted;
 use sweeps::Sweeps;
 ghost use mathlib.Core.Path.{_≡_};
 ghost use lib.ListN.{length};
 ghost use Rattle.cutfile.specs.Layout.{LongEnough};
 ghost use Rattle.cutfile_result.specs.Result.{Valued, FileValued, Result};
 
-// The answer; the register's size and the list's length, 0 where the header is refused; how many values were kept; and
-// how the sweeps went.
+// The answer; the register's size and the list's length, 0 where the header is refused; how many values were kept; how the
+// sweeps went; and the mark of the roots, no on a refusal.
 pub struct CutResult {
     pub answer: Answer,
     pub n: usize,
     pub k: usize,
     pub count: usize,
     pub sweeps: Sweeps,
+    pub exact: bool,
 }
 
-// The cut values of a state; the mark of their roots is not printed.
-fn values_of(state: &[f64], n: usize, list: &[usize], values: &mut [f64]) -> Counted
+// The cut values of a state.
+fn values_of(state: &[f64], n: usize, list: &[usize], values: &mut [f64]) -> CutCounted
     requires { ⌜ length (now values) ≡ 16 ⌝ }
     ensures { λ r. ⌜ Valued (now (state .entry)) n (now (list .entry)) (now (values .entry)) r (now (values .exit)) ⌝ }
 {
     let mut scratch = [0.0f64; 4128];
-    let all = cut_values::dense_schmidt_values(state, n, list, 10, values, &mut scratch);
-    let answer = all.answer;
-    let sweeps = all.sweeps;
-    Counted {
-        answer,
-        count: all.count,
-        sweeps,
-    }
+    cut_values::dense_schmidt_values(state, n, list, 10, values, &mut scratch)
 }
 
 // The list and the values of a file whose header was answered 0.
-fn of_file(file: &[u8], n: usize, k: usize, list: &mut [usize], values: &mut [f64]) -> Counted
+fn of_file(file: &[u8], n: usize, k: usize, list: &mut [usize], values: &mut [f64]) -> CutCounted
     requires { ⌜ LongEnough (now file) n k × (length (now list) ≡ 64) × (length (now values) ≡ 16) ⌝ }
     ensures { λ r. ⌜ FileValued (now (file .entry)) n k (now (list .entry)) (now (values .entry)) r (now (list .exit)) (now (values .exit)) ⌝ }
 {
@@ -67,6 +61,7 @@ pub fn cut_result(file: &[u8], list: &mut [usize; 64], values: &mut [f64; 16]) -
             k,
             count: 0,
             sweeps: none,
+            exact: false,
         };
     };
     let kept = of_file(file, n, k, list, values);
@@ -78,5 +73,6 @@ pub fn cut_result(file: &[u8], list: &mut [usize; 64], values: &mut [f64; 16]) -
         k,
         count: kept.count,
         sweeps,
+        exact: kept.exact,
     }
 }

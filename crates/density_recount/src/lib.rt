@@ -105,8 +105,8 @@ fn fill_numbers(
     }
 }
 
-// The density at the front of out: the cut matrix is read as a state whose bits are the matrix's rows and columns.
-fn sum_from_cut(matrix: &[f64], n: usize, list: &[usize], out: &mut [f64])
+// Inner. The density at the front of out: the cut matrix is read as a state whose bits are the matrix's rows and columns.
+pub fn sum_from_cut(matrix: &[f64], n: usize, list: &[usize], out: &mut [f64])
     requires { ⌜ RecountAccepted (now matrix) n (now list) (length (now out)) ⌝ }
     ensures { λ _. ⌜ now (out .exit) ≡ recounted n (now (list .entry)) (now (matrix .entry)) (now (out .entry)) ⌝ }
 {

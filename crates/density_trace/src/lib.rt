@@ -8,8 +8,8 @@ ghost use Rattle.density_entries.specs.Squares.{Square};
 ghost use Rattle.densities.specs.Square.{InPlace};
 ghost use Rattle.density_trace.specs.Trace.{traceOf, finiteCells, scaledCell, normalizeAnswer, normalized};
 
-// The sum of the diagonal's real parts.
-fn trace_of(rho: &[f64], dim: usize) -> f64
+// Inner: the sum of the diagonal's real parts.
+pub fn trace_of(rho: &[f64], dim: usize) -> f64
     requires { ⌜ Square dim (now rho) ⌝ }
     ensures { λ r. ⌜ r ≡ traceOf (now (rho .entry)) dim ⌝ }
 {

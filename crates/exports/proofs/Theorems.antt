@@ -56,6 +56,11 @@ use Rattle.profiles.proofs.Theorems.{cut-profile-one}
 use Rattle.entropy_bands.specs.declared.Entropy.{Entropy}
 use Rattle.entropy_bands.specs.Bands.{EntropyBand}
 use Rattle.entropy_bands.proofs.Theorems.{entropy-band-one}
+use Rattle.cutfile_result.specs.Result.{fileReply}
+use Rattle.certificates.specs.Certificate.{certificateOf}
+use Rattle.certificates.specs.declared.Written.{Written}
+use Rattle.certificate_pages.specs.Pages.{pagesOf, Called}
+use Rattle.certificate_pages.proofs.Theorems.{print-certificate-one, print-pages-one}
 use Rattle.site_ranks.specs.declared.CutRank.{CutRank}
 use Rattle.site_ranks.specs.Ranks.{Ranked}
 use Rattle.site_ranks.proofs.Theorems.{ranked-one}
@@ -296,3 +301,19 @@ pub zg-lot-sheet-one : (lot sheet sheet' sheet″ : List ℕ) {number place numb
     → Exported (λ x. Lot lot sheet x sheet') number place → Exported (λ x. Lot lot sheet x sheet″) number' place'
     → (number ≡ number') × (place ≡ place') × (sheet' ≡ sheet″)
 zg-lot-sheet-one lot sheet sheet' sheet″ = exported-one (λ x y c d. lot-sheet-one lot sheet x y sheet' sheet″ c d)
+
+-- Only one outcome meets the contract of `zg_certificate`.
+pub zg-certificate-one : (file text text' text″ : List ℕ) {number place number' place' : ℕ} {value value' : ℕ}
+    → ExportedWith {R = Written} (λ k. k .answer) (λ k. k .length) (λ k. Called 2048 (fileReply file) (certificateOf file) text k text') number place value
+    → ExportedWith {R = Written} (λ k. k .answer) (λ k. k .length) (λ k. Called 2048 (fileReply file) (certificateOf file) text k text″) number' place' value'
+    → (number ≡ number') × (place ≡ place') × (value ≡ value') × (text' ≡ text″)
+zg-certificate-one file text text' text″ =
+    exported-with-one (λ k l' c d. let e = print-certificate-one file text k l' text' text″ c d in (ap (λ (x : Written). x .answer) (e .0), ap (λ (x : Written). x .length) (e .0), e .1))
+
+-- Only one outcome meets the contract of `zg_certificate_pages`.
+pub zg-certificate-pages-one : (file text text' text″ : List ℕ) {number place number' place' : ℕ} {value value' : ℕ}
+    → ExportedWith {R = Written} (λ k. k .answer) (λ k. k .length) (λ k. Called 102400 (fileReply file) (pagesOf file) text k text') number place value
+    → ExportedWith {R = Written} (λ k. k .answer) (λ k. k .length) (λ k. Called 102400 (fileReply file) (pagesOf file) text k text″) number' place' value'
+    → (number ≡ number') × (place ≡ place') × (value ≡ value') × (text' ≡ text″)
+zg-certificate-pages-one file text text' text″ =
+    exported-with-one (λ k l' c d. let e = print-pages-one file text k l' text' text″ c d in (ap (λ (x : Written). x .answer) (e .0), ap (λ (x : Written). x .length) (e .0), e .1))

@@ -2,6 +2,8 @@
 // length; the answer's number is returned, its place and each further result are stored by reference.
 // The contract of each is its entry point's: some answer has that number and that place, and with it the
 // entry point's contract holds.
+
+// ---- numbers: nothing is refused
 use answers::Answer;
 use complex::Complex;
 ghost use mathlib.Core.Path.{_≡_};
@@ -52,18 +54,10 @@ ghost use Rattle.profiles.specs.Profile.{CutProfile};
 ghost use Rattle.cut_values.specs.declared.CutCounted.{CutCounted};
 ghost use Rattle.entropy_bands.specs.declared.Entropy.{Entropy};
 ghost use Rattle.entropy_bands.specs.Bands.{EntropyBand};
-
-// ---- the version
-
-// 10000·major + 100·minor + patch of include/zegrafult_version.h.
-#[no_mangle]
-pub extern "C" fn zg_version() -> u32
-    ensures { λ r. ⌜ r ≡ 100 ⌝ }
-{
-    100
-}
-
-// ---- numbers: nothing is refused
+ghost use Rattle.cutfile_result.specs.Result.{fileReply};
+ghost use Rattle.certificates.specs.Certificate.{certificateOf};
+ghost use Rattle.certificates.specs.declared.Written.{Written};
+ghost use Rattle.certificate_pages.specs.Pages.{pagesOf, Called};
 
 #[no_mangle]
 pub extern "C" fn zg_sqrt(x: f64) -> f64
@@ -794,4 +788,48 @@ pub extern "C" fn zg_lot_sheet(lot: &[u8], sheet: &mut [usize; 32], place: &mut 
     ensures { λ r. ⌜ Exported (λ a. Lot (now (lot .entry)) (now (sheet .entry)) a (now (sheet .exit))) r (now (place .exit)) ⌝ }
 {
     told::told(lots::lot_sheet(lot, sheet), place)
+}
+
+// ---- the certificate of a cut file, as text
+
+#[no_mangle]
+pub extern "C" fn zg_certificate(
+    file: &[u8],
+    text: &mut [u8],
+    place: &mut usize,
+    length: &mut usize,
+) -> u32
+    ensures { λ r. ⌜ ExportedWith {R = Written} (λ k. k .answer) (λ k. k .length)
+        (λ k. Called 2048 (fileReply (now (file .entry))) (certificateOf (now (file .entry))) (now (text .entry)) k (now (text .exit)))
+        r (now (place .exit)) (now («length» .exit)) ⌝ }
+{
+    let k = certificate_pages::print_certificate(file, text);
+    *length = k.length;
+    let answer = k.answer;
+    told::told(answer, place)
+}
+
+#[no_mangle]
+pub extern "C" fn zg_certificate_pages(
+    file: &[u8],
+    text: &mut [u8],
+    place: &mut usize,
+    length: &mut usize,
+) -> u32
+    ensures { λ r. ⌜ ExportedWith {R = Written} (λ k. k .answer) (λ k. k .length)
+        (λ k. Called 102400 (fileReply (now (file .entry))) (pagesOf (now (file .entry))) (now (text .entry)) k (now (text .exit)))
+        r (now (place .exit)) (now («length» .exit)) ⌝ }
+{
+    let k = certificate_pages::print_pages(file, text);
+    *length = k.length;
+    let answer = k.answer;
+    told::told(answer, place)
+}
+
+// 10000·major + 100·minor + patch of include/zegrafult_version.h.
+#[no_mangle]
+pub extern "C" fn zg_version() -> u32
+    ensures { λ r. ⌜ r ≡ 100 ⌝ }
+{
+    100
 }

@@ -31,8 +31,8 @@ struct Scaled {
     exact: bool,
 }
 
-// The first value times the floor's part; 0.0 stands for the first of none.
-fn floor_of(s: &[f64]) -> f64
+// Inner. The first value times the floor's part; 0.0 stands for the first of none.
+pub fn floor_of(s: &[f64]) -> f64
     ensures { λ r. ⌜ r ≡ floorOf (now (s .entry)) ⌝ }
 {
     if s.len() == 0 {

@@ -85,7 +85,7 @@ length-side l =
     let w = sideWord in
     omega (arith, length-append (w ++ items (length l) l) (10 ∷ []), length-append w (items (length l) l), length-items (length l) l)
 
-length-quiet : (quiet : Bool) → length (quietText quiet) ≤ 5
+pub length-quiet : (quiet : Bool) → length (quietText quiet) ≤ 5
 unfolding quietText
 length-quiet true = omega arith
 length-quiet false = omega arith

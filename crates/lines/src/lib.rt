@@ -48,7 +48,8 @@ pub fn put_side(out: &mut [u8], at: usize, list: &[usize]) -> usize
     texts::put_text(out, last, b"\n")
 }
 
-fn put_items(out: &mut [u8], at: usize, list: &[usize]) -> usize
+// Puts the numbers of a list, a blank before each.
+pub fn put_items(out: &mut [u8], at: usize, list: &[usize]) -> usize
     requires { ⌜ at + 21 * length (now list) ≤ length (now out) ⌝ }
     ensures { λ r. ⌜ Puts at (items (length (now (list .entry))) (now (list .entry))) (now (out .entry)) r (now (out .exit)) ⌝ }
 {
@@ -76,8 +77,8 @@ pub fn put_values(out: &mut [u8], at: usize, values: &[f64]) -> usize
     next
 }
 
-// Puts the end of the last line: whether the last sweep was quiet.
-fn put_quiet(out: &mut [u8], at: usize, quiet: bool) -> usize
+// Puts the end of a line that says yes or no, as the last line does of the last sweep.
+pub fn put_quiet(out: &mut [u8], at: usize, quiet: bool) -> usize
     requires { ⌜ at + 5 ≤ length (now out) ⌝ }
     ensures { λ r. ⌜ Puts at (quietText quiet) (now (out .entry)) r (now (out .exit)) ⌝ }
 {

@@ -3,8 +3,8 @@ use answers::Answer;
 ghost use mathlib.Core.Path.{_≡_};
 ghost use Rattle.pages.specs.Agree.{sameFloats, Again, Compared, Says, bothAnswer, pagesAnswer, pagesSame};
 
-// Whether two lists have the same length and the same bits throughout.
-fn same_floats(a: &[f64], b: &[f64]) -> bool
+// Inner: whether two lists have the same length and the same bits throughout.
+pub fn same_floats(a: &[f64], b: &[f64]) -> bool
     ensures { λ r. ⌜ r ≡ sameFloats (now (a .entry)) (now (b .entry)) ⌝ }
 {
     if a.len() != b.len() {

@@ -3,6 +3,7 @@
 //!
 //!     compare SEED COUNT         every small shape, then COUNT drawn calls of each entry point, 40 times as many moduli
 //!     compare SEED COUNT NAME    the same of one entry point
+//!     compare SEED COUNT pages   the text of both pages and of page one alone, of COUNT drawn cut files, beside that of the Rust's outcomes
 //!     compare replay FILE        the calls of FILE, one to a line, as a mismatch prints them
 //!
 //! It ends with status 1 on a mismatch and where the library lacks an entry point. The last lines have the count of calls that
@@ -74,7 +75,61 @@ impl Tally {
 
 /// The entry points that the library lacks.
 fn missing() -> Vec<String> {
-    ENTRIES.iter().filter(|&&entry| !port::has(entry)).map(|entry| entry.name()).collect()
+    let mut names: Vec<String> = ENTRIES.iter().filter(|&&entry| !port::has(entry)).map(|entry| entry.name()).collect();
+    if port::certificate(b"", true, 0).is_none() {
+        names.push("certificate and certificate_pages".into());
+    }
+    names
+}
+
+/// The room that the text of page one and of both pages needs.
+const ROOMS: [usize; 2] = [2048, 102400];
+
+/// The certificate of drawn files as text: page one and both pages, in the room that they need, in more, and in one byte less.
+#[derive(Default)]
+struct Texts {
+    files: usize,
+    wrong: usize,
+    answers: BTreeMap<u32, usize>,
+    longest: usize,
+}
+
+impl Texts {
+    fn see(&mut self, file: &[u8]) {
+        let theirs = harness::pages::printed(file);
+        self.files += 1;
+        self.longest = self.longest.max(theirs.both.len());
+        *self.answers.entry(theirs.number).or_insert(0) += 1;
+        for (both, printed) in [(false, &theirs.one), (true, &theirs.both)] {
+            let need = ROOMS[usize::from(both)];
+            for room in [need, need + 1 + file.len() % 99, need - 1, 0] {
+                let (number, place, length) = match room < need {
+                    true => (6, 1, 0),
+                    false => (theirs.number, theirs.place as usize, printed.len()),
+                };
+                let mut text = printed.as_bytes()[..length].to_vec();
+                text.resize(room, port::FILLED);
+                if port::certificate(file, both, room) != Some(port::Told { number, place, length, text }) {
+                    self.wrong += 1;
+                    let hex: String = file.iter().map(|byte| format!("{byte:02x}")).collect();
+                    println!("MISMATCH of {} in room {room}: file {hex}", if both { "both pages" } else { "page one" });
+                }
+            }
+        }
+    }
+
+    fn run(seed: u64, count: usize) -> Texts {
+        let (mut texts, rng) = (Texts::default(), &mut Random::new(seed ^ 0x9A6E5));
+        if port::certificate(b"", true, 0).is_some() {
+            (0..count).for_each(|_| texts.see(&harness::pages::drawn(rng)));
+        }
+        texts
+    }
+
+    fn print(&self) {
+        let each: Vec<String> = self.answers.iter().map(|(number, count)| format!("{number}: {count}")).collect();
+        println!("{:<28}   {}; the longest text has {} bytes", "both pages as text", each.join("  "), self.longest);
+    }
 }
 
 fn show(ours: &Outcome, theirs: &Outcome) {
@@ -129,6 +184,7 @@ fn main() {
     std::panic::set_hook(Box::new(|_| {}));
     let args: Vec<String> = std::env::args().skip(1).collect();
     let start = std::time::Instant::now();
+    let mut texts = Texts::default();
     let (tally, how) = match args.iter().map(String::as_str).collect::<Vec<_>>()[..] {
         ["replay", file] => {
             let mut tally = Tally::default();
@@ -142,16 +198,24 @@ fn main() {
         }
         [seed, count, ref name @ ..] => {
             let number = |word: &str| word.parse().expect("a number");
-            (run(number(seed), number(count) as usize, name.first().unwrap_or(&"")), format!("seed {seed}"))
+            let wanted = name.first().unwrap_or(&"");
+            if wanted.is_empty() || *wanted == "pages" {
+                texts = Texts::run(number(seed), number(count) as usize);
+            }
+            (run(number(seed), number(count) as usize, wanted), format!("seed {seed}"))
         }
         _ => panic!("usage: compare SEED COUNT [NAME], or compare replay FILE"),
     };
     tally.print();
+    if texts.files > 0 {
+        texts.print();
+    }
+    let (calls, wrong) = (tally.calls + 8 * texts.files, tally.wrong + texts.wrong);
     let missing = missing();
     if !missing.is_empty() {
         println!("not in the library, so not compared: {}", missing.join(" "));
     }
     let seconds = start.elapsed().as_secs_f64();
-    println!("compared {} calls, {} mismatches, {how}, {seconds:.1} s", tally.calls, tally.wrong);
-    exit(if tally.wrong > 0 || tally.calls == 0 || !missing.is_empty() { 1 } else { 0 });
+    println!("compared {calls} calls, {wrong} mismatches, {how}, {seconds:.1} s");
+    exit(if wrong > 0 || calls == 0 || !missing.is_empty() { 1 } else { 0 });
 }

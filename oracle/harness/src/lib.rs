@@ -4,6 +4,7 @@ pub mod call;
 pub mod cases;
 pub mod chains_sample;
 pub mod oracle;
+pub mod pages;
 pub mod random;
 pub mod sample;
 pub mod sites_sample;

@@ -32,6 +32,9 @@ unsafe extern "C" {
     pub fn zg_slab_replace(cells: *mut f64, index: *mut u32, site: u32, data: *const f64, data_len: usize, place: *mut usize) -> u32;
     pub fn zg_entropy_band(state: *const f64, state_len: usize, n: usize, list: *const usize, list_len: usize, cap: usize, bands: *mut usize, bands_len: usize, scratch: *mut f64, scratch_len: usize, place: *mut usize, count: *mut usize, low: *mut u64, high: *mut u64, whole: *mut u64, sweeps: *mut usize, quiet: *mut bool, turned: *mut usize) -> u32;
     pub fn zg_lot_sheet(lot: *const u8, lot_len: usize, sheet: *mut usize, place: *mut usize) -> u32;
+    // Text: compared with the text that harness::pages makes of the published Rust's outcomes.
+    pub fn zg_certificate(file: *const u8, file_len: usize, text: *mut u8, text_len: usize, place: *mut usize, length: *mut usize) -> u32;
+    pub fn zg_certificate_pages(file: *const u8, file_len: usize, text: *mut u8, text_len: usize, place: *mut usize, length: *mut usize) -> u32;
     pub fn zg_svd_jacobi(a: *const f64, a_len: usize, m: usize, n: usize, u: *mut f64, u_len: usize, s: *mut f64, s_len: usize, vt: *mut f64, vt_len: usize, scratch: *mut f64, scratch_len: usize, place: *mut usize, sweeps: *mut usize, quiet: *mut bool, turned: *mut usize) -> u32;
     pub fn zg_factorize_gram_schmidt(a: *const f64, a_len: usize, rows: usize, cols: usize, q: *mut f64, q_len: usize, r: *mut f64, r_len: usize, scratch: *mut f64, scratch_len: usize, place: *mut usize, rank: *mut usize) -> u32;
     pub fn zg_hermitian_eigenvalues(a: *const f64, a_len: usize, dim: usize, out: *mut f64, out_len: usize, scratch: *mut f64, scratch_len: usize, place: *mut usize, sweeps: *mut usize, quiet: *mut bool, turned: *mut usize) -> u32;
@@ -244,3 +247,36 @@ pub fn lot_sheet(lot: &[u8]) -> Option<[usize; 32]> {
     #[allow(unreachable_code)]
     None
 }
+
+/// What a call of the certificate leaves: its answer, the length that it says, and the whole lent text.
+#[derive(Clone, Debug, PartialEq, Eq)]
+pub struct Told {
+    pub number: u32,
+    pub place: usize,
+    pub length: usize,
+    pub text: Vec<u8>,
+}
+
+/// Page one, or both pages, into `room` bytes that hold `FILLED` before; none where the library lacks the call. What is written behind
+/// the room shows as text that is longer than the room.
+#[allow(unused_variables)]
+pub fn certificate(file: &[u8], both: bool, room: usize) -> Option<Told> {
+    #[cfg(all(has_zg_certificate, has_zg_certificate_pages))]
+    {
+        let mut text = vec![FILLED; room + 64];
+        let (mut place, mut length) = (usize::MAX, usize::MAX);
+        let call = if both { zg_certificate_pages } else { zg_certificate };
+        // SAFETY: the file is borrowed with its length, and the text is longer than the length behind it says.
+        let number =
+            unsafe { call(file.as_ptr(), file.len(), text.as_mut_ptr(), room, &raw mut place, &raw mut length) };
+        if text[room..].iter().all(|&byte| byte == FILLED) {
+            text.truncate(room);
+        }
+        return Some(Told { number, place, length, text });
+    }
+    #[allow(unreachable_code)]
+    None
+}
+
+/// No byte of a printout.
+pub const FILLED: u8 = 0xA5;

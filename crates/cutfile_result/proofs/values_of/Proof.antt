@@ -14,7 +14,7 @@ same-length : tie.Need-same-length
 same-length c = search needs
 
 returns : tie.Need-returns
-returns c = let d = c .before .before .before .before .dense-schmidt-values in valued _ _ _ _ _ (c .before .before .before .before .before .before .before .before .before .before .pre) refl (d .result) _ _ (d .ensures)
+returns c = valued _ _ _ _ _ (c .before .before .before .before .before .before .before .before .before .pre) refl (c .before .before .before .dense-schmidt-values .result) _ _ (c .before .before .before .dense-schmidt-values .ensures)
 
 pub values-of-spec : {M : Type 1} → statement M
 values-of-spec =
