@@ -541,6 +541,82 @@ uint32_t zg_slab_replace(double cells[8192], uint32_t index[193], uint32_t site,
  * Refused by 16 (the count is over 1,000 or the header is cut short; then the sheet is as it was). */
 uint32_t zg_lot_sheet(const uint8_t *lot, size_t lot_len, size_t sheet[32], size_t *place);
 
+/* ---- a plan of a cut */
+
+/* A cut kept: 30 whole numbers, no padding. The first k of named are the named list in its order, the first min(k, n-k) of
+ * smaller the smaller side's list: the named one in its order where k is at most n-k, else the others rising. Every other place
+ * is 0. */
+typedef struct zg_plan {
+    size_t n, k;                   /* the register, the length of the named list */
+    size_t row_mask, column_mask;  /* which qubits are the rows', which the columns' */
+    size_t rows, columns;          /* 2^side, 2^(n-side) */
+    size_t named[12], smaller[12];
+} zg_plan;
+
+/* A plan of the list.
+ *   list   [in]      slice 0: the listed qubits, in any order; list_len is k
+ *   n      [in]      qubits of the register, 1 to 12
+ *   cap    [in]      the cap; more than 13 (ZG_CAP) counts as 13
+ *   plan   [out]     the plan; on a refusal it is as it was
+ *   place  [out]     the answer's place
+ * Refused by 1 to 5, as a cut without its state. */
+uint32_t zg_cut_plan(const size_t *list, size_t list_len, size_t n, size_t cap, zg_plan *plan, size_t *place);
+/* Every call below: 1 before all others where no list makes the plan under cap 13. After it *plan is what zg_cut_plan makes of the
+ * changed list; a refused change leaves it as it was. */
+/* The qubit at the list's end.
+ *   plan   [in,out]  the plan
+ *   qubit  [in]      the qubit
+ *   place  [out]     the answer's place
+ * Refused by 1, 2 and 3, placed at k, 5. */
+uint32_t zg_plan_add(zg_plan *plan, size_t qubit, size_t *place);
+/* Without the qubit, the gap closed.
+ *   plan   [in,out]  the plan
+ *   qubit  [in]      the qubit
+ *   place  [out]     the answer's place
+ * Refused by 1, 12 (it is not listed; place 0), 4. */
+uint32_t zg_plan_drop(zg_plan *plan, size_t qubit, size_t *place);
+/* The other side named, rising.
+ *   plan   [in,out]  the plan
+ *   place  [out]     the answer's place
+ * Refused by 1 alone. */
+uint32_t zg_plan_switch(zg_plan *plan, size_t *place);
+
+/* The calls of the plan's list under cap 13: 1 before all others where no list makes the plan, then the same numbers, places, cells,
+ * counts and marks. The plan stands where the list stood and has its number: state 0 (exactly 2*2^n numbers), plan 1, out 2,
+ * scratch 3. */
+/* As zg_cut_matrix.
+ *   state  [in]      slice 0: the amplitudes; state_len exactly 2*2^n (zg_state_len)
+ *   plan   [in]      in place of slice 1: the plan
+ *   out    [out]     slice 2: the matrix; out_len at least 2*2^n (zg_planned_cut_matrix_out_len)
+ *   place  [out]     the answer's place
+ * Refused by 1, 6, 7. */
+uint32_t zg_planned_cut_matrix(const double *state, size_t state_len, const zg_plan *plan, double *out, size_t out_len,
+                               size_t *place);
+/* As zg_dense_schmidt_values.
+ *   state    [in]      slice 0: the amplitudes; state_len exactly 2*2^n (zg_state_len)
+ *   plan     [in]      in place of slice 1: the plan
+ *   out      [out]     slice 2: the values left, falling; out_len at least 2^side (zg_planned_schmidt_values_out_len)
+ *   scratch  [out]     slice 3: room to work in; scratch_len at least 8*2^n + 2*2^side (zg_planned_schmidt_values_scratch_len)
+ *   place    [out]     the answer's place
+ *   count    [out]     how many values are left
+ *   sweeps   [out]     how many sweeps were begun, the quiet one included
+ *   quiet    [out]     whether the last sweep turned no pair
+ *   turned   [out]     how many pairs were turned in all
+ *   exact    [out]     whether every root came out even, as zg_dense_schmidt_values has it
+ * Refused by 1, 6 to 9. */
+uint32_t zg_planned_schmidt_values(const double *state, size_t state_len, const zg_plan *plan, double *out, size_t out_len,
+                                   double *scratch, size_t scratch_len, size_t *place, size_t *count, size_t *sweeps,
+                                   bool *quiet, size_t *turned, bool *exact);
+/* As zg_dense_reduced_density.
+ *   state    [in]      slice 0: the amplitudes; state_len exactly 2*2^n (zg_state_len)
+ *   plan     [in]      in place of slice 1: the plan, of six named qubits at most, else 1
+ *   out      [out]     slice 2: the matrix, 2^k by 2^k; out_len at least 2*4^k (zg_planned_reduced_density_out_len)
+ *   scratch  [out]     slice 3: room to work in; scratch_len at least 2*2^k (zg_planned_reduced_density_scratch_len)
+ *   place    [out]     the answer's place
+ * Refused by 1, 6, 7. */
+uint32_t zg_planned_reduced_density(const double *state, size_t state_len, const zg_plan *plan, double *out, size_t out_len,
+                                    double *scratch, size_t scratch_len, size_t *place);
+
 /* ---- the certificate of a cut file as text, with no folder and no process: what cutprint and pageprint print, byte for byte */
 
 /* Page one. The printout is ASCII with \n at the end of each line and no zero byte behind it; the rest of text stays as it was. The answer

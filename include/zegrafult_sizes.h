@@ -132,6 +132,14 @@ static inline size_t zg_dense_schmidt_values_out_len(size_t n, size_t k) { retur
 static inline size_t zg_dense_schmidt_values_scratch_len(size_t n, size_t k) {
     return 8 * zg_power(n) + 2 * zg_power(zg_side(n, k));
 }
+/* Of a plan's n and k. */
+static inline size_t zg_planned_cut_matrix_out_len(size_t n) { return zg_state_len(n); }
+static inline size_t zg_planned_schmidt_values_out_len(size_t n, size_t k) { return zg_dense_schmidt_values_out_len(n, k); }
+static inline size_t zg_planned_schmidt_values_scratch_len(size_t n, size_t k) {
+    return zg_dense_schmidt_values_scratch_len(n, k);
+}
+static inline size_t zg_planned_reduced_density_out_len(size_t k) { return zg_dense_reduced_density_out_len(k); }
+static inline size_t zg_planned_reduced_density_scratch_len(size_t k) { return zg_dense_reduced_density_scratch_len(k); }
 static inline size_t zg_entropy_band_bands_len(size_t n, size_t k) { return 3 * zg_power(zg_side(n, k)); }
 static inline size_t zg_entropy_band_scratch_len(size_t n, size_t k) {
     return 8 * zg_power(n) + 2 * zg_power(zg_side(n, k));

@@ -19,7 +19,18 @@ struct Row {
     name: &'static str,
     size: String,
     call: Call,
+    /// The plan that stands for the call's list, where it is a planned call.
+    plan: Option<[usize; 30]>,
     rust: Box<dyn Fn()>,
+}
+
+impl Row {
+    fn make(&self, ready: &mut port::Ready) -> Option<u32> {
+        match &self.plan {
+            Some(plan) => ready.make_planned(plan),
+            None => ready.make(),
+        }
+    }
 }
 
 fn drawn(rng: &mut Random, count: usize) -> Vec<f64> {
@@ -39,7 +50,7 @@ fn one(x: usize) -> Arg {
 }
 
 fn row(name: &'static str, size: String, entry: Entry, args: Vec<Arg>, rust: impl Fn() + 'static) -> Row {
-    Row { name, size, call: Call::new(entry, args), rust: Box::new(rust) }
+    Row { name, size, call: Call::new(entry, args), plan: None, rust: Box::new(rust) }
 }
 
 fn svd_row(rng: &mut Random, m: usize, n: usize) -> Row {
@@ -71,6 +82,12 @@ fn values_row(rng: &mut Random, n: usize, k: usize) -> Row {
     row("dense_schmidt_values", format!("n={n} k={k}"), dense_schmidt_values, args, move || {
         black_box(schmidt::dense_schmidt_values(black_box(&state), n, &named, 13).is_ok());
     })
+}
+
+/// The values by a plan that is kept, against the Rust's call of its list.
+fn planned_row(rng: &mut Random, n: usize, k: usize) -> Option<Row> {
+    let plan = port::plan_of(&(0..k).collect::<Vec<_>>(), n)??;
+    Some(Row { name: "planned_schmidt_values", plan: Some(plan), ..values_row(rng, n, k) })
 }
 
 /// The page of all cuts, against the Rust's loop over them.
@@ -182,6 +199,7 @@ fn rows() -> Vec<Row> {
     for (n, k) in [(4, 2), (6, 3), (8, 4), (10, 5), (12, 6), (12, 3)] {
         rows.push(values_row(rng, n, k));
     }
+    rows.extend([(4, 2), (6, 3), (8, 4), (12, 6)].into_iter().filter_map(|(n, k)| planned_row(&mut Random::new(2), n, k)));
     rows.extend((1..=6).map(|k| density_row(rng, 12, k)));
     for (m, n) in [(8, 8), (16, 16), (64, 64), (512, 8)] {
         rows.push(qr_row(rng, m, n));
@@ -232,7 +250,7 @@ fn median(mut times: Vec<f64>) -> f64 {
 /// The medians of a call of each, in microseconds.
 fn medians(row: &Row, rounds: usize) -> Option<(f64, f64)> {
     let mut ready = port::Ready::new(&row.call);
-    if ready.make()? != 0 {
+    if row.make(&mut ready)? != 0 {
         eprintln!("bench: {} {} was refused", row.name, row.size);
         return None;
     }
@@ -241,7 +259,7 @@ fn medians(row: &Row, rounds: usize) -> Option<(f64, f64)> {
     let (mut ours, mut theirs) = (vec![], vec![]);
     for _ in 0..rounds {
         ours.push(timed(turns, || {
-            black_box(ready.make());
+            black_box(row.make(&mut ready));
         }));
         theirs.push(timed(turns, || (row.rust)()));
     }
@@ -311,7 +329,7 @@ fn main() {
         if let Some((ours, theirs)) = medians(row, rounds) {
             println!("| {} | {} | {ours:.3} | {theirs:.3} | {:.2} |", row.name, row.size, ours / theirs);
             let mut ready = port::Ready::new(&row.call);
-            let said = ready.make().and_then(|number| ready.outcome(number)).and_then(|outcome| outcome.sweeps);
+            let said = row.make(&mut ready).and_then(|number| ready.outcome(number)).and_then(|outcome| outcome.sweeps);
             if let (Some(said), Some(most)) = (said, ceiling(&row.call)) {
                 let (begun, turned) = (said.begun, said.turned);
                 let each = 1e3 * ours / turned as f64;

@@ -63,6 +63,16 @@ static uint32_t cut_values(const size_t *len) {
     return zg_dense_schmidt_values(state, len[0], n, list, k, ZG_CAP, lent[0], len[1], lent[1], len[2], &place, &count, &sweeps, &quiet,
                                    &turned, &exact);
 }
+/* The plan of the list at hand. */
+static zg_plan kept;
+static uint32_t planned_cut(const size_t *len) { return zg_planned_cut_matrix(state, len[0], &kept, lent[0], len[1], &place); }
+static uint32_t planned_values(const size_t *len) {
+    return zg_planned_schmidt_values(state, len[0], &kept, lent[0], len[1], lent[1], len[2], &place, &count, &sweeps, &quiet, &turned,
+                                     &exact);
+}
+static uint32_t planned_density(const size_t *len) {
+    return zg_planned_reduced_density(state, len[0], &kept, lent[0], len[1], lent[1], len[2], &place);
+}
 static uint32_t entropy(const size_t *len) {
     return zg_entropy_band(state, len[0], n, list, k, ZG_CAP, whole, len[1], lent[0], len[2], &place, &count, &low, &high, &all, &sweeps,
                            &quiet, &turned);
@@ -149,6 +159,13 @@ static void lists(void) {
     SHOW(from_cut, 2, ZERO_TWO, zg_state_len(n), zg_density_from_cut_out_len(k));
     SHOW(cut_values, 3, ZERO_TWO_THREE, zg_state_len(n), zg_dense_schmidt_values_out_len(n, k), zg_dense_schmidt_values_scratch_len(n, k));
     SHOW(entropy, 3, ZERO_TWO_THREE, zg_state_len(n), zg_entropy_band_bands_len(n, k), zg_entropy_band_scratch_len(n, k));
+    if (zg_cut_plan(list, k, n, ZG_CAP, &kept, &place) != ZG_DONE)
+        failed = 1;
+    SHOW(planned_cut, 2, ZERO_TWO, zg_state_len(n), zg_planned_cut_matrix_out_len(n));
+    SHOW(planned_values, 3, ZERO_TWO_THREE, zg_state_len(n), zg_planned_schmidt_values_out_len(n, k),
+         zg_planned_schmidt_values_scratch_len(n, k));
+    SHOW(planned_density, 3, ZERO_TWO_THREE, zg_state_len(n), zg_planned_reduced_density_out_len(k),
+         zg_planned_reduced_density_scratch_len(k));
 }
 
 static void matrices(void) {

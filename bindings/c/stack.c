@@ -115,6 +115,36 @@ static void lot(void) {
     answer = zg_lot_sheet(bytes, sizeof bytes, sheet, &place) + (uint32_t)(sheet[0] != 1);
 }
 
+/* Ten and eleven of twelve qubits named, so that the list of the others is worked out. */
+static void plan(void) {
+    static const size_t list[] = {11, 9, 7, 5, 3, 1, 0, 2, 4, 6};
+    zg_plan kept;
+    answer = zg_cut_plan(list, 10, 12, 13, &kept, &place) + zg_plan_add(&kept, 8, &place) + zg_plan_drop(&kept, 11, &place) +
+             zg_plan_switch(&kept, &place);
+    if (sizeof kept != 30 * sizeof(size_t) || kept.n != 12 || kept.k != 2 || kept.row_mask != 0xC00 || kept.column_mask != 0x3FF ||
+        kept.rows != 4 || kept.columns != 1024 || kept.named[1] != 11 || kept.named[2] != 0 || kept.smaller[0] != 10)
+        answer = 99;
+}
+
+/* Of twelve qubits, six named. */
+static zg_plan half_named(void) {
+    zg_plan kept;
+    zg_cut_plan(six, 6, 12, 13, &kept, &place);
+    return kept;
+}
+static void planned_cut(void) {
+    zg_plan kept = half_named();
+    answer = zg_planned_cut_matrix(state, 2 * CELLS, &kept, out, 2 * CELLS, &place);
+}
+static void planned_values(void) {
+    zg_plan kept = half_named();
+    answer = zg_planned_schmidt_values(state, 2 * CELLS, &kept, out, 64, scratch, 8 * CELLS + 128, &place, &count, &sweeps, &quiet, &turned, &exact);
+}
+static void planned_density(void) {
+    zg_plan kept = half_named();
+    answer = zg_planned_reduced_density(state, 2 * CELLS, &kept, out, 2 * CELLS, scratch, 128, &place);
+}
+
 /* The certificates of a file of nine qubits, five of them named, all amplitudes 1 / 3. */
 static unsigned char nine[44 + 4 + 8192], text[1 << 17];
 static void make_nine(void) {
@@ -167,6 +197,10 @@ static const struct {
              {"zg_countersign", signed_factors, 16 * KB},
              {"zg_slab_put, replace, drop", slab, 16 * KB},
              {"zg_lot_sheet", lot, 96 * KB},
+             {"zg_cut_plan, add, drop, switch", plan, 16 * KB},
+             {"zg_planned_cut_matrix", planned_cut, 16 * KB},
+             {"zg_planned_schmidt_values", planned_values, 16 * KB},
+             {"zg_planned_reduced_density", planned_density, 96 * KB},
              {"zg_certificate", certificate, 96 * KB},
              {"zg_certificate_pages", certificate_pages, 320 * KB}};
 

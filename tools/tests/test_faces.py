@@ -87,6 +87,10 @@ class Faces(unittest.TestCase):
         self.edit(faces.HEADER, 'zg_slab_drop(double cells[8192]', 'zg_slab_drop(double cells[4096]')
         self.says('include/zegrafult.h: zg_slab_drop has as argument 1 cells: *mut f64[4096], in exports cells: *mut f64[8192]')
 
+    def test_header_has_a_plan_that_is_only_read(self):
+        self.edit(faces.HEADER, 'zg_plan_add(zg_plan *plan', 'zg_plan_add(const zg_plan *plan')
+        self.says('include/zegrafult.h: zg_plan_add has as argument 1 plan: *const usize[30], in exports plan: *mut usize[30]')
+
     def test_header_has_a_call_twice(self):
         self.edit(faces.HEADER, 'double zg_sign(double x);', 'double zg_sign(double x);\ndouble zg_sign(double x);')
         self.says('include/zegrafult.h: has zg_sign twice')

@@ -41,6 +41,7 @@ from .factors import *
 from .lists import *
 from .lots import *
 from .numbers import *
+from .plans import *
 from .refusal import Refusal
 from .sites import *
 from .slab import *

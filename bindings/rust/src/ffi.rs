@@ -379,6 +379,51 @@ extern "C" {
 
     pub fn zg_lot_sheet(lot: *const u8, lot_len: usize, sheet: *mut usize, place: &mut usize) -> u32;
 
+    pub fn zg_cut_plan(
+        list: *const usize,
+        list_len: usize,
+        n: usize,
+        cap: usize,
+        plan: *mut usize,
+        place: &mut usize,
+    ) -> u32;
+    pub fn zg_plan_add(plan: *mut usize, qubit: usize, place: &mut usize) -> u32;
+    pub fn zg_plan_drop(plan: *mut usize, qubit: usize, place: &mut usize) -> u32;
+    pub fn zg_plan_switch(plan: *mut usize, place: &mut usize) -> u32;
+
+    pub fn zg_planned_cut_matrix(
+        state: *const f64,
+        state_len: usize,
+        plan: *const usize,
+        out: *mut f64,
+        out_len: usize,
+        place: &mut usize,
+    ) -> u32;
+    pub fn zg_planned_schmidt_values(
+        state: *const f64,
+        state_len: usize,
+        plan: *const usize,
+        out: *mut f64,
+        out_len: usize,
+        scratch: *mut f64,
+        scratch_len: usize,
+        place: &mut usize,
+        count: &mut usize,
+        sweeps: &mut usize,
+        quiet: &mut bool,
+        turned: &mut usize,
+        exact: &mut bool,
+    ) -> u32;
+    pub fn zg_planned_reduced_density(
+        state: *const f64,
+        state_len: usize,
+        plan: *const usize,
+        out: *mut f64,
+        out_len: usize,
+        scratch: *mut f64,
+        scratch_len: usize,
+        place: &mut usize,
+    ) -> u32;
     pub fn zg_certificate(
         file: *const u8,
         file_len: usize,

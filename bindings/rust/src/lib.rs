@@ -44,6 +44,8 @@ mod numbers;
 mod sites;
 mod sizes;
 mod lot;
+mod plan;
+mod planned;
 mod slab;
 mod spectra;
 
@@ -59,6 +61,7 @@ pub use refusal::Refusal;
 pub use sites::*;
 pub use sizes::*;
 pub use lot::*;
+pub use plan::*;
 pub use slab::*;
 pub use spectra::*;
 

@@ -1,16 +1,17 @@
 -- Laws of the lines of an accepted cut, and of a text that is printed. Assumes nothing.
 use mathlib.Core.Bool.{Bool, true, false, cond}
-use mathlib.Core.Path.{_≡_, refl, sym, ap, ap₂, subst, _∙_}
+use mathlib.Core.Path.{_≡_, sym, ap, subst, _∙_}
+use mathlib.Core.Logic.{⊎-elim}
+use native.Mathlib.Nat.{min-eq-left, min-eq-right}
 use mathlib.Core.List.{List}
-use Prim.Native.Nat.{ℕ, _-_, _^_, _≤_}
+use Prim.Native.Nat.{ℕ, _-_, _^_, _≤_, _<_}
 use native.Mathlib.Omega.{arith}
 use lib.Ieee.{Float}
-use lib.ListN.{length}
-use lib.Seq.{length-take-le}
-use Rattle.answers.specs.declared.Answer.{Answer}
-use Rattle.answers.specs.Paper.{Reply, refuse, after}
-use borrow.Author.Tests.{le-ltb}
-use lib.Dec.{ltb}
+use lib.ListN.{length, take, drop}
+use lib.Seq.{length-take-le, take-at}
+use Rattle.answers.specs.Paper.{Reply}
+use Rattle.submasks.proofs.SubmaskLaws.{le-or-lt}
+use Rattle.qubit_offsets.specs.Calls.{fronted}
 use Rattle.io.specs.Counts.{Counts}
 use Rattle.texts.specs.Text.{Puts}
 use Rattle.texts.proofs.TextLaws.{puts-as}
@@ -18,29 +19,36 @@ use Rattle.lines.specs.Lines.{refusedLine, listing}
 use Rattle.lines.proofs.LineLaws.{length-refused, length-listing}
 use Rattle.qubits.specs.Spread.{otherQubits}
 use Rattle.qubits.proofs.OtherLaws.{others-length}
-use Rattle.cut_sides.specs.declared.Sides.{Sides}
-use Rattle.cut_sides.specs.Sides.{cutRefusal, Parted, side, namedRows, sidesOf, sideList, othersShort, sideAnswer, SmallerSide, sidePart}
-use Rattle.cut_sides.proofs.SideLaws.{is-parted, part-of-side}
+use Rattle.cut_sides.specs.Sides.{Parted, side, namedRows, sideList}
+use Rattle.cut_sides.proofs.SideLaws.{is-parted, named-yes, named-no}
 use Rattle.entropy_totals.specs.declared.Totals.{Totals}
 use Rattle.entropy_totals.specs.Totals.{totalsOf}
-use Rattle.certificates.specs.Accepted.{Printable, acceptedText, Printed}
+use Rattle.certificates.specs.Accepted.{Printable, sidedText, acceptedText, Printed}
 
 -- ---- an accepted cut
 
--- room for nine others is enough
-side-done : (l : List ℕ) (n : ℕ) → n ≤ 9 → cutRefusal l n 10 .0 ≡ 0 → sideAnswer l n 10 9 .0 ≡ 0
-side-done l n h e = ap (λ (x : ℕ). after x (cutRefusal l n 10) (refuse (othersShort l n 9) (6, 1) (0, 0)) .0) e ∙ go (namedRows l n)
-  where
-    go : (t : Bool) → refuse (cond t false (ltb 9 (n - length l))) (6, 1) (0, 0) .0 ≡ 0
-    go true = refl
-    go false = rw (le-ltb 9 (n - length l) (omega arith))
+-- the smaller side's list is as long as the side
+pub side-length : (l : List ℕ) (n : ℕ) → Parted l n → length (sideList l n) ≡ side l n
+side-length l n p =
+    ⊎-elim
+    (λ (h : length l ≤ n - length l).
+    let t = named-yes l n h in
+    rw t (sym (min-eq-left h)))
+    (λ (h : n - length l < length l).
+    let t = named-no l n h in
+    let g : n - length l ≤ length l = omega arith in
+    rw t (others-length n l (p .listed) ∙ sym (min-eq-right g)))
+    (le-or-lt (length l) (n - length l))
 
-pub part-is : (l : List ℕ) (n : ℕ) (o : List ℕ) (r : Answer) (end part : List ℕ) → length o ≡ 9 → n ≤ 9 → cutRefusal l n 10 .0 ≡ 0
-    → SmallerSide l n 10 o r end → part ≡ sidePart l n 10 end → part ≡ sideList l n
-part-is l n o r end part m h e s p =
-    p
-    ∙ part-of-side l n 10 o r end s
-    (ap (λ (x : Reply). x .0) (s .answer) ∙ ap (λ (room : ℕ). sideAnswer l n 10 room .0) m ∙ side-done l n h e)
+-- the two cases of that list
+pub side-named : (l : List ℕ) (n : ℕ) → length l ≤ n - length l → l ≡ sideList l n
+side-named l n h = let t = named-yes l n h in rw t
+
+pub side-written : (l : List ℕ) (n : ℕ) (o end : List ℕ) → Parted l n → n - length l < length l → end ≡ fronted (otherQubits n l) o
+    → take (n - length l) end ≡ sideList l n
+side-written l n o end p h e =
+    let t = named-no l n h in
+    rw (e, t) (take-at (otherQubits n l) (drop (length (otherQubits n l)) o) (n - length l) (others-length n l (p .listed)))
 
 pub side-short : (l : List ℕ) (n : ℕ) → Parted l n → length (sideList l n) ≤ n
 side-short l n p = go (namedRows l n)
@@ -49,12 +57,19 @@ side-short l n p = go (namedRows l n)
     go true = p .listed .short
     go false = omega (arith, others-length n l (p .listed))
 
-pub accepted-is : (n : ℕ) (list : List ℕ) (values : List Float) (sweeps : ℕ) (quiet : Bool) (cut : Sides) (part : List ℕ) (t : Totals) → cut ≡ sidesOf list n → part ≡ sideList list n → t ≡ totalsOf values
-    → listing n (length list) (cut .rows) (cut .columns) part values (t .low) (t .high) (t .whole) sweeps quiet ≡ acceptedText n list values sweeps quiet
-unfolding acceptedText
-accepted-is n list values sweeps quiet cut part t e f g =
-    ap₂ (λ (c : Sides) (p : List ℕ). listing n (length list) (c .rows) (c .columns) p values (t .low) (t .high) (t .whole) sweeps quiet) e f
-    ∙ ap (λ (s : Totals). listing n (length list) (2 ^ side list n) (2 ^ (n - side list n)) (sideList list n) values (s .low) (s .high) (s .whole) sweeps quiet) g
+pub sided-is : (n : ℕ) (list : List ℕ) (values : List Float) (sweeps : ℕ) (quiet : Bool) (part : List ℕ) → Parted list n → part ≡ sideList list n
+    → sidedText n (length list) part values sweeps quiet ≡ acceptedText n list values sweeps quiet
+unfolding sidedText acceptedText
+sided-is n list values sweeps quiet part p e =
+    ap (λ (y : List ℕ). listing n (length list) (2 ^ length y) (2 ^ (n - length y)) y values (totalsOf values .low) (totalsOf values .high) (totalsOf values .whole) sweeps quiet) e
+    ∙ ap (λ (m : ℕ). listing n (length list) (2 ^ m) (2 ^ (n - m)) (sideList list n) values (totalsOf values .low) (totalsOf values .high) (totalsOf values .whole) sweeps quiet) (side-length list n p)
+
+-- what `put_listing` puts, of the numbers at hand
+pub listing-is : (n k rows columns : ℕ) (part : List ℕ) (values : List Float) (sweeps : ℕ) (quiet : Bool) (t : Totals)
+    → rows ≡ 2 ^ length part → columns ≡ 2 ^ (n - length part) → t ≡ totalsOf values
+    → listing n k rows columns part values (t .low) (t .high) (t .whole) sweeps quiet ≡ sidedText n k part values sweeps quiet
+unfolding sidedText
+listing-is n k rows columns part values sweeps quiet t e f g = rw (e, f, g)
 
 pub accepted-short : (n : ℕ) (list : List ℕ) (values : List Float) (sweeps : ℕ) (quiet : Bool) → Printable list n values
     → length (acceptedText n list values sweeps quiet) ≤ 2048

@@ -15,6 +15,11 @@ unfoldable pub acceptedText : ℕ → List ℕ → List Float → ℕ → Bool �
 acceptedText n list values sweeps quiet =
     listing n (length list) (2 ^ side list n) (2 ^ (n - side list n)) (sideList list n) values (totalsOf values .low) (totalsOf values .high) (totalsOf values .whole) sweeps quiet
 
+-- the same of a part that is the smaller side's list
+unfoldable pub sidedText : ℕ → ℕ → List ℕ → List Float → ℕ → Bool → List ℕ
+sidedText n k part values sweeps quiet =
+    listing n k (2 ^ length part) (2 ^ (n - length part)) part values (totalsOf values .low) (totalsOf values .high) (totalsOf values .whole) sweeps quiet
+
 -- what these lines ask: a cut that is not refused by 1 to 5, and the values that a cut of 9 qubits can have
 pub record Printable (list : List ℕ) (n : ℕ) (values : List Float) : Type 0 where
   pub small : n ≤ 9

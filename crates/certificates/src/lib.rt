@@ -6,10 +6,44 @@ ghost use lib.ListN.{length};
 ghost use Rattle.answers.specs.Paper.{paper};
 ghost use Rattle.io.specs.Counts.{Counts};
 ghost use Rattle.cutfile_result.specs.Result.{fileReply};
-ghost use Rattle.certificates.specs.Accepted.{Printable, acceptedText, Printed};
+ghost use Rattle.texts.specs.Text.{Puts};
+ghost use Rattle.certificates.specs.Accepted.{Printable, sidedText, acceptedText, Printed};
 ghost use Rattle.certificates.specs.Certificate.{certificateOf};
 
-// Inner: puts the lines of a cut that the library accepts.
+// The lines, with the smaller side's list at hand: rows and columns are its size and that of the others.
+fn put_sided(
+    side: &[usize],
+    n: usize,
+    k: usize,
+    values: &[f64],
+    sweeps: usize,
+    quiet: bool,
+    out: &mut [u8],
+) -> usize
+    requires { ⌜ (length (now side) ≤ n) × (n ≤ 9) × (length (now values) ≤ 16) × (2048 ≤ length (now out)) ⌝ }
+    ensures { λ r. ⌜ Puts 0 (sidedText n k (now (side .entry)) (now (values .entry)) sweeps quiet) (now (out .entry)) r (now (out .exit)) ⌝ }
+{
+    let m = side.len();
+    let rows = submasks::bit(m);
+    let columns = submasks::bit(n - m);
+    let sums = entropy_totals::totals_of(values);
+    lines::put_listing(
+        out,
+        n,
+        k,
+        rows,
+        columns,
+        side,
+        values,
+        sums.low as usize,
+        sums.high as usize,
+        sums.whole as usize,
+        sweeps,
+        quiet,
+    )
+}
+
+// Inner: puts the lines of a cut that the library accepts. Its refusals and masks are not worked out again: the values were.
 pub fn put_accepted(
     list: &[usize],
     n: usize,
@@ -21,25 +55,14 @@ pub fn put_accepted(
     requires { ⌜ Printable (now list) n (now values) × (2048 ≤ length (now out)) ⌝ }
     ensures { λ r. ⌜ Printed (acceptedText n (now (list .entry)) (now (values .entry)) sweeps quiet) (now (out .entry)) r (now (out .exit)) ⌝ }
 {
+    let k = list.len();
+    let rest = n - k;
+    if k <= rest {
+        return put_sided(list, n, k, values, sweeps, quiet, out);
+    }
     let mut others = [0usize; 9];
-    cut_sides::smaller_side(list, n, 10, &mut others);
-    let cut = cut_sides::sides_of(list, n);
-    let side = cut_sides::side_part(list, n, 10, &others);
-    let sums = entropy_totals::totals_of(values);
-    lines::put_listing(
-        out,
-        n,
-        list.len(),
-        cut.rows,
-        cut.columns,
-        side,
-        values,
-        sums.low as usize,
-        sums.high as usize,
-        sums.whole as usize,
-        sweeps,
-        quiet,
-    )
+    cut_sides::write_others(list, n, &mut others);
+    put_sided(&others[..rest], n, k, values, sweeps, quiet, out)
 }
 
 // Inner. The file's answer, and how long its text is.

@@ -103,7 +103,7 @@ two-sides l n p =
 
 -- ---- the loop that writes the others: those below q stand at the front of what was o
 
-fronted-more : (v o : List ℕ) (x : ℕ) → length v < length o → set (fronted v o) (length v) x ≡ fronted (v ++ x ∷ []) o
+pub fronted-more : (v o : List ℕ) (x : ℕ) → length v < length o → set (fronted v o) (length v) x ≡ fronted (v ++ x ∷ []) o
 fronted-more v o x h =
     let e : length (v ++ x ∷ []) ≡ suc (length v) = length-append v (x ∷ []) ∙ add-one (length v) in
     rw (drop-cons o (length v) 0 h, set-at v _ (drop (suc (length v)) o) x (length v) refl, e) (sym (append-snoc v x (drop (suc (length v)) o)))

@@ -55,6 +55,12 @@ sidesOf l n = record {
   named = namedRows l n;
 }
 
+-- sides that some accepted list has: what an inner function over sides asks of them
+pub record Sided (n : ℕ) (z : Sides) : Type 0 where
+  pub list : List ℕ
+  pub parted : Parted list n
+  pub are : z ≡ sidesOf list n
+
 -- ---- the smaller side's list
 
 abbrev pub sideList : List ℕ → ℕ → List ℕ

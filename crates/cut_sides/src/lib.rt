@@ -94,8 +94,8 @@ fn side_refusal(list: &[usize], n: usize, cap: usize, room: usize) -> Answer
     Answer::Done
 }
 
-// The qubits that the list does not name, rising, at the front of out.
-fn write_others(list: &[usize], n: usize, out: &mut [usize])
+// Inner: the qubits that the list does not name, rising, at the front of out.
+pub fn write_others(list: &[usize], n: usize, out: &mut [usize])
     requires { ⌜ (n ≤ 12) × (length (otherQubits n (now list)) ≤ length (now out)) ⌝ }
     ensures { λ _. ⌜ now (out .exit) ≡ fronted (otherQubits n (now (list .entry))) (now (out .entry)) ⌝ }
 {

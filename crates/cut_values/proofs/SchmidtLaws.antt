@@ -15,12 +15,12 @@ use lib.Seq.{take-at}
 use lib.Pow.{pow-mono}
 use Rattle.answers.specs.declared.Answer.{Answer}
 use Rattle.answers.specs.declared.Answer.the-variants.{NotFinite}
-use Rattle.answers.specs.Paper.{Reply, paper, done, refuse, after, andThen, ifDone}
+use Rattle.answers.specs.Paper.{Reply, paper, done, refuse, after, andThen, ifDone, ifWorked, atEnd}
 use Rattle.answers.proofs.PaperLaws.{refuse-done, andThen-done, stays, refuse-small, after-small, done-old, Ended, nine-ended, worked-new, worked-old, end-old, end-worked}
 use Rattle.qubits.specs.Lists.{stands, placesFrom, places, qubitSet, subsystem}
 use Rattle.complex.specs.Cells.{cellsOf, components}
 use Rattle.complex.proofs.CellLaws.{components-small}
-use Rattle.complex.specs.Zeros.{zeros, zeroed}
+use Rattle.complex.specs.Zeros.{zeroed}
 use Rattle.cut_sides.specs.declared.Sides.{Sides}
 use Rattle.cut_sides.specs.Sides.{cutSizes, cutRefusal, Parted, side, sidesOf}
 use Rattle.cuts.specs.Cut.{cutCell, CutReady}
@@ -46,7 +46,7 @@ use Rattle.svd_thin.specs.Thin.{swept, orderOf, valuesOf}
 use Rattle.svd.specs.Svd.{sideOf, workOf, sOf, svdSweeps}
 use Rattle.svd.specs.Svd as svd
 use Rattle.svd.proofs.SvdLaws.{side-wide, side-tall, svd-ceiling}
-use Rattle.cut_values.specs.Schmidt.{cutRows, cutColumns, singularValues, cutSweeps, columnsExact, cutExact, columnsExactOf, cutValuesScratch, cutValuesLengths, cutValuesRest, cutValuesTests, valuesReply, cutValuesAnswer, Schmidt, CutValuesSized, sidesMatrix, normsAfter, singularOf, sweepsOf, CutValuesFinished, CutValuesMade, CutValuesWorked}
+use Rattle.cut_values.specs.Schmidt.{cutRows, cutColumns, singularValues, cutSweeps, columnsExact, cutExact, columnsExactOf, cutValuesScratch, cutValuesLengths, cutValuesRest, cutValuesTests, valuesReply, cutValuesAnswer, Schmidt, CutValuesSized, sidesMatrix, normsAfter, singularOf, sweepsOf, CutValuesFinished, CutValuesMade, CutValuesWorked, overAnswer, SchmidtOver}
 use Rattle.sweeps.proofs.Ceiling.{Ceiling}
 
 -- ---- the lengths
@@ -321,14 +321,43 @@ schmidt-refused s n l cap out scratch r q i e h =
       exact-is = i .3 ∙ rw (i .0) (done-old (paper r .0) _ false h);
     }
 
--- 1 to 5 do not refuse: 6 and 7 decide, and past them the work on the needed part of scratch
-module _ (s : List Float) (n : ℕ) (l : List ℕ) (cap : ℕ) (out scratch : List Float) (z : Sides) (e : z ≡ sidesOf l n) (c : cutRefusal l n cap .0 ≡ 0) where
-  pub tests-rest : cutValuesRest s n (z .rows) (length out) (length scratch) ≡ cutValuesTests s n l cap (length out) (length scratch)
-  unfolding cutValuesTests
-  tests-rest =
-      let b = cutValuesRest s n (cutRows n l) (length out) (length scratch) in
-      ap (λ (y : Sides). cutValuesRest s n (y .rows) (length out) (length scratch)) e ∙ sym (ap (λ (k : ℕ). after k (cutRefusal l n cap) b) c)
+-- over the sides of an accepted cut: 6 and 7 decide, and past them the work on the needed part of scratch
+module _ (s : List Float) (n : ℕ) (z : Sides) (out scratch : List Float) where
+  pub over-refused : (r : Answer) (q : CutCounted) → (q .answer ≡ r) × (q .count ≡ 0) × (q .sweeps ≡ noSweeps) × (q .exact ≡ false)
+      → paper r ≡ cutValuesRest s n (z .rows) (length out) (length scratch) → (paper r .0 ≡ 0 → ⊥) → SchmidtOver s n z out scratch q out scratch
+  unfolding overAnswer
+  over-refused r q i e h =
+      let b : paper r .0 < 8 = rw e (rest-small s n (z .rows) (length out) (length scratch)) in
+      record {
+        answer = rw (i .0) (stays (paper r) (valuesReply (singularOf s n z)) h ∙ ap (λ (x : Reply). andThen x (valuesReply (singularOf s n z))) e);
+        count = i .1 ∙ rw (i .0) (done-old (paper r .0) _ 0 h);
+        out-is = rw (i .0) (end-old (paper r .0) _ _ out h b);
+        scratch-is = rw (i .0) (worked-old (paper r .0) _ scratch h b);
+        sweeps-are = rw (i .0) (kept-none r (sweepsOf s n z) h (i .2));
+        exact-is = i .3 ∙ rw (i .0) (done-old (paper r .0) _ false h);
+      }
 
+  pub over-worked : (r : CutCounted) {out' scratch' : List Float} (k : ℕ) → k ≡ cutValuesScratch n (z .rows)
+      → cutValuesRest s n (z .rows) (length out) (length scratch) .0 ≡ 0
+      → CutValuesWorked s n z out r out' scratch' → SchmidtOver s n z out scratch r out' (scratch' ++ drop k scratch)
+  unfolding overAnswer zeroed
+  over-worked r k ek d w =
+      let v = valuesReply (singularOf s n z) in
+      let y = cutValuesRest s n (z .rows) (length out) (length scratch) in
+      let q : andThen y v ≡ v = ap (λ (i : ℕ). after i y v) d in
+      let x = paper (r .answer) .0 in
+      let p : Ended x = rw (w .answer) (values-number (singularOf s n z)) in
+      record {
+        answer = w .answer ∙ sym q;
+        count = w .count;
+        out-is = w .out-is ∙ end-worked x _ _ out p;
+        scratch-is = ap₂ (λ (y : List Float) (v : ℕ). y ++ drop v scratch) (w .scratch-is) ek ∙ worked-new x _ scratch p;
+        sweeps-are = w .sweeps-are;
+        exact-is = w .exact-is;
+      }
+
+-- THE CALL IS ITS WORK over the list's sides, where 1 to 5 do not refuse
+module _ (s : List Float) (n : ℕ) (l : List ℕ) (cap : ℕ) (out scratch : List Float) (z : Sides) (e : z ≡ sidesOf l n) (c : cutRefusal l n cap .0 ≡ 0) where
   singular-sides : singularOf s n z ≡ singularValues s n l
   unfolding singularOf singularValues
   singular-sides = rw e
@@ -341,29 +370,23 @@ module _ (s : List Float) (n : ℕ) (l : List ℕ) (cap : ℕ) (out scratch : Li
   unfolding columnsExactOf cutExact
   exact-sides = ap₂ _&&_ (ap (λ (y : Sides). columnsExact (sidesMatrix s n y) (y .rows) (y .columns)) e) (ap (λ (v : List Float). finishExact v) singular-sides)
 
-  pub schmidt-worked : (r : CutCounted) {out' scratch' : List Float} (k : ℕ) → k ≡ cutValuesScratch n (z .rows)
-      → cutValuesRest s n (z .rows) (length out) (length scratch) .0 ≡ 0
-      → CutValuesWorked s n z out r out' scratch' → Schmidt s n l cap out scratch r out' (scratch' ++ drop k scratch)
-  unfolding cutValuesAnswer zeroed
-  schmidt-worked r k ek d w =
-      let v = valuesReply (singularValues s n l) in
-      let y = cutValuesTests s n l cap (length out) (length scratch) in
-      let q : andThen y v ≡ v = ap (λ (i : ℕ). after i y v) (ap (λ (i : Reply). i .0) (sym tests-rest) ∙ d) in
-      let a : paper (r .answer) ≡ valuesReply (singularValues s n l) = w .answer ∙ ap valuesReply singular-sides in
-      let p : Ended (paper (r .answer) .0) = rw a (values-number (singularValues s n l)) in
+  answer-sides : overAnswer s n z (length out) (length scratch) ≡ cutValuesAnswer s n l cap (length out) (length scratch)
+  unfolding overAnswer cutValuesAnswer cutValuesTests
+  answer-sides =
+      let b = cutValuesRest s n (cutRows n l) (length out) (length scratch) in
+      let t : b ≡ andThen (cutRefusal l n cap) b = sym (ap (λ (k : ℕ). after k (cutRefusal l n cap) b) c) in
+      ap₂ (λ (y : Sides) (v : List Float). andThen (cutValuesRest s n (y .rows) (length out) (length scratch)) (valuesReply v)) e singular-sides
+      ∙ ap (λ (x : Reply). andThen x (valuesReply (singularValues s n l))) t
+
+  pub schmidt-is-over : (r : CutCounted) {out' scratch' : List Float} → SchmidtOver s n z out scratch r out' scratch' → Schmidt s n l cap out scratch r out' scratch'
+  schmidt-is-over r w =
       let m : z .rows ≡ cutRows n l = rw e in
       let x = paper (r .answer) .0 in
       record {
-        answer = a ∙ sym q;
+        answer = w .answer ∙ answer-sides;
         count = w .count ∙ ap (λ (y : List Float). ifDone x (length (finishOf y)) 0) singular-sides;
-        out-is =
-            w .out-is
-            ∙ ap₂ (λ (y : ℕ) (v : List Float). ifDone x (padded y (finishOf v) out) (zeroed y out)) m singular-sides
-            ∙ end-worked x _ _ out p;
-        scratch-is =
-            ap₂ (λ (y : List Float) (v : ℕ). y ++ drop v scratch) (w .scratch-is) ek
-            ∙ ap (λ (y : ℕ). zeros (cutValuesScratch n y) ++ drop (cutValuesScratch n y) scratch) m
-            ∙ worked-new x _ scratch p;
+        out-is = w .out-is ∙ ap₂ (λ (y : ℕ) (v : List Float). atEnd x (padded y (finishOf v) out) (zeroed y out) out) m singular-sides;
+        scratch-is = w .scratch-is ∙ ap (λ (y : ℕ). ifWorked x (zeroed (cutValuesScratch n y) scratch) scratch) m;
         sweeps-are = w .sweeps-are ∙ ap (keptSweeps (r .answer)) sweeps-sides;
         exact-is = w .exact-is ∙ ap (λ (y : Bool). ifDone x y false) exact-sides;
       }

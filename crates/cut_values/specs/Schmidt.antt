@@ -131,3 +131,17 @@ pub record CutValuesWorked (s : List Float) (n : ℕ) (z : Sides) (old : List Fl
   pub scratch-is : scratch ≡ zeros (cutValuesScratch n (z .rows))
   pub sweeps-are : r .sweeps ≡ keptSweeps (r .answer) (sweepsOf s n z)
   pub exact-is : r .exact ≡ ifDone (paper (r .answer) .0) (columnsExactOf s n z && finishExact (singularOf s n z)) false
+
+-- ---- the call over the sides of an accepted cut, which 1 to 5 do not refuse
+
+-- 6 to 9
+unfoldable pub overAnswer : List Float → ℕ → Sides → ℕ → ℕ → Reply
+overAnswer s n z out scratch = andThen (cutValuesRest s n (z .rows) out scratch) (valuesReply (singularOf s n z))
+
+pub record SchmidtOver (s : List Float) (n : ℕ) (z : Sides) (out scratch : List Float) (r : CutCounted) (out' scratch' : List Float) : Type 0 where
+  pub answer : paper (r .answer) ≡ overAnswer s n z (length out) (length scratch)
+  pub count : r .count ≡ ifDone (paper (r .answer) .0) (length (finishOf (singularOf s n z))) 0
+  pub out-is : out' ≡ atEnd (paper (r .answer) .0) (padded (z .rows) (finishOf (singularOf s n z)) out) (zeroed (z .rows) out) out
+  pub scratch-is : scratch' ≡ ifWorked (paper (r .answer) .0) (zeroed (cutValuesScratch n (z .rows)) scratch) scratch
+  pub sweeps-are : r .sweeps ≡ keptSweeps (r .answer) (sweepsOf s n z)
+  pub exact-is : r .exact ≡ ifDone (paper (r .answer) .0) (columnsExactOf s n z && finishExact (singularOf s n z)) false

@@ -9,7 +9,8 @@ ghost use Prim.Native.Nat.{_+_, _*_, _^_, _≤_};
 ghost use lib.ListN.{length};
 ghost use Rattle.answers.specs.Paper.{paper};
 ghost use Rattle.sweeps.specs.Sweeping.{noSweeps};
-ghost use Rattle.cut_values.specs.Schmidt.{cutValuesLengths, cutValuesRest, normsAfter, singularOf, sweepsOf, columnsExactOf, CutValuesSized, CutValuesFinished, CutValuesMade, CutValuesWorked, Schmidt};
+ghost use Rattle.cut_sides.specs.Sides.{Sided};
+ghost use Rattle.cut_values.specs.Schmidt.{cutValuesLengths, cutValuesRest, normsAfter, singularOf, sweepsOf, columnsExactOf, CutValuesSized, CutValuesFinished, CutValuesMade, CutValuesWorked, Schmidt, SchmidtOver};
 
 // The answer, how many values were kept, the sweeps, and whether every root of a column's norm and the root of the final scale
 // came out even.
@@ -142,8 +143,8 @@ fn work(state: &[f64], n: usize, cut: Sides, out: &mut [f64], scratch: &mut [f64
     made
 }
 
-// A refusal before the work: no value, no sweep, and the mark is no.
-fn refused(answer: Answer) -> CutCounted
+// Inner: a refusal before the work: no value, no sweep, and the mark is no.
+pub fn refused(answer: Answer) -> CutCounted
     ensures { λ r. ⌜ (r .answer ≡ answer) × (r .count ≡ 0) × (r .sweeps ≡ noSweeps) × (r .exact ≡ false) ⌝ }
 {
     let none = sweeps::none();
@@ -153,6 +154,26 @@ fn refused(answer: Answer) -> CutCounted
         sweeps: none,
         exact: false,
     }
+}
+
+// Inner: the values over the sides of an accepted cut, from a list or kept in a plan: 6 and 7, then 0, 8 or 9 by the work on the needed
+// part of scratch.
+pub fn values_over(
+    state: &[f64],
+    n: usize,
+    cut: Sides,
+    out: &mut [f64],
+    scratch: &mut [f64],
+) -> CutCounted
+    requires { ⌜ Sided n cut ⌝ }
+    ensures { λ r. ⌜ SchmidtOver (now (state .entry)) n cut (now (out .entry)) (now (scratch .entry)) r (now (out .exit)) (now (scratch .exit)) ⌝ }
+{
+    let first = check(state, n, cut.rows, out.len(), scratch.len());
+    let Answer::Done = first else {
+        return refused(first);
+    };
+    let need = 8 * submasks::bit(n) + 2 * cut.rows;
+    work(state, n, cut, out, &mut scratch[..need])
 }
 
 // The Schmidt values of the cut at the front of out, how many they are, how the sweeps went, and the mark of the roots.
@@ -172,10 +193,5 @@ pub fn dense_schmidt_values(
         return refused(first);
     };
     let cut = cut_sides::sides_of(list, n);
-    let second = check(state, n, cut.rows, out.len(), scratch.len());
-    let Answer::Done = second else {
-        return refused(second);
-    };
-    let need = 8 * submasks::bit(n) + 2 * cut.rows;
-    work(state, n, cut, out, &mut scratch[..need])
+    values_over(state, n, cut, out, scratch)
 }

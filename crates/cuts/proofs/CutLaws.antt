@@ -15,7 +15,7 @@ use lib.Ieee.{Float}
 use lib.ListN.{length, length-set}
 use lib.Pow.{pow-pos}
 use Rattle.answers.specs.declared.Answer.{Answer}
-use Rattle.answers.specs.Paper.{Reply, paper, done, refuse}
+use Rattle.answers.specs.Paper.{Reply, paper, done, refuse, after, ifDone}
 use Rattle.answers.proofs.PaperLaws.{refuse-done, done-new, done-old}
 use Rattle.submasks.specs.Submasks.{submaskAt, nextSubmask}
 use Rattle.submasks.proofs.SubmaskLaws.{next-submaskAt, submaskAt-first, submaskAt-lt}
@@ -24,9 +24,9 @@ use Rattle.complex.specs.declared.Complex.{Complex}
 use Rattle.complex.specs.Cells.{cellAt, setCell, written}
 use Rattle.complex.proofs.CellLaws.{written-none, written-more}
 use Rattle.cut_sides.specs.declared.Sides.{Sides}
-use Rattle.cut_sides.specs.Sides.{Parted, side, rowMask, columnMask, sidesOf}
+use Rattle.cut_sides.specs.Sides.{cutRefusal, Parted, side, rowMask, columnMask, sidesOf, Sided}
 use Rattle.cut_sides.proofs.SideLaws.{two-sides}
-use Rattle.cuts.specs.Cut.{cellOf, cutCell, cutLengths, cutAnswer, setCells, CutMatrix, CutReady, ColumnReady}
+use Rattle.cuts.specs.Cut.{cellOf, cutLengths, cutRest, cutAnswer, setCells, CutMatrix, CutOver, CutReady, ColumnReady}
 
 -- ---- one column
 
@@ -172,17 +172,12 @@ ready s n l o p e h =
       room = h;
     }
 
--- the same of the record that `sides_of` hands back, and what the gather over it leaves
-module _ (s : List Float) (n : ℕ) (l : List ℕ) (o : List Float) (z : Sides) where
-  pub ready-sides : Parted l n → length s ≡ 2 * 2 ^ n → 2 * 2 ^ n ≤ length o → z ≡ sidesOf l n
-      → CutReady n (z .row) (z .column) (z .rows) (z .columns) s o
-  ready-sides p e h q = rw q (ready s n l o p e h)
+-- the same of sides as an inner function has them
+pub ready-sides : (s : List Float) (n : ℕ) (z : Sides) (o : List Float) → Sided n z → length s ≡ 2 * 2 ^ n → 2 * 2 ^ n ≤ length o
+    → CutReady n (z .row) (z .column) (z .rows) (z .columns) s o
+ready-sides s n z o q e h = rw (q .are) (ready s n (q .list) o (q .parted) e h)
 
-  pub gathered : (end : List Float) → z ≡ sidesOf l n → end ≡ written (2 ^ n) (cellOf n (z .row) (z .column) (z .rows) s) o
-      → end ≡ written (2 ^ n) (cutCell s n l) o
-  gathered end q e = e ∙ ap (λ (y : Sides). written (2 ^ n) (cellOf n (y .row) (y .column) (y .rows) s) o) q
-
--- ---- the call
+-- ---- the call over sides
 
 -- lengths that 6 does not refuse
 pub lengths-done : (n s o : ℕ) → cutLengths n s o .0 ≡ 0 → (s ≡ 2 * 2 ^ n) × (2 * 2 ^ n ≤ o)
@@ -192,9 +187,25 @@ lengths-done n s o e =
       ltb-false o (2 * 2 ^ n) (refuse-done (ltb o (2 * 2 ^ n)) 5 2 done (a .1) .0),
     )
 
-module _ (s : List Float) (n : ℕ) (l : List ℕ) (cap : ℕ) (o : List Float) (r : Answer) (e : paper r ≡ cutAnswer s n l cap (length o)) where
-  pub cut-refused : (paper r .0 ≡ 0 → ⊥) → CutMatrix s n l cap o r o
-  cut-refused h = record { answer = e; cells = done-old _ _ o (λ z. h (ap (λ (x : Reply). x .0) e ∙ z)) }
+module _ (s : List Float) (n : ℕ) (z : Sides) (o : List Float) (r : Answer) (e : paper r ≡ cutRest s n (length o)) where
+  pub over-refused : (paper r .0 ≡ 0 → ⊥) → CutOver s n z o r o
+  over-refused h = record { answer = e; cells = done-old _ _ o (λ y. h (ap (λ (x : Reply). x .0) e ∙ y)) }
 
-  pub cut-done : (end : List Float) → paper r .0 ≡ 0 → end ≡ written (2 ^ n) (cutCell s n l) o → CutMatrix s n l cap o r end
-  cut-done end h c = record { answer = e; cells = c ∙ done-new _ _ o (sym (ap (λ (x : Reply). x .0) e) ∙ h) }
+  pub over-done : (end : List Float) → paper r .0 ≡ 0 → end ≡ written (2 ^ n) (cellOf n (z .row) (z .column) (z .rows) s) o → CutOver s n z o r end
+  over-done end h c = record { answer = e; cells = c ∙ done-new _ _ o (sym (ap (λ (x : Reply). x .0) e) ∙ h) }
+
+-- ---- the call
+
+module _ (s : List Float) (n : ℕ) (l : List ℕ) (cap : ℕ) (o : List Float) (r : Answer) where
+  pub cut-refused : paper r ≡ cutAnswer s n l cap (length o) → (paper r .0 ≡ 0 → ⊥) → CutMatrix s n l cap o r o
+  cut-refused e h = record { answer = e; cells = done-old _ _ o (λ z. h (ap (λ (x : Reply). x .0) e ∙ z)) }
+
+  -- THE CALL IS ITS WORK over the list's sides, where 1 to 5 do not refuse
+  pub cut-is-over : (z : Sides) (end : List Float) → cutRefusal l n cap .0 ≡ 0 → z ≡ sidesOf l n → CutOver s n z o r end → CutMatrix s n l cap o r end
+  cut-is-over z end h q c =
+      let e : cutAnswer s n l cap (length o) ≡ cutRest s n (length o) = ap (λ (k : ℕ). after k (cutRefusal l n cap) (cutRest s n (length o))) h in
+      let w = ap (λ (y : Sides). written (2 ^ n) (cellOf n (y .row) (y .column) (y .rows) s) o) q in
+      record {
+        answer = c .answer ∙ sym e;
+        cells = c .cells ∙ ap₂ (λ (x : Reply) (v : List Float). ifDone (x .0) v o) (sym e) w;
+      }

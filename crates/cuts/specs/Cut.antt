@@ -12,6 +12,7 @@ use Rattle.answers.specs.Paper.{Reply, paper, done, refuse, andThen, ifDone}
 use Rattle.submasks.specs.Submasks.{submaskAt}
 use Rattle.complex.specs.declared.Complex.{Complex}
 use Rattle.complex.specs.Cells.{cellAt, setCell, written, components}
+use Rattle.cut_sides.specs.declared.Sides.{Sides}
 use Rattle.cut_sides.specs.Sides.{cutRefusal, side, rowMask, columnMask}
 
 -- ---- the matrix, column after column
@@ -37,16 +38,25 @@ sourceOf n l k = bitOr (submaskAt n (rowMask l n) (k % 2 ^ side l n)) (submaskAt
 abbrev pub cutLengths : ℕ → ℕ → ℕ → Reply
 cutLengths n state out = refuse (not (eqb state (2 * 2 ^ n))) (6, 0) (refuse (ltb out (2 * 2 ^ n)) (6, 2) done)
 
+-- 6 and 7
+abbrev pub cutRest : List Float → ℕ → ℕ → Reply
+cutRest s n out = andThen (cutLengths n (length s) out) (components 0 s)
+
 -- 1 to 7
 abbrev pub cutAnswer : List Float → ℕ → List ℕ → ℕ → ℕ → Reply
-cutAnswer s n l cap out = andThen (cutRefusal l n cap) (andThen (cutLengths n (length s) out) (components 0 s))
+cutAnswer s n l cap out = andThen (cutRefusal l n cap) (cutRest s n out)
 
 -- a call of `cut_matrix`: the answer r, and what out holds at the end
 pub record CutMatrix (s : List Float) (n : ℕ) (l : List ℕ) (cap : ℕ) (o : List Float) (r : Answer) (end : List Float) : Type 0 where
   pub answer : paper r ≡ cutAnswer s n l cap (length o)
   pub cells : end ≡ ifDone (cutAnswer s n l cap (length o) .0) (written (2 ^ n) (cutCell s n l) o) o
 
--- ---- what the inner functions ask
+-- ---- what the inner functions ask and leave
+
+-- the matrix over the sides of an accepted cut, which only 6 and 7 refuse
+pub record CutOver (s : List Float) (n : ℕ) (z : Sides) (o : List Float) (r : Answer) (end : List Float) : Type 0 where
+  pub answer : paper r ≡ cutRest s n (length o)
+  pub cells : end ≡ ifDone (cutRest s n (length o) .0) (written (2 ^ n) (cellOf n (z .row) (z .column) (z .rows) s) o) o
 
 -- the cells from `at` on set to f's, m of them
 unfoldable pub setCells : ℕ → (ℕ → Complex) → ℕ → List Float → List Float

@@ -1,14 +1,14 @@
 // The cut matrix of a state.
 use answers::Answer;
+use cut_sides::Sides;
 ghost use mathlib.Core.Path.{_≡_};
 ghost use Prim.Native.Nat.{ℕ, _*_, _^_, _≤_};
 ghost use lib.Bits.{bitOr};
-ghost use lib.ListN.{length};
 ghost use Rattle.answers.specs.Paper.{paper};
 ghost use Rattle.submasks.specs.Submasks.{submaskAt};
 ghost use Rattle.complex.specs.Cells.{cellAt, written};
-ghost use Rattle.cut_sides.specs.Sides.{Parted};
-ghost use Rattle.cuts.specs.Cut.{cellOf, cutCell, cutLengths, setCells, CutMatrix, CutReady, ColumnReady};
+ghost use Rattle.cut_sides.specs.Sides.{Sided};
+ghost use Rattle.cuts.specs.Cut.{cellOf, cutLengths, setCells, CutMatrix, CutOver, CutReady, ColumnReady};
 
 // Answer 6 of a cut: the numbers of the state and of the matrix.
 fn cut_lengths(n: usize, state: usize, out: usize) -> Answer
@@ -72,14 +72,21 @@ fn fill_cut(
     }
 }
 
-// Inner: the matrix of an accepted cut, over the sides that `sides_of` works out.
-pub fn gather(state: &[f64], n: usize, list: &[usize], out: &mut [f64])
-    requires { ⌜ Parted (now list) n ⌝ }
-    requires { ⌜ (length (now state) ≡ 2 * 2 ^ n) × (2 * 2 ^ n ≤ length (now out)) ⌝ }
-    ensures { λ _. ⌜ now (out .exit) ≡ written (2 ^ n) (cutCell (now (state .entry)) n (now (list .entry))) (now (out .entry)) ⌝ }
+// Inner: the matrix over the sides of an accepted cut, from a list or kept in a plan: refused by 6 and 7.
+pub fn cut_over(state: &[f64], n: usize, cut: Sides, out: &mut [f64]) -> Answer
+    requires { ⌜ Sided n cut ⌝ }
+    ensures { λ r. ⌜ CutOver (now (state .entry)) n cut (now (out .entry)) r (now (out .exit)) ⌝ }
 {
-    let s = cut_sides::sides_of(list, n);
-    fill_cut(state, n, s.row, s.column, s.rows, s.columns, out);
+    let first = cut_lengths(n, state.len(), out.len());
+    let Answer::Done = first else {
+        return first;
+    };
+    let second = components::check_components(state);
+    let Answer::Done = second else {
+        return second;
+    };
+    fill_cut(state, n, cut.row, cut.column, cut.rows, cut.columns, out);
+    Answer::Done
 }
 
 // The cut matrix of a state: refused by 1 to 7, else it stands at the front of out.
@@ -90,14 +97,6 @@ pub fn cut_matrix(state: &[f64], n: usize, list: &[usize], cap: usize, out: &mut
     let Answer::Done = first else {
         return first;
     };
-    let second = cut_lengths(n, state.len(), out.len());
-    let Answer::Done = second else {
-        return second;
-    };
-    let third = components::check_components(state);
-    let Answer::Done = third else {
-        return third;
-    };
-    gather(state, n, list, out);
-    Answer::Done
+    let cut = cut_sides::sides_of(list, n);
+    cut_over(state, n, cut, out)
 }

@@ -11,11 +11,12 @@ use lib.ListN.{length}
 use lib.Pow.{pow-mono}
 use native.Mathlib.Nat.{pow-suc}
 use Rattle.answers.specs.declared.Answer.{Answer}
-use Rattle.answers.specs.Paper.{Reply, paper, done, refuse, andThen}
+use Rattle.answers.specs.Paper.{Reply, paper, done, refuse, after, ifDone}
 use Rattle.answers.proofs.PaperLaws.{refuse-done, andThen-done, done-new, done-old}
 use Rattle.complex.specs.Cells.{components, written}
 use Rattle.complex.specs.Zeros.{zeroed}
 use Rattle.components.proofs.EveryLaws.{every-from-done}
+use Rattle.submasks.specs.Submasks.{others}
 use Rattle.submasks.proofs.SubmaskLaws.{others-lt}
 use Rattle.qubits.specs.Lists.{densitySizes, qubitSet}
 use Rattle.qubits.proofs.NamedLaws.{not-empty, pow-small, sizes-product}
@@ -28,7 +29,7 @@ use Rattle.density_entries.specs.Entries.{lowerEntry, densityCell}
 use Rattle.density_entries.specs.Filled.{EntriesReady, LowerTurns, tableEntry}
 use Rattle.density_entries.specs.OffsetLoop.{OffsetSteps}
 use Rattle.density_entries.proofs.EntryLaws.{table-entry, mirrored-density}
-use Rattle.densities.specs.Density.{densityLengths, densityAnswer, densityList, Density, DensityAccepted}
+use Rattle.densities.specs.Density.{densityLengths, densityRest, densityAnswer, densityList, Density, DensityListed, DensityOver, DensityAccepted}
 
 -- ---- the refusals that did not come
 
@@ -45,14 +46,25 @@ lengths-done size dim s o w e =
       ltb-false w (2 * dim) (refuse-done (ltb w (2 * dim)) 5 3 done (b .1) .0),
     )
 
+-- a list that 1 to 4 do not refuse
+pub density-named : (n : ℕ) (l : List ℕ) (cap rest : ℕ) → densityRefusal n cap l .0 ≡ 0 → rest ≡ others n (named l) → DensityListed n l rest
+density-named n l cap rest e m =
+    let q = density-listed n cap l e in
+    let z : length l ≡ 0 → ⊥ = not-empty n l (andThen-done (densitySizes n (length l) cap) (qubitSet n l) e .1) in
+    record { listed = q .0; some = positive (length l) z; few = q .1; mask = m }
+
+-- nor 6 and 7
+pub rest-accepted : (s : List Float) (n : ℕ) (l : List ℕ) (rest o w : ℕ) → DensityListed n l rest → densityRest s n (length l) o w .0 ≡ 0
+    → DensityAccepted s n l o × (2 * 2 ^ length l ≤ w)
+rest-accepted s n l rest o w p e =
+    let b = andThen-done (densityLengths (2 ^ n) (2 ^ length l) (length s) o w) (components 0 s) e in
+    let d = lengths-done (2 ^ n) (2 ^ length l) (length s) o w (b .0) in
+    (record { listed = p .listed; some = p .some; few = p .few; state = d .0; room = d .1; allowed = every-from-done s 0 (b .1) }, d .2)
+
 pub accepted : (s : List Float) (n : ℕ) (l : List ℕ) (cap o w : ℕ) → densityAnswer s n l cap o w .0 ≡ 0 → DensityAccepted s n l o × (2 * 2 ^ length l ≤ w)
 accepted s n l cap o w e =
-    let a = andThen-done (densityRefusal n cap l) (andThen (densityLengths (2 ^ n) (2 ^ length l) (length s) o w) (components 0 s)) e in
-    let b = andThen-done (densityLengths (2 ^ n) (2 ^ length l) (length s) o w) (components 0 s) (a .1) in
-    let d = lengths-done (2 ^ n) (2 ^ length l) (length s) o w (b .0) in
-    let q = density-listed n cap l (a .0) in
-    let z : length l ≡ 0 → ⊥ = not-empty n l (andThen-done (densitySizes n (length l) cap) (qubitSet n l) (a .0) .1) in
-    (record { listed = q .0; some = positive (length l) z; few = q .1; state = d .0; room = d .1; allowed = every-from-done s 0 (b .1) }, d .2)
+    let a = andThen-done (densityRefusal n cap l) (densityRest s n (length l) o w) e in
+    rest-accepted s n l (others n (named l)) o w (density-named n l cap (others n (named l)) (a .0) refl) (a .1)
 
 -- ---- the stages
 
@@ -71,37 +83,56 @@ module _ (s : List Float) (n : ℕ) (l : List ℕ) (o : List Float) (p : Density
   pub density-few : (dim groups : ℕ) → dim ≡ 2 ^ length l → groups ≡ 2 ^ (n - length l) → groups * dim ≤ 4096
   density-few dim groups e eg = rw (e, eg, sizes-product n (length l) (p .listed .short)) (pow-small n (p .listed .small))
 
-  pub density-ready : (dim full mask : ℕ) (old table : List ℕ) → dim ≡ 2 ^ length l → OffsetSteps l dim old table dim → dim ≤ length old
-      → full ≡ 2 ^ n → mask ≡ named l → EntriesReady n s (full - 1 - mask) table dim
-  density-ready dim full mask old table e t room ef em = record {
+  pub density-ready : (dim rest : ℕ) (old table : List ℕ) → dim ≡ 2 ^ length l → OffsetSteps l dim old table dim → dim ≤ length old
+      → rest ≡ others n (named l) → EntriesReady n s rest table dim
+  density-ready dim rest old table e t room em = record {
     small = p .listed .small;
     long = p .state;
-    mask-lt = rw (ef, em) (others-lt n (named l));
+    mask-lt = rw em (others-lt n (named l));
     even = rw e (even-power (length l) (p .some));
     table = omega (arith, t .long);
     below = λ k h. rw (t .are k h) (spread-lt n l k (p .listed .below));
   }
 
   -- the lower half filled and mirrored
-  pub density-end : (dim full mask groups : ℕ) (old table : List ℕ) (mid end : List Float) → dim ≡ 2 ^ length l → OffsetSteps l dim old table dim
-      → full ≡ 2 ^ n → mask ≡ named l → groups ≡ 2 ^ (n - length l)
-      → LowerTurns dim (tableEntry n s (full - 1 - mask) groups table) o mid (dim / 2) → end ≡ mirrored mid dim → end ≡ densityList n l s o
-  density-end dim full mask groups old table mid end e t ef em eg i ee =
+  pub density-end : (dim rest groups : ℕ) (old table : List ℕ) (mid end : List Float) → dim ≡ 2 ^ length l → OffsetSteps l dim old table dim
+      → rest ≡ others n (named l) → groups ≡ 2 ^ (n - length l)
+      → LowerTurns dim (tableEntry n s rest groups table) o mid (dim / 2) → end ≡ mirrored mid dim → end ≡ densityList n l s o
+  density-end dim rest groups old table mid end e t em eg i ee =
       let ev : dim % 2 ≡ 0 = rw e (even-power (length l) (p .some)) in
       let rows : (r c : ℕ) → r < dim → c ≤ r → entryAt mid dim r c ≡ lowerEntry n l s r c
-      = λ r c hr hc. i .rows r c (omega arith) hc ∙ rw (ef, em, eg) (table-entry n l s old table dim r c (p .listed) t hr (omega arith)) in
+      = λ r c hr hc. i .rows r c (omega arith) hc ∙ rw (em, eg) (table-entry n l s old table dim r c (p .listed) t hr (omega arith)) in
       ee ∙ mirrored-density n l s o mid dim e (i .surplus) rows ∙ ap (λ (d : ℕ). written (d * d) (densityCell n l s) o) e
 
 -- ---- the ways out
 
-module _ (s : List Float) (n : ℕ) (l : List ℕ) (cap : ℕ) (o w : List Float) (r : Answer) (e : paper r ≡ densityAnswer s n l cap (length o) (length w)) where
-  pub density-refused : (paper r .0 ≡ 0 → ⊥) → Density s n l cap o w r o w
-  density-refused h =
+-- of the inner call
+module _ (s : List Float) (n : ℕ) (l : List ℕ) (o w : List Float) (r : Answer) (e : paper r ≡ densityRest s n (length l) (length o) (length w)) where
+  pub over-refused : (paper r .0 ≡ 0 → ⊥) → DensityOver s n l o w r o w
+  over-refused h =
+      let z : densityRest s n (length l) (length o) (length w) .0 ≡ 0 → ⊥ = λ x. h (ap (λ (y : Reply). y .0) e ∙ x) in
+      record { answer = e; matrix = done-old _ (densityList n l s o) o z; cleared = done-old _ (zeroed (2 * 2 ^ length l) w) w z }
+
+  pub over-done : (out scratch : List Float) → paper r .0 ≡ 0 → out ≡ densityList n l s o → scratch ≡ zeroed (2 * 2 ^ length l) w
+      → DensityOver s n l o w r out scratch
+  over-done out scratch h eo ew =
+      let z : densityRest s n (length l) (length o) (length w) .0 ≡ 0 = sym (ap (λ (y : Reply). y .0) e) ∙ h in
+      record { answer = e; matrix = eo ∙ done-new _ (densityList n l s o) o z; cleared = ew ∙ done-new _ (zeroed (2 * 2 ^ length l) w) w z }
+
+-- of the call
+module _ (s : List Float) (n : ℕ) (l : List ℕ) (cap : ℕ) (o w : List Float) (r : Answer) where
+  pub density-refused : paper r ≡ densityAnswer s n l cap (length o) (length w) → (paper r .0 ≡ 0 → ⊥) → Density s n l cap o w r o w
+  density-refused e h =
       let z : densityAnswer s n l cap (length o) (length w) .0 ≡ 0 → ⊥ = λ x. h (ap (λ (y : Reply). y .0) e ∙ x) in
       record { answer = e; matrix = done-old _ (densityList n l s o) o z; cleared = done-old _ (zeroed (2 * 2 ^ length l) w) w z }
 
-  pub density-done : (out scratch : List Float) → paper r .0 ≡ 0 → out ≡ densityList n l s o → scratch ≡ zeroed (2 * 2 ^ length l) w
-      → Density s n l cap o w r out scratch
-  density-done out scratch h eo ew =
-      let z : densityAnswer s n l cap (length o) (length w) .0 ≡ 0 = sym (ap (λ (y : Reply). y .0) e) ∙ h in
-      record { answer = e; matrix = eo ∙ done-new _ (densityList n l s o) o z; cleared = ew ∙ done-new _ (zeroed (2 * 2 ^ length l) w) w z }
+  -- THE CALL IS ITS WORK, where 1 to 4 do not refuse
+  pub density-is-over : (out scratch : List Float) → densityRefusal n cap l .0 ≡ 0 → DensityOver s n l o w r out scratch → Density s n l cap o w r out scratch
+  density-is-over out scratch h c =
+      let b = densityRest s n (length l) (length o) (length w) in
+      let e : b ≡ densityAnswer s n l cap (length o) (length w) = sym (ap (λ (k : ℕ). after k (densityRefusal n cap l) b) h) in
+      record {
+        answer = c .answer ∙ e;
+        matrix = c .matrix ∙ ap (λ (x : Reply). ifDone (x .0) (densityList n l s o) o) e;
+        cleared = c .cleared ∙ ap (λ (x : Reply). ifDone (x .0) (zeroed (2 * 2 ^ length l) w) w) e;
+      }

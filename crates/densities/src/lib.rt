@@ -4,9 +4,11 @@ ghost use mathlib.Core.Path.{_≡_};
 ghost use Prim.Native.Nat.{_≤_};
 ghost use lib.ListN.{length};
 ghost use Rattle.answers.specs.Paper.{paper};
+ghost use Rattle.submasks.specs.Submasks.{others};
+ghost use Rattle.qubits.specs.Spread.{named};
 ghost use Rattle.density_entries.specs.Squares.{mirrored};
 ghost use Rattle.densities.specs.Square.{squareAnswer, InPlace};
-ghost use Rattle.densities.specs.Density.{densityLengths, densityAnswer, densityList, Density, DensityAccepted};
+ghost use Rattle.densities.specs.Density.{densityLengths, densityRest, densityList, Density, DensityListed, DensityOver, DensityAccepted};
 
 // Inner: a square matrix among a call's own arguments: 1 by its side, 6 by its length, 7 by its components.
 pub fn square_refusal(rho: &[f64], dim: usize) -> Answer
@@ -55,44 +57,55 @@ fn density_lengths(size: usize, dim: usize, state: usize, out: usize, scratch: u
     Answer::Done
 }
 
-// Answers 1 to 7 of a density whose out and scratch have so many numbers.
-fn density_answer(
-    state: &[f64],
-    n: usize,
-    list: &[usize],
-    cap: usize,
-    out: usize,
-    scratch: usize,
-) -> Answer
-    ensures { λ r. ⌜ paper r ≡ densityAnswer (now (state .entry)) n (now (list .entry)) cap out scratch ⌝ }
+// Answers 6 and 7 of a density of k qubits whose out and scratch have so many numbers.
+fn density_rest(state: &[f64], n: usize, k: usize, out: usize, scratch: usize) -> Answer
+    requires { ⌜ (n ≤ 12) × (k ≤ 6) ⌝ }
+    ensures { λ r. ⌜ paper r ≡ densityRest (now (state .entry)) n k out scratch ⌝ }
 {
-    let first = qubit_offsets::density_refusal(list, n, cap);
+    let size = submasks::bit(n);
+    let dim = submasks::bit(k);
+    let first = density_lengths(size, dim, state.len(), out, scratch);
     let Answer::Done = first else {
         return first;
-    };
-    let size = submasks::bit(n);
-    let dim = submasks::bit(list.len());
-    let second = density_lengths(size, dim, state.len(), out, scratch);
-    let Answer::Done = second else {
-        return second;
     };
     components::check_components(state)
 }
 
-// The density at the front of out.
-fn fill_density(state: &[f64], n: usize, list: &[usize], out: &mut [f64])
-    requires { ⌜ DensityAccepted (now state) n (now list) (length (now out)) ⌝ }
+// The density at the front of out; `rest` is the mask of the qubits that are traced out.
+fn fill_density(state: &[f64], n: usize, list: &[usize], rest: usize, out: &mut [f64])
+    requires { ⌜ DensityAccepted (now state) n (now list) (length (now out)) × (rest ≡ others n (named (now list))) ⌝ }
     ensures { λ _. ⌜ now (out .exit) ≡ densityList n (now (list .entry)) (now (state .entry)) (now (out .entry)) ⌝ }
 {
     let k = list.len();
     let dim = submasks::bit(k);
-    let size = submasks::bit(n);
     let groups = submasks::bit(n - k);
-    let mask = qubits::mask_of(list, n);
     let mut offsets = [0usize; 64];
     density_entries::fill_offsets(list, n, dim, &mut offsets);
-    density_diagonal::fill_lower(state, n, size - 1 - mask, groups, &offsets, dim, out);
+    density_diagonal::fill_lower(state, n, rest, groups, &offsets, dim, out);
     density_entries::mirror(out, dim);
+}
+
+// Inner: the density of a list that 1 to 4 do not refuse, with the mask of the other qubits worked out or kept in a plan: refused by 6
+// and 7.
+pub fn density_over(
+    state: &[f64],
+    n: usize,
+    list: &[usize],
+    rest: usize,
+    out: &mut [f64],
+    scratch: &mut [f64],
+) -> Answer
+    requires { ⌜ DensityListed n (now list) rest ⌝ }
+    ensures { λ r. ⌜ DensityOver (now (state .entry)) n (now (list .entry)) (now (out .entry)) (now (scratch .entry)) r (now (out .exit)) (now (scratch .exit)) ⌝ }
+{
+    let answer = density_rest(state, n, list.len(), out.len(), scratch.len());
+    let Answer::Done = answer else {
+        return answer;
+    };
+    fill_density(state, n, list, rest, out);
+    let need = 2 * submasks::bit(list.len());
+    complex::zero_first(scratch, need);
+    Answer::Done
 }
 
 // The unscaled density of the listed qubits, row after row: refused by 1 to 4, 6 and 7.
@@ -106,12 +119,11 @@ pub fn dense_reduced_density(
 ) -> Answer
     ensures { λ r. ⌜ Density (now (state .entry)) n (now (list .entry)) cap (now (out .entry)) (now (scratch .entry)) r (now (out .exit)) (now (scratch .exit)) ⌝ }
 {
-    let answer = density_answer(state, n, list, cap, out.len(), scratch.len());
-    let Answer::Done = answer else {
-        return answer;
+    let first = qubit_offsets::density_refusal(list, n, cap);
+    let Answer::Done = first else {
+        return first;
     };
-    fill_density(state, n, list, out);
-    let need = 2 * submasks::bit(list.len());
-    complex::zero_first(scratch, need);
-    Answer::Done
+    let mask = qubits::mask_of(list, n);
+    let rest = submasks::bit(n) - 1 - mask;
+    density_over(state, n, list, rest, out, scratch)
 }

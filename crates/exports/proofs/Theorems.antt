@@ -56,6 +56,13 @@ use Rattle.profiles.proofs.Theorems.{cut-profile-one}
 use Rattle.entropy_bands.specs.declared.Entropy.{Entropy}
 use Rattle.entropy_bands.specs.Bands.{EntropyBand}
 use Rattle.entropy_bands.proofs.Theorems.{entropy-band-one}
+use Rattle.plan_numbers.specs.Numbers.{planAt}
+use Rattle.plan_matrix.specs.PlannedCut.{PlannedCut}
+use Rattle.plan_matrix.proofs.Theorems.{planned-cut-matrix-one}
+use Rattle.plan_values.specs.PlannedValues.{PlannedValues}
+use Rattle.plan_values.proofs.Theorems.{planned-schmidt-values-one}
+use Rattle.plan_density.specs.PlannedDensity.{PlannedDensity}
+use Rattle.plan_density.proofs.Theorems.{planned-reduced-density-one}
 use Rattle.cutfile_result.specs.Result.{fileReply}
 use Rattle.certificates.specs.Certificate.{certificateOf}
 use Rattle.certificates.specs.declared.Written.{Written}
@@ -73,6 +80,9 @@ use Rattle.slabs.specs.Slab.{Put, Dropped, Replaced}
 use Rattle.slabs.proofs.Theorems.{put-one, drop-one, replace-one}
 use Rattle.lots.specs.Lot.{Lot}
 use Rattle.lots.proofs.Theorems.{lot-sheet-one}
+use Rattle.plan_changes.specs.Changes.{adding, dropping, switching}
+use Rattle.plan_calls.specs.Stored.{CutPlanStored, ChangeStored}
+use Rattle.plan_calls.proofs.Theorems.{store-cut-plan-one, change-stored-one}
 use Rattle.countersign.specs.declared.Countersigned.{Countersigned}
 use Rattle.countersign.specs.Verdict.{Says as Verdict, says, Countersign}
 use Rattle.countersign.proofs.Theorems.{countersign-one}
@@ -301,6 +311,52 @@ pub zg-lot-sheet-one : (lot sheet sheet' sheet″ : List ℕ) {number place numb
     → Exported (λ x. Lot lot sheet x sheet') number place → Exported (λ x. Lot lot sheet x sheet″) number' place'
     → (number ≡ number') × (place ≡ place') × (sheet' ≡ sheet″)
 zg-lot-sheet-one lot sheet sheet' sheet″ = exported-one (λ x y c d. lot-sheet-one lot sheet x y sheet' sheet″ c d)
+
+-- Only one outcome meets the contract of `zg_cut_plan`.
+pub zg-cut-plan-one : (l : List ℕ) (n cap : ℕ) (plan plan' plan″ : List ℕ) {number place number' place' : ℕ}
+    → Exported (λ x. CutPlanStored l n cap plan x plan') number place → Exported (λ x. CutPlanStored l n cap plan x plan″) number' place'
+    → (number ≡ number') × (place ≡ place') × (plan' ≡ plan″)
+zg-cut-plan-one l n cap plan plan' plan″ = exported-one (λ x y c d. store-cut-plan-one l n cap plan x y plan' plan″ c d)
+
+-- Only one outcome meets the contract of `zg_plan_add`.
+pub zg-plan-add-one : (plan : List ℕ) (q : ℕ) (plan' plan″ : List ℕ) {number place number' place' : ℕ}
+    → Exported (λ x. ChangeStored (adding q) plan x plan') number place → Exported (λ x. ChangeStored (adding q) plan x plan″) number' place'
+    → (number ≡ number') × (place ≡ place') × (plan' ≡ plan″)
+zg-plan-add-one plan q plan' plan″ = exported-one (λ x y c d. change-stored-one (adding q) plan x y plan' plan″ c d)
+
+-- Only one outcome meets the contract of `zg_plan_drop`.
+pub zg-plan-drop-one : (plan : List ℕ) (q : ℕ) (plan' plan″ : List ℕ) {number place number' place' : ℕ}
+    → Exported (λ x. ChangeStored (dropping q) plan x plan') number place → Exported (λ x. ChangeStored (dropping q) plan x plan″) number' place'
+    → (number ≡ number') × (place ≡ place') × (plan' ≡ plan″)
+zg-plan-drop-one plan q plan' plan″ = exported-one (λ x y c d. change-stored-one (dropping q) plan x y plan' plan″ c d)
+
+-- Only one outcome meets the contract of `zg_plan_switch`.
+pub zg-plan-switch-one : (plan plan' plan″ : List ℕ) {number place number' place' : ℕ}
+    → Exported (λ x. ChangeStored switching plan x plan') number place → Exported (λ x. ChangeStored switching plan x plan″) number' place'
+    → (number ≡ number') × (place ≡ place') × (plan' ≡ plan″)
+zg-plan-switch-one plan plan' plan″ = exported-one (λ x y c d. change-stored-one switching plan x y plan' plan″ c d)
+
+-- Only one outcome meets the contract of `zg_planned_cut_matrix`.
+pub zg-planned-cut-matrix-one : (state : List Float) (w : List ℕ) (out : List Float) (out' out″ : List Float) {number place number' place' : ℕ}
+    → Exported (λ x. PlannedCut state (planAt w) out x out') number place → Exported (λ x. PlannedCut state (planAt w) out x out″) number' place'
+    → (number ≡ number') × (place ≡ place') × (out' ≡ out″)
+zg-planned-cut-matrix-one state w out out' out″ =
+    exported-one (λ x y c d. let e = planned-cut-matrix-one state (planAt w) out x y out' out″ c d in (e .0, e .1))
+
+-- Only one outcome meets the contract of `zg_planned_schmidt_values`.
+pub zg-planned-schmidt-values-one : (state : List Float) (w : List ℕ) (out scratch : List Float) (out' out″ : List Float) (scratch' scratch″ : List Float) {number place number' place' : ℕ} {value value' : ℕ × ℕ × Bool × ℕ × Bool}
+    → ExportedWith {R = CutCounted} {W = ℕ × ℕ × Bool × ℕ × Bool} (λ k. k .answer) (λ k. (k .count, k .sweeps .begun, k .sweeps .quiet, k .sweeps .turned, k .exact)) (λ k. PlannedValues state (planAt w) out scratch k out' scratch') number place value
+    → ExportedWith {R = CutCounted} {W = ℕ × ℕ × Bool × ℕ × Bool} (λ k. k .answer) (λ k. (k .count, k .sweeps .begun, k .sweeps .quiet, k .sweeps .turned, k .exact)) (λ k. PlannedValues state (planAt w) out scratch k out″ scratch″) number' place' value'
+    → (number ≡ number') × (place ≡ place') × (value ≡ value') × ((out' ≡ out″) × (scratch' ≡ scratch″))
+zg-planned-schmidt-values-one state w out scratch out' out″ scratch' scratch″ =
+    exported-with-one (λ k l' c d. let e = planned-schmidt-values-one state (planAt w) out scratch k l' out' scratch' out″ scratch″ c d in (ap (λ (x : CutCounted). x .answer) (e .0), ap (λ (x : CutCounted). (x .count, x .sweeps .begun, x .sweeps .quiet, x .sweeps .turned, x .exact)) (e .0), (e .1, e .2)))
+
+-- Only one outcome meets the contract of `zg_planned_reduced_density`.
+pub zg-planned-reduced-density-one : (state : List Float) (w : List ℕ) (out scratch : List Float) (out' out″ : List Float) (scratch' scratch″ : List Float) {number place number' place' : ℕ}
+    → Exported (λ x. PlannedDensity state (planAt w) out scratch x out' scratch') number place → Exported (λ x. PlannedDensity state (planAt w) out scratch x out″ scratch″) number' place'
+    → (number ≡ number') × (place ≡ place') × ((out' ≡ out″) × (scratch' ≡ scratch″))
+zg-planned-reduced-density-one state w out scratch out' out″ scratch' scratch″ =
+    exported-one (λ x y c d. let e = planned-reduced-density-one state (planAt w) out scratch x y out' out″ scratch' scratch″ c d in (e .0, (e .1, e .2)))
 
 -- Only one outcome meets the contract of `zg_certificate`.
 pub zg-certificate-one : (file text text' text″ : List ℕ) {number place number' place' : ℕ} {value value' : ℕ}

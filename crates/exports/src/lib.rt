@@ -54,6 +54,12 @@ ghost use Rattle.profiles.specs.Profile.{CutProfile};
 ghost use Rattle.cut_values.specs.declared.CutCounted.{CutCounted};
 ghost use Rattle.entropy_bands.specs.declared.Entropy.{Entropy};
 ghost use Rattle.entropy_bands.specs.Bands.{EntropyBand};
+ghost use Rattle.plan_changes.specs.Changes.{adding, dropping, switching};
+ghost use Rattle.plan_calls.specs.Stored.{CutPlanStored, ChangeStored};
+ghost use Rattle.plan_numbers.specs.Numbers.{planAt};
+ghost use Rattle.plan_matrix.specs.PlannedCut.{PlannedCut};
+ghost use Rattle.plan_values.specs.PlannedValues.{PlannedValues};
+ghost use Rattle.plan_density.specs.PlannedDensity.{PlannedDensity};
 ghost use Rattle.cutfile_result.specs.Result.{fileReply};
 ghost use Rattle.certificates.specs.Certificate.{certificateOf};
 ghost use Rattle.certificates.specs.declared.Written.{Written};
@@ -790,6 +796,110 @@ pub extern "C" fn zg_lot_sheet(lot: &[u8], sheet: &mut [usize; 32], place: &mut 
     told::told(lots::lot_sheet(lot, sheet), place)
 }
 
+// ---- a plan of a cut: thirty numbers here, a struct of them to C
+
+#[no_mangle]
+pub extern "C" fn zg_cut_plan(
+    list: &[usize],
+    n: usize,
+    cap: usize,
+    plan: &mut [usize; 30],
+    place: &mut usize,
+) -> u32
+    ensures { λ r. ⌜ Exported (λ a. CutPlanStored (now (list .entry)) n cap (now (plan .entry)) a (now (plan .exit))) r (now (place .exit)) ⌝ }
+{
+    told::told(plan_calls::store_cut_plan(list, n, cap, plan), place)
+}
+
+#[no_mangle]
+pub extern "C" fn zg_plan_add(plan: &mut [usize; 30], qubit: usize, place: &mut usize) -> u32
+    ensures { λ r. ⌜ Exported (λ a. ChangeStored (adding qubit) (now (plan .entry)) a (now (plan .exit))) r (now (place .exit)) ⌝ }
+{
+    told::told(plan_calls::add_to_plan(plan, qubit), place)
+}
+
+#[no_mangle]
+pub extern "C" fn zg_plan_drop(plan: &mut [usize; 30], qubit: usize, place: &mut usize) -> u32
+    ensures { λ r. ⌜ Exported (λ a. ChangeStored (dropping qubit) (now (plan .entry)) a (now (plan .exit))) r (now (place .exit)) ⌝ }
+{
+    told::told(plan_calls::drop_from_plan(plan, qubit), place)
+}
+
+#[no_mangle]
+pub extern "C" fn zg_plan_switch(plan: &mut [usize; 30], place: &mut usize) -> u32
+    ensures { λ r. ⌜ Exported (λ a. ChangeStored switching (now (plan .entry)) a (now (plan .exit))) r (now (place .exit)) ⌝ }
+{
+    told::told(plan_calls::switch_plan(plan), place)
+}
+
+// ---- the calls of a plan's list
+
+#[no_mangle]
+pub extern "C" fn zg_planned_cut_matrix(
+    state: &[f64],
+    plan: &[usize; 30],
+    out: &mut [f64],
+    place: &mut usize,
+) -> u32
+    ensures { λ r. ⌜ Exported (λ a. PlannedCut (now (state .entry)) (planAt (now (plan .entry))) (now (out .entry)) a (now (out .exit))) r (now (place .exit)) ⌝ }
+{
+    let kept = plan_numbers::read_plan(plan);
+    told::told(plan_matrix::planned_cut_matrix(state, kept, out), place)
+}
+
+#[no_mangle]
+pub extern "C" fn zg_planned_schmidt_values(
+    state: &[f64],
+    plan: &[usize; 30],
+    out: &mut [f64],
+    scratch: &mut [f64],
+    place: &mut usize,
+    count: &mut usize,
+    sweeps: &mut usize,
+    quiet: &mut bool,
+    turned: &mut usize,
+    exact: &mut bool,
+) -> u32
+    ensures { λ r. ⌜ ExportedWith {R = CutCounted} {W = ℕ × ℕ × Bool × ℕ × Bool} (λ k. k .answer) (λ k. (k .count, k .sweeps .begun, k .sweeps .quiet, k .sweeps .turned, k .exact))
+        (λ k. PlannedValues (now (state .entry)) (planAt (now (plan .entry))) (now (out .entry)) (now (scratch .entry)) k (now (out .exit)) (now (scratch .exit))) r (now (place .exit)) (now (count .exit), now (sweeps .exit), now (quiet .exit), now (turned .exit), now (exact .exit)) ⌝ }
+{
+    let kept = plan_numbers::read_plan(plan);
+    let k = plan_values::planned_schmidt_values(state, kept, out, scratch);
+    *count = k.count;
+    let t = k.sweeps;
+    *sweeps = t.begun;
+    *quiet = t.quiet;
+    *turned = t.turned;
+    *exact = k.exact;
+    let answer = k.answer;
+    told::told(answer, place)
+}
+
+#[no_mangle]
+pub extern "C" fn zg_planned_reduced_density(
+    state: &[f64],
+    plan: &[usize; 30],
+    out: &mut [f64],
+    scratch: &mut [f64],
+    place: &mut usize,
+) -> u32
+    ensures { λ r. ⌜ Exported (λ a. PlannedDensity (now (state .entry)) (planAt (now (plan .entry))) (now (out .entry)) (now (scratch .entry)) a (now (out .exit)) (now (scratch .exit))) r (now (place .exit)) ⌝ }
+{
+    let kept = plan_numbers::read_plan(plan);
+    told::told(
+        plan_density::planned_reduced_density(state, kept, out, scratch),
+        place,
+    )
+}
+
+// 10000·major + 100·minor + patch of include/zegrafult_version.h.
+#[no_mangle]
+pub extern "C" fn zg_version() -> u32
+    ensures { λ r. ⌜ r ≡ 100 ⌝ }
+{
+    100
+}
+
 // ---- the certificate of a cut file, as text
 
 #[no_mangle]
@@ -824,12 +934,4 @@ pub extern "C" fn zg_certificate_pages(
     *length = k.length;
     let answer = k.answer;
     told::told(answer, place)
-}
-
-// 10000·major + 100·minor + patch of include/zegrafult_version.h.
-#[no_mangle]
-pub extern "C" fn zg_version() -> u32
-    ensures { λ r. ⌜ r ≡ 100 ⌝ }
-{
-    100
 }

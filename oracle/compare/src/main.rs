@@ -6,13 +6,14 @@
 //!     compare SEED COUNT pages   the text of both pages and of page one alone, of COUNT drawn cut files, beside that of the Rust's outcomes
 //!     compare replay FILE        the calls of FILE, one to a line, as a mismatch prints them
 //!
+//! Of a cut matrix, cut values and a density whose list has a plan the planned call is compared too.
 //! It ends with status 1 on a mismatch and where the library lacks an entry point. The last lines have the count of calls that
 //! gave up, which is those whose last sweep still turned a pair, of those whose roots all came out even, of all calls, and the seed.
 
 use std::collections::BTreeMap;
 use std::process::exit;
 
-use harness::call::{Call, ENTRIES, Entry, Outcome};
+use harness::call::{Arg, Call, ENTRIES, Entry, Outcome};
 use harness::cases::{self, Bounds};
 use harness::oracle::{Build, outcome};
 use harness::random::Random;
@@ -31,10 +32,41 @@ struct Tally {
     answers: BTreeMap<(Entry, u32), usize>,
     gave_up: BTreeMap<Entry, usize>,
     even: BTreeMap<Entry, usize>,
+    planned: BTreeMap<(Entry, u32), usize>,
 }
 
 impl Tally {
+    /// The call by its list's plan, which under cap 13 must leave what the Rust gives to the list.
+    fn see_planned(&mut self, call: &Call) {
+        if !matches!(call.entry, Entry::cut_matrix | Entry::dense_schmidt_values | Entry::dense_reduced_density) {
+            return;
+        }
+        let Some(plan) = port::plan_of(&call.words(2), call.one(1)) else { return };
+        let mut widest = call.clone();
+        widest.args[3] = Arg::One(13);
+        let theirs = outcome(&widest, Build::Counting);
+        let ours = match plan {
+            Some(plan) => port::planned(&widest, &plan),
+            None => Some(None),
+        };
+        let Some(ours) = ours else { return };
+        self.calls += 1;
+        *self.planned.entry((call.entry, theirs.number)).or_insert(0) += 1;
+        if ours.as_ref() == Some(&theirs) {
+            return;
+        }
+        self.wrong += 1;
+        if self.wrong <= SHOWN {
+            println!("MISMATCH of the planned call {}", widest.line());
+            match ours {
+                Some(ours) => show(&ours, &theirs),
+                None => println!("  a plan made at once and one made by adding differ, or the port wrote outside of a slice"),
+            }
+        }
+    }
+
     fn see(&mut self, call: &Call) {
+        self.see_planned(call);
         let Some(ours) = port::run(call) else { return };
         let theirs = outcome(call, Build::Counting);
         self.calls += 1;
@@ -65,6 +97,13 @@ impl Tally {
         }
         for (entry, answers) in by_entry {
             println!("{:<28} {answers}", entry.name());
+        }
+        let mut by_plan: BTreeMap<Entry, String> = BTreeMap::new();
+        for ((entry, number), count) in &self.planned {
+            by_plan.entry(*entry).or_default().push_str(&format!("  {number}: {count}"));
+        }
+        for (entry, answers) in by_plan {
+            println!("planned {:<20} {answers}", entry.name());
         }
         for (what, counts) in [("gave up", &self.gave_up), ("all roots even", &self.even)] {
             let each: Vec<String> = counts.iter().map(|(entry, count)| format!("{} {count}", entry.name())).collect();
@@ -166,6 +205,7 @@ fn run(seed: u64, count: usize, wanted: &str) -> Tally {
             continue;
         }
         small::each(entry, &mut |call| tally.see(&call));
+        small::every_cut(entry, &mut |call| tally.see(&call));
         let rng = &mut Random::new(seed ^ (entry as u64) << 32);
         let count = if entry == Entry::modulus { MODULI * count } else { count };
         for drawn in 0..count {

@@ -434,6 +434,24 @@ pub fn each(entry: Entry, see: &mut impl FnMut(Call)) {
     }
 }
 
+/// Of a call that a plan can stand for: every list that a cut accepts of registers of 2 to 5 qubits, in every order.
+pub fn every_cut(entry: Entry, see: &mut impl FnMut(Call)) {
+    if !matches!(entry, cut_matrix | dense_schmidt_values | dense_reduced_density) {
+        return;
+    }
+    let rng = &mut Random::new(entry as u64);
+    for n in 2..=5usize {
+        for list in lists(n as u64, n - 1) {
+            let twice = (0..list.len()).any(|at| list[..at].contains(&list[at]));
+            if list.is_empty() || twice {
+                continue;
+            }
+            let state: Vec<(f64, f64)> = (0..1usize << n).map(|_| (rng.unit(), rng.unit())).collect();
+            see(lend(rng, entry, vec![Arg::Many(numbers(&state)), one(n), Arg::Many(list), one(13)]));
+        }
+    }
+}
+
 /// An accepted call with each slice in turn made shorter and longer by up to two numbers.
 pub fn lengths(rng: &mut Random, call: &Call, see: &mut impl FnMut(Call)) {
     for at in call.slices() {

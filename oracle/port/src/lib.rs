@@ -32,6 +32,13 @@ unsafe extern "C" {
     pub fn zg_slab_replace(cells: *mut f64, index: *mut u32, site: u32, data: *const f64, data_len: usize, place: *mut usize) -> u32;
     pub fn zg_entropy_band(state: *const f64, state_len: usize, n: usize, list: *const usize, list_len: usize, cap: usize, bands: *mut usize, bands_len: usize, scratch: *mut f64, scratch_len: usize, place: *mut usize, count: *mut usize, low: *mut u64, high: *mut u64, whole: *mut u64, sweeps: *mut usize, quiet: *mut bool, turned: *mut usize) -> u32;
     pub fn zg_lot_sheet(lot: *const u8, lot_len: usize, sheet: *mut usize, place: *mut usize) -> u32;
+    pub fn zg_cut_plan(list: *const usize, list_len: usize, n: usize, cap: usize, plan: *mut usize, place: *mut usize) -> u32;
+    pub fn zg_plan_add(plan: *mut usize, qubit: usize, place: *mut usize) -> u32;
+    pub fn zg_plan_drop(plan: *mut usize, qubit: usize, place: *mut usize) -> u32;
+    pub fn zg_plan_switch(plan: *mut usize, place: *mut usize) -> u32;
+    pub fn zg_planned_cut_matrix(state: *const f64, state_len: usize, plan: *const usize, out: *mut f64, out_len: usize, place: *mut usize) -> u32;
+    pub fn zg_planned_schmidt_values(state: *const f64, state_len: usize, plan: *const usize, out: *mut f64, out_len: usize, scratch: *mut f64, scratch_len: usize, place: *mut usize, count: *mut usize, sweeps: *mut usize, quiet: *mut bool, turned: *mut usize, exact: *mut bool) -> u32;
+    pub fn zg_planned_reduced_density(state: *const f64, state_len: usize, plan: *const usize, out: *mut f64, out_len: usize, scratch: *mut f64, scratch_len: usize, place: *mut usize) -> u32;
     // Text: compared with the text that harness::pages makes of the published Rust's outcomes.
     pub fn zg_certificate(file: *const u8, file_len: usize, text: *mut u8, text_len: usize, place: *mut usize, length: *mut usize) -> u32;
     pub fn zg_certificate_pages(file: *const u8, file_len: usize, text: *mut u8, text_len: usize, place: *mut usize, length: *mut usize) -> u32;
@@ -248,6 +255,31 @@ pub fn lot_sheet(lot: &[u8]) -> Option<[usize; 32]> {
     None
 }
 
+/// The thirty numbers of the list's plan under cap 13, made at once and, where its qubits can be added one at a time, so made too; none
+/// where the library refuses the list. An inner none where the two differ.
+#[allow(unused_variables)]
+pub fn plan_of(list: &[usize], n: usize) -> Option<Option<[usize; 30]>> {
+    #[cfg(has_zg_cut_plan)]
+    {
+        let (mut plan, mut grown, mut place) = ([0; 30], [0; 30], 0);
+        let p = &raw mut place;
+        // SAFETY: the list is borrowed with its length, a plan has the thirty numbers that are read and written.
+        let first = unsafe { zg_cut_plan(list.as_ptr(), list.len(), n, 13, plan.as_mut_ptr(), p) };
+        if first != 0 {
+            return None;
+        }
+        // SAFETY: as above.
+        let mut number = unsafe { zg_cut_plan(list.as_ptr(), 1, n, 13, grown.as_mut_ptr(), p) };
+        for &qubit in &list[1..] {
+            // SAFETY: as above.
+            number |= unsafe { zg_plan_add(grown.as_mut_ptr(), qubit, p) };
+        }
+        return Some((number == 0 && plan == grown).then_some(plan));
+    }
+    #[allow(unreachable_code)]
+    None
+}
+
 /// What a call of the certificate leaves: its answer, the length that it says, and the whole lent text.
 #[derive(Clone, Debug, PartialEq, Eq)]
 pub struct Told {
@@ -280,3 +312,34 @@ pub fn certificate(file: &[u8], both: bool, room: usize) -> Option<Told> {
 
 /// No byte of a printout.
 pub const FILLED: u8 = 0xA5;
+
+/// What the planned call leaves, of a call of the cut matrix, the cut values or the density whose list has this plan.
+#[allow(unused_variables, unused_mut)]
+pub fn planned(call: &Call, plan: &[usize; 30]) -> Option<Option<Outcome>> {
+    let mut ready = Ready::new(call);
+    let number = ready.make_planned(plan)?;
+    Some(ready.outcome(number))
+}
+
+impl Ready<'_> {
+    /// Makes the planned call: its answer's number, or none where the library does not have it.
+    #[rustfmt::skip]
+    #[allow(unused_variables, unused_macros)]
+    pub fn make_planned(&mut self, plan: &[usize; 30]) -> Option<u32> {
+        let w = plan.as_ptr();
+        let p = &raw mut self.place;
+        let v = (&raw mut self.value).cast::<usize>();
+        let (s, q, t) = (&raw mut self.sweeps, (&raw mut self.quiet).cast::<bool>(), &raw mut self.turned);
+        let e = (&raw mut self.exact).cast::<bool>();
+        macro_rules! f { ($slice:literal) => { self.pointer($slice).cast::<f64>() } }
+        macro_rules! l { ($slice:literal) => { self.length($slice) } }
+        match self.call.entry {
+            cut_matrix => ask!(has_zg_planned_cut_matrix, zg_planned_cut_matrix(f!(0), l!(0), w, f!(2), l!(2), p)),
+            dense_schmidt_values => ask!(has_zg_planned_schmidt_values,
+                zg_planned_schmidt_values(f!(0), l!(0), w, f!(2), l!(2), f!(3), l!(3), p, v, s, q, t, e)),
+            dense_reduced_density => ask!(has_zg_planned_reduced_density,
+                zg_planned_reduced_density(f!(0), l!(0), w, f!(2), l!(2), f!(3), l!(3), p)),
+            _ => None,
+        }
+    }
+}

@@ -1,53 +1,78 @@
--- `certificates::put_accepted` meets its contract. The two calls of `sides` hand back the smaller side's list; nine others and sixteen values fit the buffer.
--- Assumes nothing.
-use mathlib.Core.Path.{refl, ap}
+-- `certificates::put_accepted` meets its contract: the list at hand, or the others that were written, is the smaller side's list. Assumes nothing.
+use mathlib.Core.Path.{sym}
 use native.Mathlib.Omega.{arith}
 use denote.Ref.{now}
-use lib.ListN.{length}
+use lib.Seq.{length-take-le}
+use Rattle.qubits.proofs.OtherLaws.{others-length}
 use Rattle.cut_sides.proofs.SideLaws.{is-parted}
 use Rattle.texts.proofs.TextLaws.{puts-as}
-use Rattle.certificates.proofs.AcceptedLaws.{part-is, side-short, accepted-is, accepted-short}
+use Rattle.certificates.proofs.AcceptedLaws.{side-named, side-written, sided-is, accepted-short}
 use borrow.Author.Needs.{needs}
 use Rattle.certificates.proofs.put_accepted.Statement.{statement}
 use Rattle.certificates.proofs.put_accepted.Tie as tie
 
-slice-aggregate-smaller-side : tie.Need-slice-aggregate-smaller-side
-slice-aggregate-smaller-side c = search needs
+sub-rest : tie.Need-sub-rest
+sub-rest c = let z = c .before .before .before .args in omega (arith, is-parted (now (z .list)) (z .n) 10 (c .before .before .before .pre .0 .taken) .part)
 
-smaller-side-requires : tie.Need-smaller-side-requires
-smaller-side-requires c κs = search needs
-
-sides-of-requires : tie.Need-sides-of-requires
-sides-of-requires c κs = is-parted _ _ 10 (c .before .before .before .before .before .before .pre .0 .taken)
-
-slice-aggregate-side-part : tie.Need-slice-aggregate-side-part
-slice-aggregate-side-part c = search needs
-
-side-part-requires : tie.Need-side-part-requires
-side-part-requires c κs = search needs
-
-totals-of-requires : tie.Need-totals-of-requires
-totals-of-requires c κs = omega (arith, c .before .before .before .before .before .before .before .before .before .pre .0 .few)
-
-put-listing-requires : tie.Need-put-listing-requires
-put-listing-requires c κs = let a = c .before .before .before .before .before .before .before .before .before .before .before .pre .0 in let l = now (c .before .before .before .before .before .before .before .before .before .before .before .args .list) in let e = part-is _ _ _ (c .before .before .before .before .before .before .smaller-side .result) _ _ refl (a .small) (a .taken) (c .before .before .before .before .before .before .smaller-side .ensures) (c .before .before .side-part .ensures) in omega (arith, ap length e, side-short l (c .before .before .before .before .before .before .before .before .before .before .before .args .n) (is-parted l (c .before .before .before .before .before .before .before .before .before .before .before .args .n) 10 (a .taken)), a .small, a .few, c .before .before .before .before .before .before .before .before .before .before .before .pre .1)
+put-sided-requires : tie.Need-put-sided-requires
+put-sided-requires c κs =
+    let z = c .before .before .before .before .before .args in
+    let a = c .before .before .before .before .before .pre .0 in
+    (omega (arith, is-parted (now (z .list)) (z .n) 10 (a .taken) .part), a .small, a .few, c .before .before .before .before .before .pre .1)
 
 same-length : tie.Need-same-length
 same-length c = search needs
 
 returns : tie.Need-returns
-returns c = let a = c .before .before .before .before .before .before .before .before .before .before .before .before .before .before .pre .0 in let e = part-is _ _ _ (c .before .before .before .before .before .before .before .before .before .smaller-side .result) _ _ refl (a .small) (a .taken) (c .before .before .before .before .before .before .before .before .before .smaller-side .ensures) (c .before .before .before .before .before .side-part .ensures) in record { puts = puts-as _ _ _ _ _ _ (accepted-is _ _ _ _ _ (c .before .before .before .before .before .before .before .sides-of .result) _ (c .before .before .before .before .totals-of .result) (c .before .before .before .before .before .before .before .sides-of .ensures) e (c .before .before .before .before .totals-of .ensures)) (c .before .before .put-listing .ensures); short = accepted-short _ _ _ _ _ a }
+returns c =
+    let z = c .before .before .before .before .before .before .before .before .args in
+    let a = c .before .before .before .before .before .before .before .before .pre .0 in
+    let e = side-named (now (z .list)) (z .n) (c .before .before .before .before .if1 .taken) in
+    record { puts = puts-as _ _ _ _ _ _ (sided-is _ (now (z .list)) _ _ _ _ (is-parted _ _ 10 (a .taken)) e) (c .before .before .put-sided .ensures); short = accepted-short _ _ _ _ _ a }
+
+slice-aggregate-write-others : tie.Need-slice-aggregate-write-others
+slice-aggregate-write-others c = search needs
+
+write-others-requires : tie.Need-write-others-requires
+write-others-requires c κs =
+    let z = c .before .before .before .before .before .args in
+    let a = c .before .before .before .before .before .pre .0 in
+    (omega (arith, a .small), omega (arith, others-length (z .n) (now (z .list)) (is-parted (now (z .list)) (z .n) 10 (a .taken) .listed), a .small))
+
+array-share-prefix-others : tie.Need-array-share-prefix-others
+array-share-prefix-others c = search needs
+
+slice-aggregate-put-sided : tie.Need-slice-aggregate-put-sided
+slice-aggregate-put-sided c = sym (length-take-le _ _ (array-share-prefix-others (c .before)))
+
+put-sided-requires-2 : tie.Need-put-sided-requires-2
+put-sided-requires-2 c κs =
+    let a = c .before .before .before .before .before .before .before .before .before .pre .0 in
+    (omega (arith, slice-aggregate-put-sided (c .before)), a .small, a .few, c .before .before .before .before .before .before .before .before .before .pre .1)
+
+same-length-2 : tie.Need-same-length-2
+same-length-2 c = search needs
+
+returns-2 : tie.Need-returns-2
+returns-2 c =
+    let z = c .before .before .before .before .before .before .before .before .before .before .before .before .args in
+    let a = c .before .before .before .before .before .before .before .before .before .before .before .before .pre .0 in
+    let p = is-parted (now (z .list)) (z .n) 10 (a .taken) in
+    let e = side-written (now (z .list)) (z .n) _ _ p (c .before .before .before .before .before .before .before .before .if1 .left) (c .before .before .before .before .before .before .write-others .ensures) in
+    record { puts = puts-as _ _ _ _ _ _ (sided-is _ (now (z .list)) _ _ _ _ p e) (c .before .before .put-sided2 .ensures); short = accepted-short _ _ _ _ _ a }
 
 pub put-accepted-spec : {M : Type 1} → statement M
 put-accepted-spec =
     tie.close
     (tie.spec
-    slice-aggregate-smaller-side
-    smaller-side-requires
-    sides-of-requires
-    slice-aggregate-side-part
-    side-part-requires
-    totals-of-requires
-    put-listing-requires
+    sub-rest
+    put-sided-requires
     same-length
-    returns)
+    returns
+    slice-aggregate-write-others
+    write-others-requires
+    array-share-prefix-others
+    slice-aggregate-put-sided
+    put-sided-requires-2
+    same-length-2
+    returns-2)

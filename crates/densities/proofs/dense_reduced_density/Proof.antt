@@ -1,37 +1,47 @@
--- `densities::dense_reduced_density` meets its contract: refused, or the density filled and the scratch zeroed. Assumes nothing.
-use lib.ListN.{length}
-use mathlib.Core.Path.{refl, sym, ap, _∙_}
-use Prim.Native.Nat.{ℕ, _*_}
+-- `densities::dense_reduced_density` meets its contract: 1 to 4 refuse, or the work over the accepted list is the call. Assumes nothing.
+use mathlib.Core.Path.{_≡_, ap₂}
+use Prim.Native.Nat.{ℕ, _-_}
 use native.Mathlib.Omega.{arith}
+use lib.Pow.{pow-pos}
 use denote.Ref.{now}
-use Rattle.answers.specs.Paper.{paper}
-use Rattle.answers.proofs.Stopped.{was-done, stopped-number}
-use Rattle.complex.specs.Zeros.{zeroed}
-use Rattle.densities.proofs.DensityLaws.{accepted, side-small, density-refused, density-done}
+use Rattle.answers.proofs.Stopped.{refused, was-done, stopped-number}
+use Rattle.qubit_offsets.specs.Calls.{densityRefusal}
+use Rattle.qubit_offsets.proofs.CallLaws.{density-listed}
+use Rattle.densities.proofs.DensityLaws.{density-named, density-refused, density-is-over}
 use borrow.Author.Needs.{needs}
 use Rattle.densities.proofs.dense_reduced_density.Statement.{statement}
 use Rattle.densities.proofs.dense_reduced_density.Tie as tie
 
-density-answer-requires : tie.Need-density-answer-requires
-density-answer-requires c κs = search needs
+-- past the first call: 1 to 4 do not refuse
+accepted : (c : tie.After-enum-told) → let a = c .before .before .before .before .before .before .before .args in densityRefusal (a .n) (a .cap) (now (a .list)) .0 ≡ 0
+accepted c = was-done _ _ (c .before .before .density-refusal .ensures) (c .enum-told .given .1)
+
+density-refusal-requires : tie.Need-density-refusal-requires
+density-refusal-requires c κs = search needs
 
 enum-told : tie.Need-enum-told
 enum-told c = search needs
 
 returns : tie.Need-returns
-returns c = let r = c .before .density-answer .result in density-refused _ _ _ _ _ _ r (c .before .density-answer .ensures) (stopped-number r (c .match .keys2))
+returns c =
+    let r = c .before .density-refusal .result in
+    density-refused _ _ _ _ _ _ r (refused r _ _ (c .before .density-refusal .ensures) (c .match .keys2)) (stopped-number r (c .match .keys2))
 
-fill-density-requires : tie.Need-fill-density-requires
-fill-density-requires c κs = accepted _ _ _ _ _ _ (was-done _ _ (c .before .before .before .density-answer .ensures) (c .before .enum-told .given .1)) .0
+mask-of-requires : tie.Need-mask-of-requires
+mask-of-requires c κs = density-listed _ _ _ (accepted c) .0
 
 bit-requires : tie.Need-bit-requires
-bit-requires c κs = omega (arith, accepted (now (c .before .before .before .before .before .before .before .before .before .before .before .args .state)) (c .before .before .before .before .before .before .before .before .before .before .before .args .n) (now (c .before .before .before .before .before .before .before .before .before .before .before .args .list)) (c .before .before .before .before .before .before .before .before .before .before .before .args .cap) (length (now (c .before .before .before .before .before .before .before .before .before .before .before .args .out))) (length (now (c .before .before .before .before .before .before .before .before .before .before .before .args .scratch))) (was-done _ _ (c .before .before .before .before .before .before .density-answer .ensures) (c .before .before .before .before .enum-told .given .1)) .0 .few)
+bit-requires c κs = let a = c .before .before .before .before .before .before .before .before .args in omega (arith, density-listed (a .n) (a .cap) (now (a .list)) (accepted (c .before)) .0 .small)
 
-mul-need : tie.Need-mul-need
-mul-need c = omega (arith, c .bit .ensures, side-small (length (now (c .before .before .before .before .before .before .before .before .before .before .before .before .args .list))) (accepted (now (c .before .before .before .before .before .before .before .before .before .before .before .before .args .state)) (c .before .before .before .before .before .before .before .before .before .before .before .before .args .n) (now (c .before .before .before .before .before .before .before .before .before .before .before .before .args .list)) (c .before .before .before .before .before .before .before .before .before .before .before .before .args .cap) (length (now (c .before .before .before .before .before .before .before .before .before .before .before .before .args .out))) (length (now (c .before .before .before .before .before .before .before .before .before .before .before .before .args .scratch))) (was-done _ _ (c .before .before .before .before .before .before .before .density-answer .ensures) (c .before .before .before .before .before .enum-told .given .1)) .0 .few))
+sub-rest : tie.Need-sub-rest
+sub-rest c = omega (arith, c .bit .ensures, pow-pos (c .before .before .before .before .before .before .before .before .before .args .n))
 
-zero-first-requires : tie.Need-zero-first-requires
-zero-first-requires c κs = omega (arith, c .before .bit .ensures, accepted (now (c .before .before .before .before .before .before .before .before .before .before .before .before .before .args .state)) (c .before .before .before .before .before .before .before .before .before .before .before .before .before .args .n) (now (c .before .before .before .before .before .before .before .before .before .before .before .before .before .args .list)) (c .before .before .before .before .before .before .before .before .before .before .before .before .before .args .cap) (length (now (c .before .before .before .before .before .before .before .before .before .before .before .before .before .args .out))) (length (now (c .before .before .before .before .before .before .before .before .before .before .before .before .before .args .scratch))) (was-done _ _ (c .before .before .before .before .before .before .before .before .density-answer .ensures) (c .before .before .before .before .before .before .enum-told .given .1)) .1)
+sub-rest-2 : tie.Need-sub-rest-2
+sub-rest-2 c = omega (arith, c .bit .ensures, c .before .mask-of .ensures .1)
+
+density-over-requires : tie.Need-density-over-requires
+density-over-requires c κs =
+    density-named _ _ _ _ (accepted (c .before .before .before .before)) (ap₂ (λ (x y : ℕ). x - 1 - y) (c .before .before .bit .ensures) (c .before .before .before .mask-of .ensures .0))
 
 same-length : tie.Need-same-length
 same-length c = search needs
@@ -40,19 +50,20 @@ same-length-2 : tie.Need-same-length-2
 same-length-2 c = search needs
 
 returns-2 : tie.Need-returns-2
-returns-2 c = let z = c .before .before .before .before .before .before .before .before .before .before .before .before .before .before .before .before in density-done _ _ _ _ _ _ _ (ap paper (sym (c .before .before .before .before .before .before .before .before .before .enum-told .given .1)) ∙ c .before .before .before .before .before .before .before .before .before .before .before .density-answer .ensures) _ _ refl (c .before .before .before .before .before .before .before .fill-density .ensures) (c .before .before .zero-first .ensures ∙ ap (λ (x : ℕ). zeroed (2 * x) (now (z .args .scratch))) (c .before .before .before .before .bit .ensures))
+returns-2 c = density-is-over _ _ _ _ _ _ _ _ _ (accepted (c .before .before .before .before .before .before .before .before .before)) (c .before .before .before .before .density-over .ensures)
 
 pub dense-reduced-density-spec : {M : Type 1} → statement M
 dense-reduced-density-spec =
     tie.close
     (tie.spec
-    density-answer-requires
+    density-refusal-requires
     enum-told
     returns
-    fill-density-requires
+    mask-of-requires
     bit-requires
-    mul-need
-    zero-first-requires
+    sub-rest
+    sub-rest-2
+    density-over-requires
     same-length
     same-length-2
     returns-2)

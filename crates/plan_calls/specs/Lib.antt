@@ -1,0 +1,2 @@
+-- What the contracts of `plan_calls` cite.
+pub mod Stored

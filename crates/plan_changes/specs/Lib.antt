@@ -1,0 +1,2 @@
+-- What the contracts of `plan_changes` cite.
+pub mod Changes

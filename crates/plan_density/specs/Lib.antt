@@ -1,0 +1,2 @@
+-- What the contracts of `plan_density` cite.
+pub mod PlannedDensity

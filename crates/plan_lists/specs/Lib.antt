@@ -1,0 +1,2 @@
+-- What the contracts of `plan_lists` cite.
+pub mod Padded

@@ -1,0 +1,2 @@
+-- What the contract of `plan_matrix` cites.
+pub mod PlannedCut

@@ -1,0 +1,2 @@
+-- What a reader wants to know.
+pub mod Theorems

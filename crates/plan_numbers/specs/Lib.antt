@@ -1,0 +1,2 @@
+-- What the contracts of `plan_numbers` cite.
+pub mod Numbers

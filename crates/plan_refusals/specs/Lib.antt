@@ -1,0 +1,2 @@
+-- What the theorems of `plan_refusals` state.
+pub mod Rows

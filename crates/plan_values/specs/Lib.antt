@@ -1,0 +1,2 @@
+-- What the contract of `plan_values` cites.
+pub mod PlannedValues

@@ -1,0 +1,2 @@
+-- What the contracts of `plans` cite.
+pub mod Plans
