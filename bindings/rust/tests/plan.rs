@@ -1,19 +1,8 @@
 //! The plan's face: every change is the plan of the changed list, and each refusal has its number and place.
-use zegrafult::{Plan, Refusal};
+mod lists;
 
-/// Every list of distinct qubits of a register of n that a cut accepts, in every order.
-fn lists(n: usize) -> Vec<Vec<usize>> {
-    let mut all: Vec<Vec<usize>> = vec![vec![]];
-    let mut at = 0;
-    while at < all.len() {
-        for q in (0..n).filter(|q| !all[at].contains(q)).collect::<Vec<_>>() {
-            all.push([&all[at][..], &[q]].concat());
-        }
-        at += 1;
-    }
-    all.retain(|l| !l.is_empty() && l.len() < n);
-    all
-}
+use lists::lists;
+use zegrafult::{Plan, Refusal};
 
 fn refused(number: u32, place: usize) -> Result<Plan, Refusal> {
     Err(Refusal::of(number, place).expect("a refusal"))

@@ -1,19 +1,8 @@
 //! A planned call is its list's call under cap 13, bit for bit, refusals too, for every list of small registers and after changes.
-use zegrafult::{cut_matrix, dense_reduced_density, dense_schmidt_values, Complex, Plan};
+mod lists;
 
-/// Every list of distinct qubits of a register of n that a cut accepts, in every order.
-fn lists(n: usize) -> Vec<Vec<usize>> {
-    let mut all: Vec<Vec<usize>> = vec![vec![]];
-    let mut at = 0;
-    while at < all.len() {
-        for q in (0..n).filter(|q| !all[at].contains(q)).collect::<Vec<_>>() {
-            all.push([&all[at][..], &[q]].concat());
-        }
-        at += 1;
-    }
-    all.retain(|l| !l.is_empty() && l.len() < n);
-    all
-}
+use lists::lists;
+use zegrafult::{cut_matrix, dense_reduced_density, dense_schmidt_values, Complex, Plan};
 
 /// Components that no two lists treat alike, some of them zeros of either sign.
 fn state(n: usize, seed: u64) -> Vec<Complex> {
