@@ -2,8 +2,9 @@
 // least 1 and under 2, and the root of the sum of their squares is scaled back.
 use complex::Complex;
 ghost use mathlib.Core.Path.{_≡_};
-ghost use mathlib.Core.Bool.{true, false};
+ghost use mathlib.Core.Bool.{true, false, _&&_};
 ghost use Prim.Native.Nat.{_+_, _-_, _^_, _≤_, _<_, max};
+ghost use lib.Ieee.{binary64, mul};
 ghost use lib.Ieee.Exact.{HasValue};
 ghost use Rattle.numbers.specs.Root.{unitsOf};
 ghost use Rattle.numbers.specs.Numbers.{isFinite};
@@ -50,13 +51,40 @@ fn root_of_squares(a: f64, b: f64, t: f64) -> f64
     root_guesses::root_near(a * a + b * b, t)
 }
 
+// Whether x and y are one float. Of a NaN that is never said.
+fn same(x: f64, y: f64) -> bool
+    ensures { λ r. ⌜ (r ≡ true → x ≡ y) ⌝ }
+{
+    if x != x {
+        return false;
+    }
+    if y != y {
+        return false;
+    }
+    f64::to_bits(x) == f64::to_bits(y)
+}
+
+// The root of the sum of the squares, scaled back by p, for which t is a guess, and g at the root alone. Where both guesses hold, t is handed
+// on: what is done with it waits neither for the tests nor for the two scalings.
+fn scaled_back(a: f64, b: f64, g: f64, p: f64, t: f64) -> f64
+    ensures { λ r. ⌜ r ≡ mul binary64 (rootOfSquares a b) p ⌝ }
+{
+    let x = a * a + b * b;
+    if root_guesses::is_root(x, g) {
+        if same(g * p, t) {
+            return t;
+        }
+    }
+    root_guesses::root_near(x, g) * p
+}
+
 // The larger part has an exponent whose field is f. The guess t at the root of the unscaled squares is scaled as they are.
 fn normal(re: f64, im: f64, f: u64, t: f64) -> f64
     requires { ⌜ (1 ≤ f) × (f ≤ 2046) × (isFinite re ≡ true) × (isFinite im ≡ true) ⌝ }
     ensures { λ r. ⌜ r ≡ scaledBy (2 ^ (f + 51)) re im ⌝ }
 {
     let under = power_under(f);
-    root_of_squares(re * under, im * under, t * under) * power(f)
+    scaled_back(re * under, im * under, t * under, power(f), t)
 }
 
 // A part below the normal range, over 2^(63 - z) times 2^-1074. Times 2^54 it is exact, and has a full exponent.
@@ -91,17 +119,24 @@ fn scaled(re: f64, im: f64, t: f64) -> f64
     normal(re, im, m / 0x10_0000_0000_0000, t)
 }
 
+// Whether both parts are finite.
+fn both_finite(z: Complex) -> bool
+    ensures { λ r. ⌜ r ≡ isFinite (z .re) && isFinite (z .im) ⌝ }
+{
+    if numbers::is_finite(z.re) {
+        return numbers::is_finite(z.im);
+    }
+    false
+}
+
 // Inner: the modulus of z, for which t, a guess at the root of norm_sqr, decides the time and never the result.
 pub fn modulus_near(z: Complex, t: f64) -> f64
     ensures { λ r. ⌜ r ≡ modulusOf z ⌝ }
 {
-    if !numbers::is_finite(z.re) {
-        return root_guesses::root_near(z.norm_sqr(), t);
+    if both_finite(z) {
+        return scaled(z.re, z.im, t);
     }
-    if !numbers::is_finite(z.im) {
-        return root_guesses::root_near(z.norm_sqr(), t);
-    }
-    scaled(z.re, z.im, t)
+    root_guesses::root_near(z.norm_sqr(), t)
 }
 
 // The modulus of z: nothing is refused.

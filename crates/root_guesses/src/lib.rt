@@ -45,7 +45,7 @@ fn is_nearest(n: u64, q: u64) -> bool
 }
 
 // Whether t is the root of x. Only of an x with a full exponent is that ever said.
-fn is_root(x: f64, t: f64) -> bool
+pub fn is_root(x: f64, t: f64) -> bool
     ensures { λ r. ⌜ (r ≡ true → t ≡ sqrtOf x) ⌝ }
 {
     if x != x {
@@ -81,9 +81,8 @@ pub fn root_near(x: f64, t: f64) -> f64
     numbers::sqrt(x)
 }
 
-// About 1 / √x, to some 25 digits of 53, for an x whose exponent is not at either end: y is off by 4 parts in 100 at
-// most, and the polynomial is close to 1 / √z for such a z, which lies near 1.
-pub fn reciprocal_near(x: f64) -> f64 {
+// About 1 / √x, off by 4 parts in 100 at most, for an x whose exponent is not at either end.
+fn first_near(x: f64) -> f64 {
     if x != x {
         return 1.0;
     }
@@ -94,24 +93,29 @@ pub fn reciprocal_near(x: f64) -> f64 {
     if b >= 0x7f00_0000_0000_0000 {
         return 1.0;
     }
-    let y = f64::from_bits(0x5fe6_eb50_c7b5_37a9 - b / 2);
-    let z = (x * y) * y;
-    let zz = z * z;
-    let low = 2.4627354133645465 - 3.2870046880708483 * z;
-    let high = (2.9595983643586865 - 1.4091260004306325 * z) + 0.2737969094721971 * zz;
-    y * low + (y * zz) * high
+    f64::from_bits(0x5fe6_eb50_c7b5_37a9 - b / 2)
 }
 
-// A better guess at √x from g, near √x, and y, near 1 / √x. The upper digits of g have an exact square, so what that is
-// off by is exact too, and is divided by the root twice over. All but that waits for no more than the guesses, so they
-// can be made before x is known. For an x so far from 1 that y * y * y is past the exponents the guess is none.
+// The same to some 35 digits of 53: the polynomial is close to 1 / √z for the z, near 1, that the first guess leaves. Its parts are summed
+// side by side, so that few steps wait for each other.
+pub fn reciprocal_near(x: f64) -> f64 {
+    let y = first_near(x);
+    let z = (x * y) * y;
+    let zz = z * z;
+    let low = 2.935010477328131 - 5.877886421492257 * z;
+    let middle = 8.825201841196376 - 8.409656699529739 * z;
+    let high = (4.906466113583834 - 1.605400247525944 * z) + 0.22626493644073725 * zz;
+    (y * low + (y * zz) * middle) + ((y * zz) * zz) * high
+}
+
+// A better guess at √x from g, near √x, and y, near 1 / √x, both to some 35 digits. The upper digits s of g have an exact square, so what that is
+// off by is exact too, and times 1 / (√x + s) it is what s lacks. All but that waits for no more than the guesses, so they can be made before x
+// is known. For an x so far from 1 that y * y is past the exponents the guess is none.
 pub fn sharpened(x: f64, g: f64, y: f64) -> f64 {
     let wide = 134217728.0 * g;
     let s = (g + wide) - wide;
-    let over = (0.5 * y) * (2.0 - s * y);
-    let bend = (0.125 * y) * (y * y);
-    let off = x - s * s;
-    s + off * (over - off * bend)
+    let factor = 0.5 * y + (0.25 * (y * y)) * (g - s);
+    s + (x - s * s) * factor
 }
 
 // The square root of x, by a guess from x alone.

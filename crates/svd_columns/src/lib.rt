@@ -28,7 +28,7 @@ pub fn norms(work: &[f64], rows: usize, side: usize, s: &mut [f64])
 {
     let c = side * rows;
     for j in 0..side {
-        s[j] = numbers::sqrt(squares(work, c, j * rows, rows));
+        s[j] = root_guesses::root_of(squares(work, c, j * rows, rows));
     }
 }
 

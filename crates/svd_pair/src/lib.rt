@@ -7,6 +7,7 @@ ghost use mathlib.Core.Path.{_≡_};
 ghost use Prim.Native.Nat.{_+_, _*_, _<_, _≤_};
 ghost use lib.ListN.{length};
 ghost use Rattle.complex.specs.Arithmetic.{scaled};
+ghost use Rattle.complex.specs.Planes.{setPlane};
 ghost use Rattle.complex.specs.Zeros.{zeroFloat};
 ghost use Rattle.svd_pair.specs.Decisions.{verdict, decisionOf, tangentOf, turnAt};
 ghost use Rattle.svd_pair.specs.Turns.{turnFactors, newP, newQ, turnRow, turnRows, applied};
@@ -139,19 +140,53 @@ fn turn_row(xs: &mut [f64], c: usize, i: usize, j: usize, f: Factors)
     complex::write_plane(xs, c, j, f.new_q(ap, z, aq));
 }
 
+// The cells i and i + 1 of a matrix of c cells become u and w. The parts of one kind stand side by side and are stored together.
+fn write_two(xs: &mut [f64], c: usize, i: usize, u: Complex, w: Complex)
+    requires { ⌜ (length (now xs) ≡ 2 * c) × (i + 1 < c) ⌝ }
+    ensures { λ _. ⌜ now (xs .exit) ≡ setPlane (setPlane (now (xs .entry)) c i u) c (i + 1) w ⌝ }
+{
+    let next = i + 1;
+    let imaginary = c + i;
+    let last = c + i + 1;
+    xs[i] = u.re;
+    xs[next] = w.re;
+    xs[imaginary] = u.im;
+    xs[last] = w.im;
+}
+
+// Two rows of two columns, the cells i and j and those behind them: all are read before any is written, so that two rows are turned at a time.
+fn turn_two(xs: &mut [f64], c: usize, i: usize, j: usize, f: Factors)
+    requires { ⌜ (length (now xs) ≡ 2 * c) × (i + 1 < j) × (j + 1 < c) × RealTurn f ⌝ }
+    ensures { λ _. ⌜ now (xs .exit) ≡ turnRow f c (i + 1) (j + 1) (turnRow f c i j (now (xs .entry))) ⌝ }
+{
+    let ap = complex::read_plane(xs, c, i);
+    let aq = complex::read_plane(xs, c, j);
+    let bp = complex::read_plane(xs, c, i + 1);
+    let bq = complex::read_plane(xs, c, j + 1);
+    let az = ap.scale(0.0);
+    let bz = bp.scale(0.0);
+    write_two(xs, c, i, f.new_p(ap, az, aq), f.new_p(bp, bz, bq));
+    write_two(xs, c, j, f.new_q(ap, az, aq), f.new_q(bp, bz, bq));
+}
+
 // The columns that start at the cells a and b, of m rows, are turned.
 pub fn turn_columns(xs: &mut [f64], c: usize, a: usize, b: usize, m: usize, f: Factors)
-    requires { ⌜ (length (now xs) ≡ 2 * c) × (a + m ≤ c) × (b + m ≤ c) × RealTurn f ⌝ }
+    requires { ⌜ (length (now xs) ≡ 2 * c) × (a + m ≤ b) × (b + m ≤ c) × RealTurn f ⌝ }
     ensures { λ _. ⌜ now (xs .exit) ≡ turnRows f c a b m (now (xs .entry)) ⌝ }
 {
-    for r in 0..m {
+    let mut r = 0;
+    while r + 1 < m {
+        turn_two(xs, c, a + r, b + r, f);
+        r += 2;
+    }
+    if r < m {
         turn_row(xs, c, a + r, b + r, f);
     }
 }
 
 // What is decided is done to two columns of m rows.
 pub fn apply(xs: &mut [f64], c: usize, a: usize, b: usize, m: usize, d: Decision)
-    requires { ⌜ (length (now xs) ≡ 2 * c) × (a + m ≤ c) × (b + m ≤ c) ⌝ }
+    requires { ⌜ (length (now xs) ≡ 2 * c) × (a + m ≤ b) × (b + m ≤ c) ⌝ }
     ensures { λ _. ⌜ now (xs .exit) ≡ applied d c a b m (now (xs .entry)) ⌝ }
 {
     match d {

@@ -1,39 +1,20 @@
 -- Laws of what `specs/Untouched.antt` defines. Assumes nothing.
-use mathlib.Core.Path.{_≡_, refl, ap, ap₂, _∙_}
+use mathlib.Core.Path.{_≡_, refl, ap, _∙_}
 use mathlib.Core.List.{List}
 use Prim.Native.Nat.{ℕ, zero, suc, _+_, _*_, _≤_, _<_}
 use native.Mathlib.Nat.{lt-of-not-le}
 use native.Mathlib.Omega.{arith}
-use lib.Ieee.{Float, nan}
-use lib.ListN.{set}
-use lib.Seq.{getD-set-other}
-use Rattle.complex.specs.declared.Complex.{Complex}
-use Rattle.complex.specs.Arithmetic.{complexOf}
-use Rattle.complex.specs.Planes.{planeAt, setPlane}
+use lib.Ieee.{Float}
+use Rattle.complex.specs.Planes.{planeAt}
 use Rattle.svd_pair.specs.declared.Factors.{Factors}
 use Rattle.svd_pair.specs.declared.Decision.{Decision}
 use Rattle.svd_pair.specs.declared.Decision.the-variants.{Leave, Turn}
 use Rattle.svd_gram.specs.Gram.{gramTo}
 use Rattle.svd_pair.specs.Decisions.{decisionOf}
-use Rattle.svd_pair.specs.Turns.{turnFactors, newP, newQ, turnRow, turnRows, applied}
+use Rattle.svd_pair.specs.Turns.{turnFactors, turnRows, applied}
+use Rattle.svd_pair.proofs.TurnsLaws.{row-other}
 use Rattle.svd_sweeps.proofs.SweepingLaws.{column-fits}
 use Rattle.svd_sweeps.specs.Untouched.{decisionAt}
-
--- another cell than the one that is set
-plane-other : (xs : List Float) (c x i : ℕ) (z : Complex) → x < c → i < c → (x ≡ i → ⊥) → planeAt (setPlane xs c i z) c x ≡ planeAt xs c x
-unfolding planeAt setPlane
-plane-other xs c x i z h g n =
-    let ys = set xs i (z .re) in
-    ap₂ complexOf
-    (getD-set-other ys (c + i) x (z .im) nan (λ e. omega arith) ∙ getD-set-other xs i x (z .re) nan n)
-    (getD-set-other ys (c + i) (c + x) (z .im) nan (λ e. n (omega arith)) ∙ getD-set-other xs i (c + x) (z .re) nan (λ e. omega arith))
-
-row-other : (f : Factors) (xs : List Float) (c x i j : ℕ) → x < c → i < c → j < c → (x ≡ i → ⊥) → (x ≡ j → ⊥)
-    → planeAt (turnRow f c i j xs) c x ≡ planeAt xs c x
-unfolding turnRow
-row-other f xs c x i j h hi hj ni nj =
-    let p = newP f (planeAt xs c i) (planeAt xs c j) in
-    plane-other (setPlane xs c i p) c x j (newQ f (planeAt xs c i) (planeAt xs c j)) h hj nj ∙ plane-other xs c x i p h hi ni
 
 rows-other : (f : Factors) (xs : List Float) (c x a b k : ℕ) → x < c → a + k ≤ c → b + k ≤ c
     → ((r : ℕ) → r < k → x ≡ a + r → ⊥) → ((r : ℕ) → r < k → x ≡ b + r → ⊥) → planeAt (turnRows f c a b k xs) c x ≡ planeAt xs c x

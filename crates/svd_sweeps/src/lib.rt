@@ -16,7 +16,7 @@ const MAX_SVD_SWEEPS: usize = 100;
 
 // What is decided for the pair p, q is done to V too, where there is one.
 fn apply_to_v(v: &mut [f64], n: usize, p: usize, q: usize, d: Decision)
-    requires { ⌜ VRoom n (length (now v)) × (n ≤ 64) × (p < n) × (q < n) ⌝ }
+    requires { ⌜ VRoom n (length (now v)) × (n ≤ 64) × (p < q) × (q < n) ⌝ }
     ensures { λ _. ⌜ now (v .exit) ≡ applied d (n * n) (p * n) (q * n) n (now (v .entry)) ⌝ }
 {
     if v.len() == 0 {
@@ -35,7 +35,7 @@ fn pair(
     q: usize,
     s: Sweeps,
 ) -> Sweeps
-    requires { ⌜ SweepRoom m n (length (now work)) (length (now v)) × (p < n) × (q < n) × (s .turned < 1000000) ⌝ }
+    requires { ⌜ SweepRoom m n (length (now work)) (length (now v)) × (p < q) × (q < n) × (s .turned < 1000000) ⌝ }
     ensures { λ r. ⌜ state (now (work .exit)) (now (v .exit)) r ≡ pairStep (svdPairing m n) p q (state (now (work .entry)) (now (v .entry)) s) ⌝ }
 {
     let a = p * m;

@@ -37,8 +37,8 @@ mul-squares c = omega (arith, col c)
 squares-requires : tie.Need-squares-requires Inv-loop μ-loop
 squares-requires c κs = (col c, search needs)
 
-sqrt-requires : tie.Need-sqrt-requires Inv-loop μ-loop
-sqrt-requires c κs = search needs
+root-of-requires : tie.Need-root-of-requires Inv-loop μ-loop
+root-of-requires c κs = search needs
 
 mul-s : tie.Need-mul-s Inv-loop μ-loop
 mul-s c = search needs
@@ -53,7 +53,7 @@ loop-less : tie.Need-loop-less Inv-loop μ-loop
 loop-less c = search needs
 
 loop-again : tie.Need-loop-again Inv-loop μ-loop
-loop-again c = (search needs, simp length-set (c .before .before .before .loop .inv .1), filled-turn _ _ _ (omega (arith, c .before .before .before .before .before .before .pre .2, c .before .before .loop-test .taken)) (c .before .before .before .loop .inv .2) (c .sqrt .ensures .0 ∙ ap sqrtOf (c .before .squares .ensures)))
+loop-again c = (search needs, simp length-set (c .before .before .before .loop .inv .1), filled-turn _ _ _ (omega (arith, c .before .before .before .before .before .before .pre .2, c .before .before .loop-test .taken)) (c .before .before .before .loop .inv .2) (c .root-of .ensures ∙ ap sqrtOf (c .before .squares .ensures)))
 
 same-length : tie.Need-same-length Inv-loop μ-loop
 same-length c = search needs
@@ -72,7 +72,7 @@ norms-spec =
     loop-holds
     mul-squares
     squares-requires
-    sqrt-requires
+    root-of-requires
     mul-s
     slice-write-s
     add-j

@@ -1,12 +1,12 @@
 -- `svd_pair::turn_columns` meets its contract. The loop's invariant: the list is that with the rows below r turned. Assumes nothing.
-use borrow.Author.Needs.{needs}
 use mathlib.Core.Path.{_≡_, refl}
-use Prim.Native.Nat.{ℕ, _≤_, _-_}
+use Prim.Native.Nat.{ℕ, _+_, _≤_, _-_}
 use lib.ListN.{length}
 use denote.Ref.{now}
 use Rattle.complex.proofs.Loops.{stop}
 use Rattle.svd_pair.specs.Turns.{turnRows}
-use Rattle.svd_pair.proofs.TurnsLaws.{turnRows-none, turnRows-more}
+use Rattle.svd_pair.proofs.TurnsLaws.{turnRows-none, turnRows-more, turnRows-two}
+use borrow.Author.Needs.{needs}
 use Rattle.svd_pair.proofs.turn_columns.Statement.{statement}
 use Rattle.svd_pair.proofs.turn_columns.Tie as tie
 
@@ -19,14 +19,17 @@ abbrev μ-loop : tie.MeasureT-loop
 loop-holds : tie.Need-loop-holds Inv-loop μ-loop
 loop-holds c = (search needs, refl, cc (turnRows-none _ _ _ _ _))
 
-add-turn-row : tie.Need-add-turn-row Inv-loop μ-loop
-add-turn-row c = search needs
+add-loop : tie.Need-add-loop Inv-loop μ-loop
+add-loop c = search needs
 
-add-turn-row-2 : tie.Need-add-turn-row-2 Inv-loop μ-loop
-add-turn-row-2 c = search needs
+add-turn-two : tie.Need-add-turn-two Inv-loop μ-loop
+add-turn-two c = search needs
 
-turn-row-requires : tie.Need-turn-row-requires Inv-loop μ-loop
-turn-row-requires c κs = search needs
+add-turn-two-2 : tie.Need-add-turn-two-2 Inv-loop μ-loop
+add-turn-two-2 c = search needs
+
+turn-two-requires : tie.Need-turn-two-requires Inv-loop μ-loop
+turn-two-requires c κs = search needs
 
 add-r : tie.Need-add-r Inv-loop μ-loop
 add-r c = search needs
@@ -37,15 +40,34 @@ loop-less c = search needs
 loop-again : tie.Need-loop-again Inv-loop μ-loop
 loop-again c =
     let turned = c .before .before in
-    (search needs, search needs, rw (turned .turn-row .ensures, turned .before .before .before .loop .inv .2, turnRows-more))
+    (search needs, search needs, rw (turned .turn-two .ensures, turned .before .before .before .loop .inv .2, turnRows-two))
+
+add-turn-row : tie.Need-add-turn-row Inv-loop μ-loop
+add-turn-row c = search needs
+
+add-turn-row-2 : tie.Need-add-turn-row-2 Inv-loop μ-loop
+add-turn-row-2 c = search needs
+
+turn-row-requires : tie.Need-turn-row-requires Inv-loop μ-loop
+turn-row-requires c κs = search needs
 
 same-length : tie.Need-same-length Inv-loop μ-loop
 same-length c = search needs
 
 returns : tie.Need-returns Inv-loop μ-loop
 returns c =
-    let a = c .before .before .before .args in
-    stop (λ (k : ℕ). turnRows (a .f) (a .c) (a .a) (a .b) k (now (a .xs))) (c .before .loop .inv .2) (search needs) (search needs)
+    let turned = c .before .before in
+    let loop = turned .before .before .before .before in
+    let a = loop .before .before .args in
+    stop (λ (k : ℕ). turnRows (a .f) (a .c) (a .a) (a .b) k (now (a .xs))) {k = loop .loop .r + 1} (rw (turned .turn-row .ensures, loop .loop .inv .2, ← turnRows-more (a .f) (a .c) (a .a) (a .b) (loop .loop .r) (now (a .xs)))) (search needs) (search needs)
+
+same-length-2 : tie.Need-same-length-2 Inv-loop μ-loop
+same-length-2 c = search needs
+
+returns-2 : tie.Need-returns-2 Inv-loop μ-loop
+returns-2 c =
+    let a = c .before .before .before .before .args in
+    stop (λ (k : ℕ). turnRows (a .f) (a .c) (a .a) (a .b) k (now (a .xs))) (c .before .before .loop .inv .2) (search needs) (search needs)
 
 pub turn-columns-spec : {M : Type 1} → statement M
 turn-columns-spec =
@@ -54,11 +76,17 @@ turn-columns-spec =
     Inv-loop
     μ-loop
     loop-holds
-    add-turn-row
-    add-turn-row-2
-    turn-row-requires
+    add-loop
+    add-turn-two
+    add-turn-two-2
+    turn-two-requires
     add-r
     loop-less
     loop-again
+    add-turn-row
+    add-turn-row-2
+    turn-row-requires
     same-length
-    returns)
+    returns
+    same-length-2
+    returns-2)

@@ -7,8 +7,8 @@ use Rattle.svd_sweeps.proofs.SweepingLaws.{column-fits, v-none}
 use Rattle.svd_sweeps.proofs.apply_to_v.Statement.{statement}
 use Rattle.svd_sweeps.proofs.apply_to_v.Tie as tie
 
--- each of the columns ends within V, which is small
-p-fits : (c : tie.Start) → c .args .p * c .args .n + c .args .n ≤ c .args .n * c .args .n
+-- the column p ends before the column q begins, and that within V, which is small
+p-fits : (c : tie.Start) → c .args .p * c .args .n + c .args .n ≤ c .args .q * c .args .n
 p-fits c = column-fits _ _ _ (c .pre .2)
 
 q-fits : (c : tie.Start) → c .args .q * c .args .n + c .args .n ≤ c .args .n * c .args .n
@@ -24,7 +24,7 @@ mul-apply : tie.Need-mul-apply
 mul-apply c = omega (arith, small (c .before .before .before))
 
 mul-apply-2 : tie.Need-mul-apply-2
-mul-apply-2 c = omega (arith, small (c .before .before .before), p-fits (c .before .before .before))
+mul-apply-2 c = omega (arith, small (c .before .before .before), p-fits (c .before .before .before), q-fits (c .before .before .before))
 
 mul-apply-3 : tie.Need-mul-apply-3
 mul-apply-3 c = omega (arith, small (c .before .before .before), q-fits (c .before .before .before))

@@ -7,15 +7,15 @@ use borrow.Author.Needs.{needs}
 use Rattle.svd_sweeps.proofs.pair.Statement.{statement}
 use Rattle.svd_sweeps.proofs.pair.Tie as tie
 
--- each of the columns ends within its matrix
-work-p : (c : tie.Start) → c .args .p * c .args .m + c .args .m ≤ c .args .n * c .args .m
+-- the column p ends before the column q begins, and that within the matrix
+work-p : (c : tie.Start) → c .args .p * c .args .m + c .args .m ≤ c .args .q * c .args .m
 work-p c = column-fits _ _ _ (c .pre .1)
 
 work-q : (c : tie.Start) → c .args .q * c .args .m + c .args .m ≤ c .args .n * c .args .m
 work-q c = column-fits _ _ _ (c .pre .2)
 
 mul-a : tie.Need-mul-a
-mul-a c = omega (arith, work-p (c .before .before))
+mul-a c = omega (arith, work-p (c .before .before), work-q (c .before .before))
 
 mul-b : tie.Need-mul-b
 mul-b c = omega (arith, work-q (c .before .before))
