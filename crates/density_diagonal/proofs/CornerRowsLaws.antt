@@ -16,7 +16,8 @@ use Rattle.density_entries.specs.Squares.{Square, entryAt}
 use Rattle.density_entries.proofs.MirroredLaws.{cell-in, same-row, same-column}
 use Rattle.density_entries.specs.Pairs.{setPair, RowIs}
 use Rattle.density_entries.proofs.PairsLaws.{length-setPair, past-pair, row-more, entry-kept}
-use Rattle.density_entries.specs.Filled.{PairTurns, LowerTurns}
+use Rattle.density_entries.specs.Filled.{LowerTurns}
+use Rattle.density_diagonal.specs.LeftRows.{LeftTurns}
 use Rattle.density_diagonal.specs.CornerRows.{cornerSet, cornerFilled}
 
 -- the two writes that set them
@@ -51,7 +52,7 @@ above-kept dim f old now t r c z h hc i = record {
 }
 
 module _ (dim : ℕ) (f : ℕ → ℕ → Complex) (old now mid : List Float) (t : ℕ) (p : Square dim old) (h : 2 * t + 1 < dim)
-    (i : LowerTurns dim f old now t) (j : PairTurns dim t f now mid t) where
+    (i : LowerTurns dim f old now t) (j : LeftTurns dim t f now mid t) where
   abbrev one : List Float
   one = setCell mid (2 * t * dim + 2 * t) (f (2 * t) (2 * t))
 
@@ -99,7 +100,7 @@ module _ (dim : ℕ) (f : ℕ → ℕ → Complex) (old now mid : List Float) (t
         (λ (g : r < 2 * t + 1).
         ⊎-elim
         (λ (e : r ≡ 2 * t). ap (λ (x : ℕ). entryAt end dim x c) e ∙ upper c (omega arith) ∙ ap (λ (x : ℕ). f x c) (sym e))
-        (λ (l : r < 2 * t). kept r c (omega arith) (λ e. omega arith) ∙ one-other r c (omega arith) (λ e. omega arith) ∙ j .kept r c l (omega arith) ∙ i .rows r c l hc)
+        (λ (l : r < 2 * t). kept r c (omega arith) (λ e. omega arith) ∙ one-other r c (omega arith) (λ e. omega arith) ∙ j .kept r c l hc ∙ i .rows r c l hc)
         (eq-or-lt-of-le (omega arith)))
         (eq-or-lt-of-le (omega arith));
   }

@@ -1,3 +1,4 @@
 -- What the contracts of `density_diagonal` cite.
 pub mod Corners
+pub mod LeftRows
 pub mod CornerRows

@@ -1,6 +1,7 @@
 // The lower half of a density with the diagonal blocks summed without imaginary parts, which are +0.0 there. Inner: densities
 // stands on it.
 use complex::Complex;
+use density_entries::Block;
 ghost use mathlib.Core.Path.{_≡_};
 ghost use mathlib.Core.Bool.{true};
 ghost use Prim.Native.Nat.{_+_, _*_, _/_, _<_, _≤_};
@@ -9,6 +10,7 @@ ghost use Rattle.density_entries.specs.Squares.{Square};
 ghost use Rattle.density_entries.specs.Blocks.{Reach};
 ghost use Rattle.density_entries.specs.Filled.{tableEntry, EntriesReady, LowerTurns};
 ghost use Rattle.density_diagonal.specs.Corners.{cornerTurn, CornerSums};
+ghost use Rattle.density_diagonal.specs.LeftRows.{acrossSet, LeftTurns};
 ghost use Rattle.density_diagonal.specs.CornerRows.{cornerFilled};
 
 // A diagonal block: the real parts of its two entries on the diagonal, and the entry below them.
@@ -82,6 +84,65 @@ fn fill_corner(
     complex::write_cell(out, r * dim + below, both);
 }
 
+// The sums of a block of the rows r and r + 1 and the columns c and c + 1, left of the diagonal, in the four cells across it, where the
+// mirror writes last: paired so that the back end sums two in one register, whose factors it finds in two rows and two columns each.
+fn write_across(out: &mut [f64], dim: usize, r: usize, c: usize, block: Block)
+    requires { ⌜ Square dim (now out) × (c + 1 < dim) × (r + 1 < dim) ⌝ }
+    ensures { λ _. ⌜ now (out .exit) ≡ acrossSet (now (out .entry)) dim r c block ⌝ }
+{
+    let p = block.first;
+    let q = block.second;
+    let s = block.third;
+    let z = block.fourth;
+    let next = c + 1;
+    let x = Complex::new(p.re, z.re);
+    let y = Complex::new(p.im, z.im);
+    density_entries::write_pair(out, dim, c, r, x, y);
+    let v = Complex::new(q.re, s.re);
+    let w = Complex::new(q.im, s.im);
+    density_entries::write_pair(out, dim, next, r, v, w);
+}
+
+// The rows 2t and 2t + 1 left of the diagonal block, a block at a time.
+fn fill_left(
+    state: &[f64],
+    n: usize,
+    mask: usize,
+    groups: usize,
+    offsets: &[usize],
+    dim: usize,
+    t: usize,
+    out: &mut [f64],
+)
+    requires { ⌜ EntriesReady n (now state) mask (now offsets) dim ⌝ }
+    requires { ⌜ Square dim (now out) × (2 * t + 1 < dim) ⌝ }
+    ensures { λ _. ⌜ LeftTurns dim t (tableEntry n (now (state .entry)) mask groups (now (offsets .entry))) (now (out .entry)) (now (out .exit)) t ⌝ }
+{
+    let r = 2 * t;
+    let below = r + 1;
+    let a0 = offsets[r];
+    let a1 = offsets[below];
+    let mut u: usize = 0;
+    while u < t {
+        let c = 2 * u;
+        let next = c + 1;
+        let block = density_entries::block_sums(
+            state,
+            n,
+            mask,
+            groups,
+            a0,
+            a1,
+            offsets[c],
+            offsets[next],
+        );
+        density_entries::write_pair(out, dim, r, c, block.first, block.second);
+        density_entries::write_pair(out, dim, below, c, block.third, block.fourth);
+        write_across(out, dim, r, c, block);
+        u += 1;
+    }
+}
+
 // The lower half in blocks, two rows after two.
 fn fill_blocks(
     state: &[f64],
@@ -99,7 +160,7 @@ fn fill_blocks(
     let half = dim / 2;
     let mut t: usize = 0;
     while t < half {
-        density_entries::fill_row_pair(state, n, mask, groups, offsets, dim, t, t, out);
+        fill_left(state, n, mask, groups, offsets, dim, t, out);
         fill_corner(state, n, mask, groups, offsets, dim, t, out);
         t += 1;
     }

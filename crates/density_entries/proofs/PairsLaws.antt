@@ -27,7 +27,7 @@ past-pair s dim r c x y hr hc =
     past-cells (setCell s (r * dim + c) x) (dim * dim) (r * dim + c + 1) y (omega arith) ∙ past-cells s (dim * dim) (r * dim + c) x (omega arith)
 
 -- an entry of another row, or of another column
-pair-other : (s : List Float) (dim r c : ℕ) (x y : Complex) (r′ c′ : ℕ) → c + 1 < dim → c′ < dim → (r′ ≡ r → c′ ≡ c → ⊥) → (r′ ≡ r → c′ ≡ c + 1 → ⊥)
+pub pair-other : (s : List Float) (dim r c : ℕ) (x y : Complex) (r′ c′ : ℕ) → c + 1 < dim → c′ < dim → (r′ ≡ r → c′ ≡ c → ⊥) → (r′ ≡ r → c′ ≡ c + 1 → ⊥)
     → entryAt (setPair s dim r c x y) dim r′ c′ ≡ entryAt s dim r′ c′
 unfolding setPair
 pair-other s dim r c x y r′ c′ hc hc′ g h =

@@ -37,7 +37,7 @@ impl Block {
 }
 
 // Four entries' sums over the submasks of mask, rising.
-fn block_sums(
+pub fn block_sums(
     state: &[f64],
     n: usize,
     mask: usize,
@@ -81,8 +81,8 @@ pub fn write_pair(out: &mut [f64], dim: usize, r: usize, c: usize, x: Complex, y
     complex::write_cell(out, at + 1, y);
 }
 
-// The rows 2t and 2t + 1 left of the column 2 * stop, a block at a time. What a block has above the diagonal is left to the mirror.
-pub fn fill_row_pair(
+// The rows 2t and 2t + 1 up to the diagonal, a block at a time. What a block has above it is left to the mirror.
+fn fill_row_pair(
     state: &[f64],
     n: usize,
     mask: usize,
@@ -90,17 +90,17 @@ pub fn fill_row_pair(
     offsets: &[usize],
     dim: usize,
     t: usize,
-    stop: usize,
     out: &mut [f64],
 )
     requires { ⌜ EntriesReady n (now state) mask (now offsets) dim ⌝ }
-    requires { ⌜ Square dim (now out) × (2 * t + 1 < dim) × (stop ≤ t + 1) ⌝ }
-    ensures { λ _. ⌜ PairTurns dim t (tableEntry n (now (state .entry)) mask groups (now (offsets .entry))) (now (out .entry)) (now (out .exit)) stop ⌝ }
+    requires { ⌜ Square dim (now out) × (2 * t + 1 < dim) ⌝ }
+    ensures { λ _. ⌜ PairTurns dim t (tableEntry n (now (state .entry)) mask groups (now (offsets .entry))) (now (out .entry)) (now (out .exit)) (t + 1) ⌝ }
 {
     let r = 2 * t;
     let below = r + 1;
     let a0 = offsets[r];
     let a1 = offsets[below];
+    let stop = t + 1;
     let mut u: usize = 0;
     while u < stop {
         let c = 2 * u;
@@ -129,7 +129,7 @@ pub fn fill_lower(
     let half = dim / 2;
     let mut t: usize = 0;
     while t < half {
-        fill_row_pair(state, n, mask, groups, offsets, dim, t, t + 1, out);
+        fill_row_pair(state, n, mask, groups, offsets, dim, t, out);
         t += 1;
     }
 }

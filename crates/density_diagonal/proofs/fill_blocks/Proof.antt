@@ -17,11 +17,11 @@ abbrev μ-loop : tie.MeasureT-loop
 loop-holds : tie.Need-loop-holds Inv-loop μ-loop
 loop-holds c = lower-begin _ _ _
 
-fill-row-pair-requires : tie.Need-fill-row-pair-requires Inv-loop μ-loop
-fill-row-pair-requires c κs = let z = c .before .before .before .before .before .before in (z .pre .0 .0, (record { small = z .pre .1 .small; room = omega (arith, z .pre .1 .room, c .before .before .loop .inv .long) }, omega (arith, z .pre .0 .0 .even), omega arith))
+fill-left-requires : tie.Need-fill-left-requires Inv-loop μ-loop
+fill-left-requires c κs = let z = c .before .before .before .before .before .before in (z .pre .0 .0, (record { small = z .pre .1 .small; room = omega (arith, z .pre .1 .room, c .before .before .loop .inv .long) }, omega (arith, z .pre .0 .0 .even)))
 
 fill-corner-requires : tie.Need-fill-corner-requires Inv-loop μ-loop
-fill-corner-requires c κs = let z = c .before .before .before .before .before .before .before .before .before .before in (z .pre .0, (record { small = z .pre .1 .small; room = omega (arith, z .pre .1 .room, c .before .before .before .before .before .before .loop .inv .long, c .before .before .before .fill-row-pair .ensures .long) }, omega (arith, z .pre .0 .0 .even)))
+fill-corner-requires c κs = let z = c .before .before .before .before .before .before .before .before .before .before in (z .pre .0, (record { small = z .pre .1 .small; room = omega (arith, z .pre .1 .room, c .before .before .before .before .before .before .loop .inv .long, c .before .before .before .fill-left .ensures .long) }, omega (arith, z .pre .0 .0 .even)))
 
 add-t : tie.Need-add-t Inv-loop μ-loop
 add-t c = let z = c .before .before .before .before .before .before .before .before .before .before .before .before .before in omega (arith, z .pre .1 .small)
@@ -30,7 +30,7 @@ loop-less : tie.Need-loop-less Inv-loop μ-loop
 loop-less c = search needs
 
 loop-again : tie.Need-loop-again Inv-loop μ-loop
-loop-again c = let z = c .before .before .before .before .before .before .before .before .before .before .before .before .before in corner-lower _ _ _ _ _ _ (z .pre .1) (omega (arith, z .pre .0 .0 .even)) (c .before .before .before .before .before .before .before .before .before .loop .inv) (c .before .before .before .before .before .before .fill-row-pair .ensures) _ (c .before .before .fill-corner .ensures)
+loop-again c = let z = c .before .before .before .before .before .before .before .before .before .before .before .before .before in corner-lower _ _ _ _ _ _ (z .pre .1) (omega (arith, z .pre .0 .0 .even)) (c .before .before .before .before .before .before .before .before .before .loop .inv) (c .before .before .before .before .before .before .fill-left .ensures) _ (c .before .before .fill-corner .ensures)
 
 same-length : tie.Need-same-length Inv-loop μ-loop
 same-length c = c .before .loop .inv .long
@@ -45,7 +45,7 @@ fill-blocks-spec =
     Inv-loop
     μ-loop
     loop-holds
-    fill-row-pair-requires
+    fill-left-requires
     fill-corner-requires
     add-t
     loop-less

@@ -16,11 +16,8 @@ abbrev μ-loop : tie.MeasureT-loop
 loop-holds : tie.Need-loop-holds Inv-loop μ-loop
 loop-holds c = lower-begin _ _ _
 
-add-fill-row-pair : tie.Need-add-fill-row-pair Inv-loop μ-loop
-add-fill-row-pair c = let z = c .before .before .before .before .before in omega (arith, z .pre .1 .small)
-
 fill-row-pair-requires : tie.Need-fill-row-pair-requires Inv-loop μ-loop
-fill-row-pair-requires c κs = let z = c .before .before .before .before .before .before in (z .pre .0, (record { small = z .pre .1 .small; room = omega (arith, z .pre .1 .room, c .before .before .loop .inv .long) }, omega (arith, z .pre .0 .even), omega arith))
+fill-row-pair-requires c κs = let z = c .before .before .before .before .before .before in (z .pre .0, (record { small = z .pre .1 .small; room = omega (arith, z .pre .1 .room, c .before .before .loop .inv .long) }, omega (arith, z .pre .0 .even)))
 
 add-t : tie.Need-add-t Inv-loop μ-loop
 add-t c = let z = c .before .before .before .before .before .before .before .before .before in omega (arith, z .pre .1 .small)
@@ -44,7 +41,6 @@ fill-lower-spec =
     Inv-loop
     μ-loop
     loop-holds
-    add-fill-row-pair
     fill-row-pair-requires
     add-t
     loop-less
