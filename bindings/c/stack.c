@@ -168,7 +168,7 @@ static const struct {
     const char *name;
     void (*call)(void);
     size_t most;
-} CALLS[] = {{"zg_pages_agree", pages, 320 * KB},
+} CALLS[] = {{"zg_pages_agree", pages, 96 * KB},
              {"zg_dense_reduced_density", density, 96 * KB},
              {"numbers", numbers, 16 * KB},
              {"zg_validate_qubit_set", qubit_set, 16 * KB},
@@ -202,7 +202,7 @@ static const struct {
              {"zg_planned_schmidt_values", planned_values, 16 * KB},
              {"zg_planned_reduced_density", planned_density, 96 * KB},
              {"zg_certificate", certificate, 96 * KB},
-             {"zg_certificate_pages", certificate_pages, 320 * KB}};
+             {"zg_certificate_pages", certificate_pages, 160 * KB}};
 
 static void *run(void *call) {
     (*(void (**)(void))call)();

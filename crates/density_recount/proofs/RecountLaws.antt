@@ -177,6 +177,13 @@ module _ (l : List ℕ) (n : ℕ) (p : Parted l n) (z : Layout) (ez : z ≡ layo
       rw (ez, b, d) (omega arith))
       (le-or-lt (length l) (n - length l))
 
+  -- an entry by the table is the entry from the cut matrix
+  pub entry-is : (m : List Float) (dim : ℕ) (old table : List ℕ) (t u : ℕ) → Numbers l n (z .scale) dim old table dim → t < dim → u < dim
+      → tableEntry n m (z .mask) (2 ^ (n - length l)) table t u ≡ cutEntry n l m t u
+  entry-is m dim old table t u i ht hu =
+      ap₂ (entrySum n m (z .mask) (2 ^ (n - length l))) (i .are t ht) (i .are u hu)
+      ∙ total-same (2 ^ (n - length l)) _ _ (λ e h. ap₂ (λ (x y : ℕ). product (cellAt m x) (conjugate (cellAt m y))) (place-is t e h) (place-is u e h))
+
 -- ---- the table
 
 pub scaled-small : (n mask x y scale : ℕ) → n ≤ 12 → y ≡ submaskNumber n mask x → scale ≤ 4096 → y * scale ≤ 16777216
@@ -233,21 +240,13 @@ module _ (m : List Float) (n : ℕ) (l : List ℕ) (o : List Float) (p : Recount
     below = λ k h. rw (t .are k h) (number-in l n (p .parted) z ez k);
   }
 
-  -- an entry by the table is the entry from the cut matrix
-  entry-is : (dim : ℕ) (old table : List ℕ) (t u : ℕ) → Numbers l n (z .scale) dim old table dim → t < dim → u < dim
-      → tableEntry n m (z .mask) (2 ^ (n - length l)) table t u ≡ cutEntry n l m t u
-  entry-is dim old table t u i ht hu =
-      ap₂ (entrySum n m (z .mask) (2 ^ (n - length l))) (i .are t ht) (i .are u hu)
-      ∙ total-same (2 ^ (n - length l)) _ _
-      (λ e h. ap₂ (λ (x y : ℕ). product (cellAt m x) (conjugate (cellAt m y))) (place-is l n (p .parted) z ez t e h) (place-is l n (p .parted) z ez u e h))
-
   pub recount-end : (dim groups : ℕ) (old table : List ℕ) (mid end : List Float) → dim ≡ 2 ^ length l → Numbers l n (z .scale) dim old table dim
       → groups ≡ 2 ^ (n - length l) → LowerTurns dim (tableEntry n m (z .mask) groups table) o mid (dim / 2) → end ≡ mirrored mid dim
       → end ≡ recounted n l m o
   recount-end dim groups old table mid end e t eg i ee =
       let ev : dim % 2 ≡ 0 = rw e (even-power (length l) (p .some)) in
       let rows : (r c : ℕ) → r < dim → c ≤ r → entryAt mid dim r c ≡ cutEntry n l m r c
-      = λ r c hr hc. i .rows r c (omega arith) hc ∙ rw eg (entry-is dim old table r c t hr (omega arith)) in
+      = λ r c hr hc. i .rows r c (omega arith) hc ∙ rw eg (entry-is l n (p .parted) z ez m dim old table r c t hr (omega arith)) in
       ee ∙ mirrored-whole (cutEntry n l m) o mid dim (i .surplus) rows
       ∙ ap (λ (d : ℕ). written (d * d) (rowMajor d (mirroredEntry (cutEntry n l m))) o) e
 

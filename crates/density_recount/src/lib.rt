@@ -69,7 +69,8 @@ pub struct Layout {
     pub scale: usize,
 }
 
-fn layout_of(named: bool, rows: usize, size: usize) -> Layout
+// Inner. The layout of a matrix of `size` cells, whose rows are the named qubits' or the others'.
+pub fn layout_of(named: bool, rows: usize, size: usize) -> Layout
     requires { ⌜ (1 ≤ rows) × (rows ≤ size) ⌝ }
     ensures { λ r. ⌜ r ≡ layoutOf named rows size ⌝ }
 {
@@ -85,8 +86,8 @@ fn layout_of(named: bool, rows: usize, size: usize) -> Layout
     }
 }
 
-// The table of the settings' numbers, scaled, of the t below dim.
-fn fill_numbers(
+// Inner. The table of the settings' numbers, scaled, of the t below dim.
+pub fn fill_numbers(
     list: &[usize],
     n: usize,
     mask: usize,

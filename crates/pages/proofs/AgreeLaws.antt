@@ -1,9 +1,8 @@
--- Laws of the check: a turn of the comparing loop, the ways out of each stage, that the two densities are the same
--- list, and that only one outcome meets the contract. Assumes nothing.
+-- Laws of the check: a turn of the comparing loop, the ways out of each stage, and that the two densities are the same. Assumes nothing.
 use mathlib.Core.Bool.{Bool, true, false, _&&_, true≢false}
 use mathlib.Core.Path.{_≡_, refl, sym, ap, ap₂, _∙_}
 use mathlib.Core.List.{List, [], _∷_}
-use Prim.Native.Nat.{ℕ, suc, _+_, _*_, _^_, _≤_, _<_}
+use Prim.Native.Nat.{ℕ, suc, _+_, _-_, _*_, _/_, _^_, _≤_, _<_}
 use native.Mathlib.Omega.{arith}
 use native.Mathlib.Numerals.{add-one}
 use borrow.Author.Tests.{eq-eqb, ne-eqb, eqb-true}
@@ -15,22 +14,34 @@ use lib.Seq.{drop-cons}
 use Rattle.answers.specs.declared.Answer.{Answer}
 use Rattle.answers.specs.declared.Answer.the-variants.{Done}
 use Rattle.answers.specs.Paper.{Reply, paper, andThen, ifDone}
-use Rattle.answers.proofs.PaperLaws.{andThen-done, stays, done-new, done-old}
+use Rattle.answers.proofs.PaperLaws.{andThen-done, stays, done-old}
 use Rattle.complex.specs.Cells.{written, components}
-use Rattle.cut_sides.specs.Sides.{cutRefusal, Parted}
+use Rattle.submasks.specs.Submasks.{others}
+use Rattle.submasks.proofs.SubmaskLaws.{others-lt}
+use Rattle.qubits.specs.Lists.{subsystem}
+use Rattle.qubits.specs.Spread.{named}
+use Rattle.qubits.proofs.SpreadLaws.{spread-lt}
+use Rattle.cut_sides.specs.Sides.{cutSizes, cutRefusal, Parted, side, namedRows}
 use Rattle.cuts.specs.Cut.{cutCell, cutLengths, cutAnswer, CutMatrix}
 use Rattle.cuts.proofs.CutLaws.{lengths-done}
-use Rattle.densities.specs.Density.{densityAnswer, densityList, Density}
-use Rattle.density_entries.specs.Entries.{densityCell}
-use Rattle.agreement.specs.FromCut.{cutDensityCell}
-use Rattle.agreement.proofs.SameDensity.{same-density}
-use Rattle.agreement.proofs.AgreementLaws.{density-left, written-same}
+use Rattle.densities.specs.Density.{densityAnswer, densityList}
+use Rattle.densities.proofs.DensityLaws.{side-small, even-power}
+use Rattle.density_entries.specs.Entries.{densityCell, settingAmplitude}
+use Rattle.density_entries.specs.Filled.{tableEntry, EntriesReady}
+use Rattle.density_entries.specs.OffsetLoop.{OffsetSteps}
+use Rattle.density_entries.proofs.EntryLaws.{table-entry}
+use Rattle.agreement.specs.FromCut.{cutAmplitude, cutDensityCell}
+use Rattle.agreement.proofs.SameDensity.{same-density, same-amplitude, entry-same}
+use Rattle.agreement.proofs.AgreementLaws.{written-same}
 use Rattle.agreement.proofs.Theorems.{cut-parted, cut-left}
-use Rattle.density_recount.specs.Recount.{recountSizes, recountAnswer, recounted, DensityFromCut}
+use Rattle.density_recount.specs.declared.Layout.{Layout}
+use Rattle.density_recount.specs.Recount.{recountSizes, recounted, layoutOf, Numbers}
+use Rattle.density_recount.proofs.RecountLaws.{mask-in, number-in, entry-is, sizes-done, parted-done}
 use Rattle.density_recount.proofs.Pages.{front}
-use Rattle.pages.specs.declared.Agreement.{Agreement}
-use Rattle.pages.proofs.Both.{goes, adds-nothing, density-done, recount-done}
-use Rattle.pages.specs.Agree.{sameFloats, Again, comparedAnswer, Compared, bothAnswer, pagesAnswer, pagesSame, Says}
+use Rattle.pages.specs.Agree.{sameFloats, bothAnswer, pagesAnswer, pagesSame, Says, Held}
+use Rattle.pages.specs.Blocks.{sameRows}
+use Rattle.pages.proofs.BlocksLaws.{and-false, rows-yes}
+use Rattle.pages.proofs.Both.{goes, matrix-length, density-accepted, density-done}
 
 -- ---- two lists
 
@@ -39,10 +50,6 @@ pub same-self : (a : List Float) → sameFloats a a ≡ true
 unfolding sameFloats
 same-self [] = refl
 same-self (x ∷ a) = ap (λ (t : Bool). t && sameFloats a a) (eq-eqb (toBits binary64 x) (toBits binary64 x) refl) ∙ same-self a
-
-and-false : (t : Bool) → (t && false) ≡ false
-and-false true = refl
-and-false false = refl
 
 and-both : (t u : Bool) → (t && u) ≡ true → (t ≡ true) × (u ≡ true)
 and-both true u h = (refl, h)
@@ -101,47 +108,7 @@ module _ (a : Answer) (x b : Reply) (e : paper a ≡ x) (h : paper a .0 ≡ 0 �
   says-no : (t : Bool) → false ≡ ifDone (andThen x b .0) t false
   says-no t = done-old (andThen x b .0) t false (λ z. h (ap (λ (r : Reply). r .0) stopped ∙ z))
 
--- ---- the density from the cut matrix
-
-module _ (m : List Float) (n : ℕ) (l : List ℕ) (cap : ℕ) (d o : List Float) (a : Answer) (end : List Float) (f : DensityFromCut m n l cap o a end) where
-  pub again-refused : (paper a .0 ≡ 0 → ⊥) → Again m n l cap d o (record { answer = a; yes = false })
-  again-refused h = record { answer = f .answer; same = done-old _ _ false (λ z. h (ap (λ (r : Reply). r .0) (f .answer) ∙ z)) }
-
-  pub again-done : (y : Bool) → a ≡ Done → y ≡ sameFloats d end → Again m n l cap d o (record { answer = Done; yes = y })
-  again-done y e ey =
-      let z = number a _ (f .answer) e in
-      record {
-        answer = ap paper (sym e) ∙ f .answer;
-        same =
-            ey ∙ ap (sameFloats d) (f .cells ∙ sym (done-new _ (recounted n l m o) o z))
-            ∙ done-new _ (sameFloats d (recounted n l m o)) false z;
-      }
-
--- ---- the state's density
-
-module _ (s m : List Float) (n : ℕ) (l : List ℕ) (cap : ℕ) (o w : List Float) (a : Answer) (d w' : List Float) (f : Density s n l cap o w a d w')
-    (eo : length o ≡ 8192) (ew : length w ≡ 128) where
-  density-said : paper a ≡ densityAnswer s n l cap 8192 128
-  density-said = f .answer ∙ ap₂ (densityAnswer s n l cap) eo ew
-
-  pub compared-refused : (paper a .0 ≡ 0 → ⊥) → Compared s m n l cap (record { answer = a; yes = false })
-  compared-refused h = record { room = o; answer = stopped a _ _ density-said h; same = says-no a _ _ density-said h _ }
-
-  pub compared-done : (r : Agreement) → a ≡ Done → Again m n l cap d o r → Compared s m n l cap r
-  compared-done r e g =
-      let D = densityAnswer s n l cap 8192 128 in
-      let R = recountAnswer m n l cap 8192 in
-      let z : R ≡ andThen D R = goes D R (number a D density-said e) in
-      let q : recountAnswer m n l cap (length o) ≡ andThen D R = ap (recountAnswer m n l cap) eo ∙ z in
-      record {
-        room = o;
-        answer = g .answer ∙ q;
-        same =
-            g .same ∙ ap₂ (λ (x : Reply) (y : List Float). ifDone (x .0) (sameFloats y (recounted n l m o)) false) q
-            (density-left s n l cap o w a d w' f (ap (λ (x : Answer). paper x .0) e));
-      }
-
--- ---- the cut, and the check
+-- ---- the cut
 
 cut-lengths : (s : List Float) (n : ℕ) (l : List ℕ) (cap o : ℕ) → cutAnswer s n l cap o .0 ≡ 0 → (length s ≡ 2 * 2 ^ n) × (2 * 2 ^ n ≤ o)
 cut-lengths s n l cap o e =
@@ -159,57 +126,95 @@ pub pages-same : (s : List Float) (n : ℕ) (l : List ℕ) → Parted l n → pa
 unfolding pagesSame
 pages-same s n l p = ap (sameFloats (densityList n l s [])) (same-densities s n l p []) ∙ same-self (densityList n l s [])
 
-module _ (s : List Float) (n : ℕ) (l : List ℕ) (cap : ℕ) (o : List Float) (a : Answer) (m : List Float) (f : CutMatrix s n l cap o a m) (eo : length o ≡ 8192) where
-  cut-said : paper a ≡ cutAnswer s n l cap 8192
-  cut-said = f .answer ∙ ap (cutAnswer s n l cap) eo
-
-  pub both-refused : (paper a .0 ≡ 0 → ⊥) → Says (bothAnswer s n l cap) (pagesSame s n l) (record { answer = a; yes = false })
-  both-refused h = record { answer = stopped a _ _ cut-said h; agree = says-no a _ _ cut-said h (pagesSame s n l) }
-
-  module _ (e : a ≡ Done) where
-    zero-said : paper a .0 ≡ 0
-    zero-said = ap (λ (x : Answer). paper x .0) e
-
-    state-length : length s ≡ 2 * 2 ^ n
-    state-length = cut-lengths s n l cap 8192 (number a _ cut-said e) .0
-
-    pub state-fits : length s ≤ 8192
-    state-fits = omega (arith, state-length, cut-lengths s n l cap 8192 (number a _ cut-said e) .1)
-
-    -- what was cut, as a matrix of its own
-    cut-matrix-is : take (length s) m ≡ written (2 ^ n) (cutCell s n l) []
-    cut-matrix-is =
-        ap (λ (k : ℕ). take k m) state-length ∙ ap (take (2 * 2 ^ n)) (cut-left s n l cap o a m f zero-said) ∙ front (2 ^ n) (cutCell s n l) o
-
-    -- the two densities
-    both-same : (room : List Float) → recounted n l (written (2 ^ n) (cutCell s n l) []) room ≡ densityList n l s room
-    both-same room = same-densities s n l (cut-parted s n l cap o a m f zero-said) room
-
-    pub both-done : (r : Agreement) → Compared s (take (length s) m) n l cap r → Says (bothAnswer s n l cap) (pagesSame s n l) r
-    both-done r g =
-        let W = written (2 ^ n) (cutCell s n l) [] in
-        let C = cutAnswer s n l cap 8192 in
-        let D = densityAnswer s n l cap 8192 128 in
-        let z = number a C cut-said e in
-        let q : comparedAnswer s (take (length s) m) n l cap ≡ bothAnswer s n l cap =
-        ap (λ (x : List Float). comparedAnswer s x n l cap) cut-matrix-is
-        ∙ adds-nothing D (recountAnswer W n l cap 8192) (λ h. recount-done s n l cap z h ∙ sym (density-done s n l cap z h)) ∙ goes C D z in
-        record {
-          answer = g .answer ∙ q;
-          agree =
-              g .same
-              ∙ ap₂ (λ (x : Reply) (y : Bool). ifDone (x .0) y false) q
-              (ap (sameFloats (densityList n l s (g .room))) (ap (λ (x : List Float). recounted n l x (g .room)) cut-matrix-is ∙ both-same (g .room))
-              ∙ same-self (densityList n l s (g .room)) ∙ sym (pages-same s n l (cut-parted s n l cap o a m f zero-said)));
-        }
-
--- ---- the sizes first
+-- ---- the check
 
 module _ (s : List Float) (n : ℕ) (l : List ℕ) (cap : ℕ) (a : Answer) (e : paper a ≡ recountSizes n (length l) cap) where
   pub pages-refused : (paper a .0 ≡ 0 → ⊥) → Says (pagesAnswer s n l cap) (pagesSame s n l) (record { answer = a; yes = false })
   pages-refused h = record { answer = stopped a _ _ e h; agree = says-no a _ _ e h (pagesSame s n l) }
 
-  pub pages-done : (r : Agreement) → a ≡ Done → Says (bothAnswer s n l cap) (pagesSame s n l) r → Says (pagesAnswer s n l cap) (pagesSame s n l) r
-  pages-done r d g =
-      let q = goes (recountSizes n (length l) cap) (bothAnswer s n l cap) (number a _ e d) in
-      record { answer = g .answer ∙ q; agree = g .agree ∙ ap (λ (x : Reply). ifDone (x .0) (pagesSame s n l) false) q }
+  -- past the sizes
+  module _ (d : a ≡ Done) (o : List Float) (b : Answer) (m : List Float) (f : CutMatrix s n l cap o b m) (eo : length o ≡ 8192) where
+    cut-said : paper b ≡ cutAnswer s n l cap 8192
+    cut-said = f .answer ∙ ap (cutAnswer s n l cap) eo
+
+    sizes-said : bothAnswer s n l cap ≡ pagesAnswer s n l cap
+    sizes-said = goes (recountSizes n (length l) cap) (bothAnswer s n l cap) (number a _ e d)
+
+    pub cut-refused : (paper b .0 ≡ 0 → ⊥) → Says (pagesAnswer s n l cap) (pagesSame s n l) (record { answer = b; yes = false })
+    cut-refused h = record {
+      answer = stopped b _ _ cut-said h ∙ sizes-said;
+      agree = says-no b _ _ cut-said h (pagesSame s n l) ∙ ap (λ (x : Reply). ifDone (x .0) (pagesSame s n l) false) sizes-said;
+    }
+
+    -- past the cut
+    module _ (z : b ≡ Done) where
+      zero-said : paper b .0 ≡ 0
+      zero-said = ap (λ (x : Answer). paper x .0) z
+
+      state-length : length s ≡ 2 * 2 ^ n
+      state-length = cut-lengths s n l cap 8192 (number b _ cut-said z) .0
+
+      pub state-fits : length s ≤ 8192
+      state-fits = omega (arith, state-length, cut-lengths s n l cap 8192 (number b _ cut-said z) .1)
+
+      -- what was cut, as a matrix of its own
+      pub held : Held s (take (length s) m) n l
+      held =
+          let g = andThen-done (cutRefusal l n cap) (andThen (cutLengths n (length s) 8192) (components 0 s)) (number b _ cut-said z) in
+          record {
+            parted = cut-parted s n l cap o b m f zero-said;
+            some = parted-done n l (andThen-done (cutSizes n cap) (subsystem n l) (g .0) .1) .1;
+            few = sizes-done n (length l) cap (number a _ e d) .1;
+            state = state-length;
+            matrix =
+                ap (λ (k : ℕ). take k m) state-length ∙ ap (take (2 * 2 ^ n)) (cut-left s n l cap o b m f zero-said) ∙ front (2 ^ n) (cutCell s n l) o;
+          }
+
+      -- THE ANSWER IS 0, AND YES IS THE COMPARISON
+      pub agreed : (y : Bool) → y ≡ pagesSame s n l → Says (pagesAnswer s n l cap) (pagesSame s n l) (record { answer = Done; yes = y })
+      agreed y ey =
+          let c = number b _ cut-said z in
+          let q : (0, 0) ≡ pagesAnswer s n l cap =
+          sym (density-done s n l cap c (density-accepted s n l cap (number a _ e d) c)) ∙ goes (cutAnswer s n l cap 8192) (densityAnswer s n l cap 8192 128) c ∙ sizes-said in
+          record { answer = q; agree = ey ∙ ap (λ (x : Reply). ifDone (x .0) (pagesSame s n l) false) q }
+
+-- ---- the comparison, a block at a time
+
+module _ (s m : List Float) (n : ℕ) (l : List ℕ) (p : Held s m n l) (dim : ℕ) (ed : dim ≡ 2 ^ length l) where
+  pub held-small : dim ≤ 64
+  held-small = rw ed (side-small (length l) (p .few))
+
+  pub held-state : (rest : ℕ) (old table : List ℕ) → rest ≡ others n (named l) → OffsetSteps l dim old table dim → dim ≤ length old
+      → EntriesReady n s rest table dim
+  held-state rest old table er t room = record {
+    small = p .parted .listed .small;
+    long = p .state;
+    mask-lt = rw er (others-lt n (named l));
+    even = rw ed (even-power (length l) (p .some));
+    table = omega (arith, t .long);
+    below = λ k h. rw (t .are k h) (spread-lt n l k (p .parted .listed .below));
+  }
+
+  module _ (z : Layout) (ez : z ≡ layoutOf (namedRows l n) (2 ^ side l n) (2 ^ n)) where
+    pub held-matrix : (old table : List ℕ) → Numbers l n (z .scale) dim old table dim → dim ≤ length old → EntriesReady n m (z .mask) table dim
+    held-matrix old table t room = record {
+      small = p .parted .listed .small;
+      long = ap length (p .matrix) ∙ matrix-length s n l;
+      mask-lt = mask-in l n (p .parted) z ez;
+      even = rw ed (even-power (length l) (p .some));
+      table = omega (arith, t .long);
+      below = λ k h. rw (t .are k h) (number-in l n (p .parted) z ez k);
+    }
+
+    -- THE BLOCKS ARE THE SAME, and so are the two densities
+    pub held-same : (rest groups : ℕ) (old table old′ table′ : List ℕ) (y : Bool) → rest ≡ others n (named l) → groups ≡ 2 ^ (n - length l)
+        → OffsetSteps l dim old table dim → Numbers l n (z .scale) dim old′ table′ dim
+        → y ≡ sameRows (tableEntry n s rest groups table) (tableEntry n m (z .mask) groups table′) (dim / 2) → y ≡ pagesSame s n l
+    held-same rest groups old table old′ table′ y er eg t t′ ey =
+        let entry : (r c : ℕ) → r < dim → c < dim → tableEntry n s rest groups table r c ≡ tableEntry n m (z .mask) groups table′ r c
+        = λ r c hr hc.
+        rw (er, eg, p .matrix)
+        (table-entry n l s old table dim r c (p .parted .listed) t hr hc
+        ∙ sym (entry-same (2 ^ (n - length l)) (cutAmplitude n l (written (2 ^ n) (cutCell s n l) [])) (settingAmplitude n l s) (same-amplitude n l (p .parted) s []) r c)
+        ∙ sym (entry-is l n (p .parted) z ez (written (2 ^ n) (cutCell s n l) []) dim old′ table′ r c t′ hr hc)) in
+        ey ∙ rows-yes _ _ dim entry (dim / 2) (omega arith) ∙ sym (pages-same s n l (p .parted))

@@ -2,15 +2,16 @@
 use mathlib.Core.Bool.{Bool, true, false, _&&_}
 use mathlib.Core.Path.{_≡_}
 use mathlib.Core.List.{List, [], _∷_}
-use Prim.Native.Nat.{ℕ, _^_}
+use Prim.Native.Nat.{ℕ, _*_, _^_, _≤_}
 use lib.Dec.{eqb}
 use lib.Ieee.{Float, binary64, toBits}
 use lib.ListN.{length}
 use Rattle.answers.specs.Paper.{Reply, paper, andThen, ifDone}
 use Rattle.complex.specs.Cells.{written}
+use Rattle.cut_sides.specs.Sides.{Parted}
 use Rattle.cuts.specs.Cut.{cutAnswer, cutCell}
 use Rattle.densities.specs.Density.{densityAnswer, densityList}
-use Rattle.density_recount.specs.Recount.{recountSizes, recountAnswer, recounted}
+use Rattle.density_recount.specs.Recount.{recountSizes, recounted}
 use Rattle.pages.specs.declared.Agreement.{Agreement}
 
 -- the same length, and the same bits throughout
@@ -19,21 +20,6 @@ sameFloats [] [] = true
 sameFloats [] (y ∷ b) = false
 sameFloats (x ∷ a) [] = false
 sameFloats (x ∷ a) (y ∷ b) = eqb (toBits binary64 x) (toBits binary64 y) && sameFloats a b
-
--- the density summed from the matrix m into o, held against d
-pub record Again (m : List Float) (n : ℕ) (l : List ℕ) (cap : ℕ) (d o : List Float) (r : Agreement) : Type 0 where
-  pub answer : paper (r .answer) ≡ recountAnswer m n l cap (length o)
-  pub same : r .yes ≡ ifDone (recountAnswer m n l cap (length o) .0) (sameFloats d (recounted n l m o)) false
-
--- the answer of a state's density, then that of the density from the matrix m
-abbrev pub comparedAnswer : List Float → List Float → ℕ → List ℕ → ℕ → Reply
-comparedAnswer s m n l cap = andThen (densityAnswer s n l cap 8192 128) (recountAnswer m n l cap 8192)
-
--- the two densities, over a list that both began with
-pub record Compared (s m : List Float) (n : ℕ) (l : List ℕ) (cap : ℕ) (r : Agreement) : Type 0 where
-  pub room : List Float
-  pub answer : paper (r .answer) ≡ comparedAnswer s m n l cap
-  pub same : r .yes ≡ ifDone (comparedAnswer s m n l cap .0) (sameFloats (densityList n l s room) (recounted n l m room)) false
 
 -- the cut's answer, then the density's, over arrays that are long enough for both: an answer 6 is only the state's
 abbrev pub bothAnswer : List Float → ℕ → List ℕ → ℕ → Reply
@@ -52,3 +38,11 @@ pagesSame s n l = sameFloats (densityList n l s []) (recounted n l (written (2 ^
 pub record Says (a : Reply) (same : Bool) (r : Agreement) : Type 0 where
   pub answer : paper (r .answer) ≡ a
   pub agree : r .yes ≡ ifDone (a .0) same false
+
+-- what the comparison asks: an accepted list of at most six qubits, the state, and its cut matrix
+pub record Held (s m : List Float) (n : ℕ) (l : List ℕ) : Type 0 where
+  pub parted : Parted l n
+  pub some : 1 ≤ length l
+  pub few : length l ≤ 6
+  pub state : length s ≡ 2 * 2 ^ n
+  pub matrix : m ≡ written (2 ^ n) (cutCell s n l) []

@@ -1,2 +1,3 @@
 -- What the contracts of `pages` cite.
 pub mod Agree
+pub mod Blocks
