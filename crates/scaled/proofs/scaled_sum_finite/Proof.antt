@@ -20,8 +20,14 @@ abbrev μ-loop : tie.MeasureT-loop
 returns : tie.Need-returns Inv-loop μ-loop
 returns c = λ h. absurd (true≢false (sym h))
 
+looks-slow-requires : tie.Need-looks-slow-requires Inv-loop μ-loop
+looks-slow-requires c κs = search needs
+
+returns-2 : tie.Need-returns-2 Inv-loop μ-loop
+returns-2 c = λ h. absurd (true≢false (sym h))
+
 sub-last : tie.Need-sub-last Inv-loop μ-loop
-sub-last c = search needs
+sub-last c = omega arith
 
 none-requires : tie.Need-none-requires Inv-loop μ-loop
 none-requires c κs = search needs
@@ -50,8 +56,8 @@ join-requires c κs = search needs
 is-finite-requires : tie.Need-is-finite-requires Inv-loop μ-loop
 is-finite-requires c κs = search needs
 
-returns-2 : tie.Need-returns-2 Inv-loop μ-loop
-returns-2 c =
+returns-3 : tie.Need-returns-3 Inv-loop μ-loop
+returns-3 c =
     λ h.
     let b = c .before .before .before in
     holds-all _ _ _ _ (b .loop .inv .0) (c .before .before .loop-test .left) (b .loop .inv .1) (ap isFinite (sym (c .before .join .ensures)) ∙ sym (c .is-finite .ensures) ∙ h)
@@ -63,6 +69,8 @@ scaled-sum-finite-spec =
     Inv-loop
     μ-loop
     returns
+    looks-slow-requires
+    returns-2
     sub-last
     none-requires
     with-eight-requires
@@ -73,4 +81,4 @@ scaled-sum-finite-spec =
     loop-again
     join-requires
     is-finite-requires
-    returns-2)
+    returns-3)
