@@ -210,6 +210,7 @@ fn rows() -> Vec<Row> {
     rows.extend((2..=12).map(|n| chain_row(rng, n, 64)));
     rows.extend([16, 4, 1].map(|limit| chain_row(rng, 12, limit)));
     rows.extend((4..=12).map(|n| profile_row(rng, n)));
+    rows.extend([4, 8].map(|dim| eigenvalues_row(&mut Random::new(3), dim)));
     rows
 }
 

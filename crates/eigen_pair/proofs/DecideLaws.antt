@@ -1,6 +1,6 @@
 -- Laws of what `specs/Decide.antt` defines. Assumes nothing.
-use mathlib.Core.Path.{_≡_}
-use mathlib.Core.Bool.{Bool, true, false}
+use mathlib.Core.Path.{_≡_, refl, sym, ap, _∙_}
+use mathlib.Core.Bool.{Bool, true, false, cond}
 use lib.Ieee as Ieee
 use lib.Ieee.{Float, binary64}
 use Rattle.numbers.specs.Numbers.{magnitudeOf, signOf}
@@ -19,15 +19,26 @@ pub tangent-made : (theta root s m : Float) → root ≡ hypotenuse theta → s 
 unfolding eigenTangent
 tangent-made theta root s m e f g = rw (e, f, g)
 
-pub alone-pair : (modulus app aqq largest root m : Float) → m ≡ magnitudeOf (Ieee.mul binary64 app aqq) → root ≡ sqrtOf m
-    → Ieee.le modulus (Ieee.mul binary64 eigenTolerance root) ≡ true → true ≡ leftAlone modulus app aqq largest
-unfolding leftAlone
-alone-pair modulus app aqq largest root m e f t = rw (← e, ← f, t)
+either : (a : Bool) → true ≡ cond a true true
+either true = refl
+either false = refl
 
-pub alone-largest : (modulus app aqq largest root m : Float) → m ≡ magnitudeOf (Ieee.mul binary64 app aqq) → root ≡ sqrtOf m
-    → Ieee.le modulus (Ieee.mul binary64 eigenTolerance root) ≡ false → Ieee.le modulus (Ieee.mul binary64 eigenTolerance largest) ≡ leftAlone modulus app aqq largest
+first-alone : (a : Bool) → a ≡ cond a true false
+first-alone true = refl
+first-alone false = refl
+
+pub alone-largest : (modulus app aqq largest : Float) → Ieee.le modulus (Ieee.mul binary64 eigenTolerance largest) ≡ true → true ≡ leftAlone modulus app aqq largest
 unfolding leftAlone
-alone-largest modulus app aqq largest root m e f t = rw (← e, ← f, t)
+alone-largest modulus app aqq largest t =
+    let own = Ieee.le modulus (Ieee.mul binary64 eigenTolerance (sqrtOf (magnitudeOf (Ieee.mul binary64 app aqq)))) in
+    either own ∙ ap (λ (x : Bool). cond own true x) (sym t)
+
+pub alone-pair : (modulus app aqq largest root m : Float) → m ≡ magnitudeOf (Ieee.mul binary64 app aqq) → root ≡ sqrtOf m
+    → Ieee.le modulus (Ieee.mul binary64 eigenTolerance largest) ≡ false → Ieee.le modulus (Ieee.mul binary64 eigenTolerance root) ≡ leftAlone modulus app aqq largest
+unfolding leftAlone
+alone-pair modulus app aqq largest root m e f n =
+    let own = Ieee.le modulus (Ieee.mul binary64 eigenTolerance (sqrtOf (magnitudeOf (Ieee.mul binary64 app aqq)))) in
+    ap (λ (x : Float). Ieee.le modulus (Ieee.mul binary64 eigenTolerance x)) (f ∙ ap sqrtOf e) ∙ first-alone own ∙ ap (λ (x : Bool). cond own true x) (sym n)
 
 pub decision-leave : (apq : Complex) (app aqq largest modulus : Float) {b : Bool} → modulus ≡ modulusOf apq
     → b ≡ leftAlone modulus app aqq largest → b ≡ true → Leave ≡ eigenDecision apq app aqq largest

@@ -25,15 +25,15 @@ fn tangent(theta: f64, near: Guesses) -> f64
     numbers::sign(theta) / (numbers::magnitude(theta) + root)
 }
 
-// Whether the pair's own tolerance leaves it, or that of the largest diagonal entry.
+// Whether the pair's own tolerance leaves it, or that of the largest diagonal entry, which is asked first: it needs no root.
 fn left_alone(modulus: f64, app: f64, aqq: f64, largest: f64) -> bool
     ensures { λ r. ⌜ r ≡ leftAlone modulus app aqq largest ⌝ }
 {
-    let root = root_guesses::root_of(numbers::magnitude(app * aqq));
-    if modulus <= EIGEN_PAIR_TOL * root {
+    if modulus <= EIGEN_PAIR_TOL * largest {
         return true;
     }
-    modulus <= EIGEN_PAIR_TOL * largest
+    let root = root_guesses::root_of(numbers::magnitude(app * aqq));
+    modulus <= EIGEN_PAIR_TOL * root
 }
 
 // The decision on a pair with the entry apq and the diagonal entries app and aqq.
