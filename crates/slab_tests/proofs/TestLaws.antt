@@ -5,7 +5,7 @@ use mathlib.Core.List.{List}
 use Prim.Native.Nat.{ℕ, _+_, _*_, _/_, _%_, _≤_, _<_}
 use native.Mathlib.Omega.{arith}
 use lib.Dec.{leb, ltb, eqb}
-use borrow.Author.Tests.{eq-eqb, ne-eqb, le-leb, lt-leb, leb-true, ltb-false, lt-ltb, le-ltb, eqb-false}
+use borrow.Author.Tests.{eq-eqb, ne-eqb, le-leb, lt-leb, leb-true, ltb-false, lt-ltb, le-ltb, eqb-false, not-false}
 use Rattle.answers.specs.Paper.{Reply, done, refuse}
 use Rattle.slab_runs.specs.declared.Run.{Run}
 use Rattle.slab_runs.specs.declared.Run.the-variants.{At, Nowhere}
@@ -15,7 +15,7 @@ use Rattle.slab_sites.specs.Sites.{count, eachApart}
 use Rattle.slab_sites.proofs.EveryLaws.{first-of, second-of, neither-first, neither-second}
 use Rattle.slab_cells.specs.Cells.{mapOf, clean}
 use Rattle.slab_cells.proofs.CellLaws.{length-map}
-use Rattle.slab_tests.specs.Tests.{sound, badData, entryOf, holds, room, isNowhere, spot, putReply, dropReply, replaceReply}
+use Rattle.slab_tests.specs.Tests.{sound, badData, entryOf, holds, room, isNowhere, spot, misplaced, skipped, isFull, reply, putReply, dropReply, replaceReply}
 
 -- ---- the slab's own tests
 
@@ -126,24 +126,6 @@ row₅ s b h w f e g i j k = rw (e, g, i, j, k)
 row₆ : (s b h w f : Bool) → s ≡ true → b ≡ false → h ≡ false → w ≡ false → f ≡ false → (0, 0) ≡ putRow s b h w f
 row₆ s b h w f e g i j k = rw (e, g, i, j, k)
 
-abbrev againRow : Bool → Bool → Bool → Bool → Reply
-againRow s b h w = refuse (not s) (1, 0) (refuse b (1, 0) (refuse (not h) (13, 0) (refuse w (14, 0) done)))
-
-again₁ : (s b h w : Bool) → s ≡ false → (1, 0) ≡ againRow s b h w
-again₁ s b h w e = rw e
-
-again₂ : (s b h w : Bool) → s ≡ true → b ≡ true → (1, 0) ≡ againRow s b h w
-again₂ s b h w e g = rw (e, g)
-
-again₃ : (s b h w : Bool) → s ≡ true → b ≡ false → h ≡ false → (13, 0) ≡ againRow s b h w
-again₃ s b h w e g i = rw (e, g, i)
-
-again₄ : (s b h w : Bool) → s ≡ true → b ≡ false → h ≡ true → w ≡ true → (14, 0) ≡ againRow s b h w
-again₄ s b h w e g i j = rw (e, g, i, j)
-
-again₅ : (s b h w : Bool) → s ≡ true → b ≡ false → h ≡ true → w ≡ false → (0, 0) ≡ againRow s b h w
-again₅ s b h w e g i j = rw (e, g, i, j)
-
 abbrev dropRow : Bool → Bool → Reply
 dropRow s h = refuse (not s) (1, 0) (refuse (not h) (13, 0) done)
 
@@ -156,83 +138,59 @@ drop₂ s h e g = rw (e, g)
 drop₃ : (s h : Bool) → s ≡ true → h ≡ true → (0, 0) ≡ dropRow s h
 drop₃ s h e g = rw (e, g)
 
--- ---- the tests of a put
+-- ---- the tests of a put and of a replace
 
-module _ (cells index : List ℕ) (site len : ℕ) {s : Bool} (e : s ≡ sound cells index) where
+pub replaces : (again held : Bool) → again ≡ true → not held ≡ misplaced again held
+replaces again held e = rw e
+
+pub puts : (again held : Bool) → again ≡ false → held ≡ misplaced again held
+puts again held e = rw e
+
+pub puts-full : (again : Bool) (n : ℕ) → again ≡ false → eqb n 64 ≡ isFull again n
+puts-full again n e = rw e
+
+module _ (again : Bool) (cells index : List ℕ) (site len : ℕ) {s : Bool} (e : s ≡ sound cells index) where
+  abbrev nowhere : Bool
+  nowhere = isNowhere (room index (skipped again (entryOf index site)) len)
+
   abbrev full : Bool
-  full = eqb (count index) 64
+  full = isFull again (count index)
 
-  pub put-broken : s ≡ false → (1, 0) ≡ putReply cells index site len
-  put-broken f = row₁ (sound cells index) (badData len) (holds index site) (isNowhere (room index 64 len)) full (sym e ∙ f)
+  abbrev wrong : Bool
+  wrong = misplaced again (holds index site)
 
-  module _ (f : s ≡ true) {b : Bool} (g : b ≡ badData len) where
-    pub put-bad : b ≡ true → (1, 0) ≡ putReply cells index site len
-    put-bad h = row₂ (sound cells index) (badData len) (holds index site) (isNowhere (room index 64 len)) full (sym e ∙ f) (sym g ∙ h)
-
-    module _ (h : b ≡ false) {i : ℕ} (j : i ≡ entryOf index site) where
-      pub put-held : i < count index → (13, 0) ≡ putReply cells index site len
-      put-held l =
-          row₃ (sound cells index) (badData len) (holds index site) (isNowhere (room index 64 len)) full (sym e ∙ f) (sym g ∙ h)
-          (lt-ltb (entryOf index site) (count index) (omega arith))
-
-      module _ (l : count index ≤ i) {r : Run} (k : r ≡ room index 64 len) where
-        no : holds index site ≡ false
-        no = le-ltb (entryOf index site) (count index) (omega arith)
-
-        pub put-nowhere : r ≡ Nowhere → (14, 0) ≡ putReply cells index site len
-        put-nowhere m =
-            row₄ (sound cells index) (badData len) (holds index site) (isNowhere (room index 64 len)) full (sym e ∙ f) (sym g ∙ h) no (ap isNowhere (sym k ∙ m))
-
-        module _ (t : ℕ) (m : r ≡ At t) where
-          pub put-full : count index ≡ 64 → (15, 0) ≡ putReply cells index site len
-          put-full n =
-              row₅ (sound cells index) (badData len) (holds index site) (isNowhere (room index 64 len)) full (sym e ∙ f) (sym g ∙ h) no
-              (ap isNowhere (sym k ∙ m)) (eq-eqb (count index) 64 n)
-
-          pub put-passes : (count index ≡ 64 → ⊥) → (0, 0) ≡ putReply cells index site len
-          put-passes n =
-              row₆ (sound cells index) (badData len) (holds index site) (isNowhere (room index 64 len)) full (sym e ∙ f) (sym g ∙ h) no
-              (ap isNowhere (sym k ∙ m)) (ne-eqb (count index) 64 n)
-
-          pub spot-is : t ≡ spot (room index 64 len)
-          spot-is = ap spot (sym m ∙ k)
-
--- ---- the tests of a replace
-
-module _ (cells index : List ℕ) (site len : ℕ) {s : Bool} (e : s ≡ sound cells index) where
-  pub again-broken : s ≡ false → (1, 0) ≡ replaceReply cells index site len
-  again-broken f = again₁ (sound cells index) (badData len) (holds index site) (isNowhere (room index (entryOf index site) len)) (sym e ∙ f)
+  pub judge-broken : s ≡ false → (1, 0) ≡ reply again cells index site len
+  judge-broken f = row₁ (sound cells index) (badData len) wrong nowhere full (sym e ∙ f)
 
   module _ (f : s ≡ true) {b : Bool} (g : b ≡ badData len) where
-    pub again-bad : b ≡ true → (1, 0) ≡ replaceReply cells index site len
-    again-bad h = again₂ (sound cells index) (badData len) (holds index site) (isNowhere (room index (entryOf index site) len)) (sym e ∙ f) (sym g ∙ h)
+    pub judge-bad : b ≡ true → (1, 0) ≡ reply again cells index site len
+    judge-bad h = row₂ (sound cells index) (badData len) wrong nowhere full (sym e ∙ f) (sym g ∙ h)
 
-    module _ (h : b ≡ false) {i : ℕ} (j : i ≡ entryOf index site) where
-      pub again-absent : count index ≤ i → (13, 0) ≡ replaceReply cells index site len
-      again-absent l =
-          again₃ (sound cells index) (badData len) (holds index site) (isNowhere (room index (entryOf index site) len)) (sym e ∙ f) (sym g ∙ h)
-          (le-ltb (entryOf index site) (count index) (omega arith))
+    module _ (h : b ≡ false) {i : ℕ} (j : i ≡ entryOf index site) {x : Bool} (l : x ≡ misplaced again (ltb i (count index))) where
+      placed : x ≡ wrong
+      placed = l ∙ ap (λ (y : ℕ). misplaced again (ltb y (count index))) j
 
-      module _ (l : i < count index) {r : Run} (k : r ≡ room index i len) where
-        yes-held : holds index site ≡ true
-        yes-held = lt-ltb (entryOf index site) (count index) (omega arith)
+      pub judge-misplaced : x ≡ true → (13, 0) ≡ reply again cells index site len
+      judge-misplaced m = row₃ (sound cells index) (badData len) wrong nowhere full (sym e ∙ f) (sym g ∙ h) (sym placed ∙ m)
 
-        own : r ≡ room index (entryOf index site) len
-        own = k ∙ ap (λ (x : ℕ). room index x len) j
+      module _ (m : x ≡ false) {k : ℕ} (q : k ≡ skipped again i) {r : Run} (o : r ≡ room index k len) where
+        own : r ≡ room index (skipped again (entryOf index site)) len
+        own = o ∙ ap (λ (y : ℕ). room index y len) (q ∙ ap (skipped again) j)
 
-        pub again-nowhere : r ≡ Nowhere → (14, 0) ≡ replaceReply cells index site len
-        again-nowhere m =
-            again₄ (sound cells index) (badData len) (holds index site) (isNowhere (room index (entryOf index site) len)) (sym e ∙ f) (sym g ∙ h) yes-held
-            (ap isNowhere (sym own ∙ m))
+        pub judge-nowhere : r ≡ Nowhere → (14, 0) ≡ reply again cells index site len
+        judge-nowhere t = row₄ (sound cells index) (badData len) wrong nowhere full (sym e ∙ f) (sym g ∙ h) (sym placed ∙ m) (ap isNowhere (sym own ∙ t))
 
-        module _ (t : ℕ) (m : r ≡ At t) where
-          pub again-passes : (0, 0) ≡ replaceReply cells index site len
-          again-passes =
-              again₅ (sound cells index) (badData len) (holds index site) (isNowhere (room index (entryOf index site) len)) (sym e ∙ f) (sym g ∙ h) yes-held
-              (ap isNowhere (sym own ∙ m))
+        module _ (t : ℕ) (u : r ≡ At t) {y : Bool} (v : y ≡ full) where
+          pub judge-full : y ≡ true → (15, 0) ≡ reply again cells index site len
+          judge-full w =
+              row₅ (sound cells index) (badData len) wrong nowhere full (sym e ∙ f) (sym g ∙ h) (sym placed ∙ m) (ap isNowhere (sym own ∙ u)) (sym v ∙ w)
 
-          pub again-spot : t ≡ spot (room index (entryOf index site) len)
-          again-spot = ap spot (sym m ∙ own)
+          pub judge-passes : y ≡ false → (0, 0) ≡ reply again cells index site len
+          judge-passes w =
+              row₆ (sound cells index) (badData len) wrong nowhere full (sym e ∙ f) (sym g ∙ h) (sym placed ∙ m) (ap isNowhere (sym own ∙ u)) (sym v ∙ w)
+
+          pub judge-spot : t ≡ spot (room index (skipped again (entryOf index site)) len)
+          judge-spot = ap spot (sym u ∙ own)
 
 -- ---- the tests of a drop
 
@@ -256,13 +214,6 @@ put-row true false true w f e = absurd (omega arith)
 put-row true false false true f e = absurd (omega arith)
 put-row true false false false true e = absurd (omega arith)
 put-row true false false false false e = (refl, refl, refl, refl, refl)
-
-again-row : (s b h w : Bool) → againRow s b h w .0 ≡ 0 → (s ≡ true) × (b ≡ false) × (h ≡ true) × (w ≡ false)
-again-row false b h w e = absurd (omega arith)
-again-row true true h w e = absurd (omega arith)
-again-row true false false w e = absurd (omega arith)
-again-row true false true true e = absurd (omega arith)
-again-row true false true false e = (refl, refl, refl, refl)
 
 drop-row : (s h : Bool) → dropRow s h .0 ≡ 0 → (s ≡ true) × (h ≡ true)
 drop-row false h e = absurd (omega arith)
@@ -294,8 +245,8 @@ module _ (cells index : List ℕ) (site len : ℕ) where
 
   pub replace-passed : replaceReply cells index site len .0 ≡ 0 → ReplacePasses cells index site len
   replace-passed e =
-      let p = again-row (sound cells index) (badData len) (holds index site) (isNowhere (room index (entryOf index site) len)) e in
-      record { sound-is = p .0; good = p .1; known = p .2; fits = p .3 }
+      let p = put-row (sound cells index) (badData len) (not (holds index site)) (isNowhere (room index (entryOf index site) len)) false e in
+      record { sound-is = p .0; good = p .1; known = not-false _ (p .2); fits = p .3 }
 
   pub drop-passed : dropReply cells index site .0 ≡ 0 → DropPasses cells index site
   drop-passed e =
@@ -311,7 +262,7 @@ pub put-accepted : (cells index : List ℕ) (site len : ℕ) → PutPasses cells
 put-accepted cells index site len p =
     row₆ (sound cells index) (badData len) (holds index site) (isNowhere (room index 64 len)) (eqb (count index) 64) (p .sound-is) (p .good) (p .new) (p .fits) (p .spare)
 
-rows-same : (s b h w f t i x : Bool) → s ≡ true → h ≡ false → f ≡ false → t ≡ true → i ≡ true → w ≡ x → putRow s b h w f ≡ againRow t b i x
+rows-same : (s b h w f t i x : Bool) → s ≡ true → h ≡ false → f ≡ false → t ≡ true → i ≡ true → w ≡ x → putRow s b h w f ≡ putRow t b (not i) x false
 rows-same s b h w f t i x p q r u v e = rw (p, q, r, u, v, e)
 
 -- a put where the number is new and an entry is spare, and a replace where it is held, answer alike where they
@@ -333,13 +284,6 @@ put-fourteen true false false true f e = refl
 put-fourteen true false false false true e = absurd (omega arith)
 put-fourteen true false false false false e = absurd (omega arith)
 
-again-fourteen : (s b h w : Bool) → againRow s b h w .0 ≡ 14 → w ≡ true
-again-fourteen false b h w e = absurd (omega arith)
-again-fourteen true true h w e = absurd (omega arith)
-again-fourteen true false false w e = absurd (omega arith)
-again-fourteen true false true true e = refl
-again-fourteen true false true false e = absurd (omega arith)
-
 nowhere-at : (r : Run) → isNowhere r ≡ true → r ≡ Nowhere
 nowhere-at (At s) e = absurd (true≢false (sym e))
 nowhere-at Nowhere e = refl
@@ -358,9 +302,9 @@ module _ (cells index : List ℕ) (site len : ℕ) where
   pub replace-14-none : replaceReply cells index site len .0 ≡ 14 → room index (entryOf index site) len ≡ Nowhere
   replace-14-none e =
       nowhere-at (room index (entryOf index site) len)
-      (again-fourteen (sound cells index) (badData len) (holds index site) (isNowhere (room index (entryOf index site) len)) e)
+      (put-fourteen (sound cells index) (badData len) (not (holds index site)) (isNowhere (room index (entryOf index site) len)) false e)
 
   pub none-replace-14 : sound cells index ≡ true → badData len ≡ false → holds index site ≡ true → room index (entryOf index site) len ≡ Nowhere
       → (14, 0) ≡ replaceReply cells index site len
   none-replace-14 s b h e =
-      again₄ (sound cells index) (badData len) (holds index site) (isNowhere (room index (entryOf index site) len)) s b h (ap isNowhere e)
+      row₄ (sound cells index) (badData len) (not (holds index site)) (isNowhere (room index (entryOf index site) len)) false s b (ap not h) (ap isNowhere e)

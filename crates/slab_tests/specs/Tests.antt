@@ -64,11 +64,30 @@ replaceReply cells index site len =
     (refuse (not (holds index site)) (13, 0)
     (refuse (isNowhere (room index (entryOf index site) len)) (14, 0) done)))
 
--- what the tests of a put and of a replace find
-pub record Judged (cells index : List ℕ) (site len : ℕ) (r : Verdict) : Type 0 where
-  pub answer-is : paper (r .answer) ≡ putReply cells index site len
-  pub start-is : r .start ≡ ifDone (paper (r .answer) .0) (spot (room index 64 len)) 0
+-- a put needs a number that is not held, a replace one that is
+abbrev pub misplaced : Bool → Bool → Bool
+misplaced true held = not held
+misplaced false held = held
 
-pub record JudgedAgain (cells index : List ℕ) (site len : ℕ) (r : Verdict) : Type 0 where
-  pub answer-is : paper (r .answer) ≡ replaceReply cells index site len
-  pub start-is : r .start ≡ ifDone (paper (r .answer) .0) (spot (room index (entryOf index site) len)) 0
+-- the entry whose cells count as free: a replace's own
+abbrev pub skipped : Bool → ℕ → ℕ
+skipped true i = i
+skipped false i = 64
+
+-- a put needs a spare entry
+abbrev pub isFull : Bool → ℕ → Bool
+isFull true n = false
+isFull false n = eqb n 64
+
+-- both at once: `reply false` is `putReply` and `reply true` is `replaceReply`
+abbrev pub reply : Bool → List ℕ → List ℕ → ℕ → ℕ → Reply
+reply again cells index site len =
+    refuse (not (sound cells index)) (1, 0)
+    (refuse (badData len) (1, 0)
+    (refuse (misplaced again (holds index site)) (13, 0)
+    (refuse (isNowhere (room index (skipped again (entryOf index site)) len)) (14, 0) (refuse (isFull again (count index)) (15, 0) done))))
+
+-- what the tests of a put and of a replace find
+pub record Judged (again : Bool) (cells index : List ℕ) (site len : ℕ) (r : Verdict) : Type 0 where
+  pub answer-is : paper (r .answer) ≡ reply again cells index site len
+  pub start-is : r .start ≡ ifDone (paper (r .answer) .0) (spot (room index (skipped again (entryOf index site)) len)) 0

@@ -5,7 +5,7 @@ ghost use mathlib.Core.Path.{_≡_};
 ghost use mathlib.Core.Bool.{true};
 ghost use Prim.Native.Nat.{_/_, _≤_};
 ghost use Rattle.slab_sites.specs.Sites.{count, eachApart};
-ghost use Rattle.slab_tests.specs.Tests.{sound, badData, room, Judged, JudgedAgain};
+ghost use Rattle.slab_tests.specs.Tests.{sound, badData, room, misplaced, skipped, isFull, Judged};
 
 // What a call's tests answer, and the first cell of the run it takes.
 pub struct Verdict {
@@ -52,51 +52,34 @@ fn room_for(index: &[u32; 193], skip: usize, len: usize) -> Run
     slab_runs::lowest_run(&map, len / 2)
 }
 
-// The tests of a put.
-pub fn judge_put(cells: &[u64; 8192], index: &[u32; 193], site: u32, len: usize) -> Verdict
-    ensures { λ r. ⌜ Judged (now (cells .entry)) (now (index .entry)) site len r ⌝ }
+// The number is held where it must not be, or the other way round.
+fn is_misplaced(again: bool, held: bool) -> bool
+    ensures { λ r. ⌜ r ≡ misplaced again held ⌝ }
 {
-    if !is_sound(cells, index) {
-        return Verdict {
-            answer: Answer::Size,
-            start: 0,
-        };
+    if again {
+        return !held;
     }
-    if is_bad(len) {
-        return Verdict {
-            answer: Answer::Size,
-            start: 0,
-        };
-    }
-    let n = index[0] as usize;
-    if slab_sites::find_site(index, n, site) < n {
-        return Verdict {
-            answer: Answer::SiteNumber,
-            start: 0,
-        };
-    }
-    let run = room_for(index, 64, len);
-    let Run::At(start) = run else {
-        return Verdict {
-            answer: Answer::NoRun,
-            start: 0,
-        };
-    };
-    if n == 64 {
-        return Verdict {
-            answer: Answer::Full,
-            start: 0,
-        };
-    }
-    Verdict {
-        answer: Answer::Done,
-        start,
-    }
+    held
 }
 
-// The tests of a replace.
-pub fn judge_replace(cells: &[u64; 8192], index: &[u32; 193], site: u32, len: usize) -> Verdict
-    ensures { λ r. ⌜ JudgedAgain (now (cells .entry)) (now (index .entry)) site len r ⌝ }
+fn skip_for(again: bool, i: usize) -> usize
+    ensures { λ r. ⌜ r ≡ skipped again i ⌝ }
+{
+    if again { i } else { 64 }
+}
+
+fn is_full(again: bool, n: usize) -> bool
+    ensures { λ r. ⌜ r ≡ isFull again n ⌝ }
+{
+    if again {
+        return false;
+    }
+    n == 64
+}
+
+// The tests of a put, or of a replace where `again`.
+pub fn judge(cells: &[u64; 8192], index: &[u32; 193], site: u32, len: usize, again: bool) -> Verdict
+    ensures { λ r. ⌜ Judged again (now (cells .entry)) (now (index .entry)) site len r ⌝ }
 {
     if !is_sound(cells, index) {
         return Verdict {
@@ -112,19 +95,25 @@ pub fn judge_replace(cells: &[u64; 8192], index: &[u32; 193], site: u32, len: us
     }
     let n = index[0] as usize;
     let i = slab_sites::find_site(index, n, site);
-    if i >= n {
+    if is_misplaced(again, i < n) {
         return Verdict {
             answer: Answer::SiteNumber,
             start: 0,
         };
     }
-    let run = room_for(index, i, len);
+    let run = room_for(index, skip_for(again, i), len);
     let Run::At(start) = run else {
         return Verdict {
             answer: Answer::NoRun,
             start: 0,
         };
     };
+    if is_full(again, n) {
+        return Verdict {
+            answer: Answer::Full,
+            start: 0,
+        };
+    }
     Verdict {
         answer: Answer::Done,
         start,

@@ -1,6 +1,6 @@
 -- What the tests and the changes make of a call. Assumes nothing.
 use mathlib.Core.Path.{_≡_, refl, sym, ap, ap₂, _∙_}
-use mathlib.Core.Bool.{Bool, true}
+use mathlib.Core.Bool.{Bool, true, false}
 use mathlib.Core.List.{List}
 use Prim.Native.Nat.{ℕ, _+_, _*_, _/_, _≤_, _<_}
 use native.Mathlib.Omega.{arith}
@@ -14,7 +14,7 @@ use Rattle.slab_sites.specs.Sites.{count, siteAt}
 use Rattle.slab_cells.specs.Cells.{pasted, wiped}
 use Rattle.slab_cells.proofs.CellLaws.{ends-within}
 use Rattle.slab_tests.specs.declared.Verdict.{Verdict}
-use Rattle.slab_tests.specs.Tests.{sound, entryOf, room, spot, Judged, JudgedAgain}
+use Rattle.slab_tests.specs.Tests.{sound, entryOf, room, spot, Judged}
 use Rattle.slab_tests.proofs.TestLaws.{sound-count, sound-apart, spot-fits, drop-passes, PutPasses, ReplacePasses, put-passed, replace-passed}
 use Rattle.slab_changes.specs.Changes.{putIndex, dropIndex, replaceIndex, freed}
 use Rattle.slabs.specs.Slab.{Put, Dropped, Replaced}
@@ -24,7 +24,7 @@ use Rattle.slabs.specs.Slab.{Put, Dropped, Replaced}
 number-done : (a : Answer) → a ≡ Done → paper a .0 ≡ 0
 number-done a d = ap (λ (x : Answer). paper x .0) d
 
-module _ (cells index : List ℕ) (site : ℕ) (given : List ℕ) (v : Verdict) (j : Judged cells index site (length given) v) where
+module _ (cells index : List ℕ) (site : ℕ) (given : List ℕ) (v : Verdict) (j : Judged false cells index site (length given) v) where
   pub put-refused : (paper (v .answer) .0 ≡ 0 → ⊥) → Put cells index site given (v .answer) cells index
   put-refused n = record { answer = j .answer-is; cells-is = done-old (paper (v .answer) .0) _ cells n; index-is = done-old (paper (v .answer) .0) _ index n }
 
@@ -65,7 +65,7 @@ module _ (cells index : List ℕ) (site : ℕ) {s : Bool} (e : s ≡ sound cells
 
 -- ---- replace
 
-module _ (cells index : List ℕ) (site : ℕ) (given : List ℕ) (v : Verdict) (j : JudgedAgain cells index site (length given) v) where
+module _ (cells index : List ℕ) (site : ℕ) (given : List ℕ) (v : Verdict) (j : Judged true cells index site (length given) v) where
   pub replace-refused : (paper (v .answer) .0 ≡ 0 → ⊥) → Replaced cells index site given (v .answer) cells index
   replace-refused n = record { answer = j .answer-is; cells-is = done-old (paper (v .answer) .0) _ cells n; index-is = done-old (paper (v .answer) .0) _ index n }
 

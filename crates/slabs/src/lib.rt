@@ -8,7 +8,7 @@ ghost use Rattle.slabs.specs.Slab.{Put, Dropped, Replaced};
 pub fn put(cells: &mut [u64; 8192], index: &mut [u32; 193], site: u32, data: &[u64]) -> Answer
     ensures { λ r. ⌜ Put (now (cells .entry)) (now (index .entry)) site (now («data» .entry)) r (now (cells .exit)) (now (index .exit)) ⌝ }
 {
-    let v = slab_tests::judge_put(cells, index, site, data.len());
+    let v = slab_tests::judge(cells, index, site, data.len(), false);
     let answer = v.answer;
     let Answer::Done = answer else {
         return answer;
@@ -37,7 +37,7 @@ pub fn drop(cells: &mut [u64; 8192], index: &mut [u32; 193], site: u32) -> Answe
 pub fn replace(cells: &mut [u64; 8192], index: &mut [u32; 193], site: u32, data: &[u64]) -> Answer
     ensures { λ r. ⌜ Replaced (now (cells .entry)) (now (index .entry)) site (now («data» .entry)) r (now (cells .exit)) (now (index .exit)) ⌝ }
 {
-    let v = slab_tests::judge_replace(cells, index, site, data.len());
+    let v = slab_tests::judge(cells, index, site, data.len(), true);
     let answer = v.answer;
     let Answer::Done = answer else {
         return answer;
