@@ -3,7 +3,7 @@
 that is tested. Python's floats are binary64 and its square root is rounded once, so the bits must agree.
 
     cutfiles.py examples DIR     the examples: NAME.cut, its printout NAME.txt beside it, and of some the state NAME.state.txt
-    cutfiles.py cases FILE OUT   the table that the program `certificate_cases` runs, and the printouts that it must write
+    cutfiles.py cases FILE OUT   the table `certificates.bin` that the program `file_cases` runs, and the printouts that it must write
 """
 import math, os, random, struct, sys
 

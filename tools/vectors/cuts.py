@@ -1,17 +1,20 @@
 #!/usr/bin/env python3
-"""cuts.py [--check]: writes crates/cuts_cases/stdin and stdout: cases of qubit lists, row offsets, traced bases, the smaller side and
+"""cuts.py [--check]: writes the part `cuts` of crates/cut_cases: cases of qubit lists, row offsets, traced bases, the smaller side and
 the cut matrix, and what 01 says of each. It follows 01's text, by bits and sets, and no code of this repository. Far-named copies of
 cuts have the text of the cut that they copy, at half size its transpose.
-With --check it compares with what the two files hold and writes nothing. The draws are fixed by SEED."""
+With --check it compares with what is there and writes nothing. The draws are fixed by SEED."""
 import itertools
 import os
 import random
 import struct
 import sys
 
+sys.dont_write_bytecode = True
+import parts  # noqa: E402
+
 SEED = 20261115
 HERE = os.path.dirname(os.path.abspath(__file__))
-FOLDER = os.path.join(HERE, '..', '..', 'crates', 'cuts_cases')
+FOLDER = os.path.join(HERE, '..', '..', 'crates', 'cut_cases')
 
 
 # ---- 01's table
@@ -383,17 +386,9 @@ def main():
     drawn(c)
     page_cases(c)
     far_named(c)
-    head = ('# %d cases of qubit lists, row offsets, traced bases, the smaller side and the cut matrix.\n'
+    head = ('%d cases of qubit lists, row offsets, traced bases, the smaller side and the cut matrix.\n'
             '# Made by tools/vectors/cuts.py with seed %d, which follows 01 and no code of this repository.\n' % (len(c.lines), SEED))
-    stdin, stdout = head + '\n'.join(c.lines) + '\n', '\n'.join(c.answers) + '\n'
-    paths = os.path.join(FOLDER, 'stdin'), os.path.join(FOLDER, 'stdout')
-    if '--check' in sys.argv:
-        same = open(paths[0]).read() == stdin and open(paths[1]).read() == stdout
-        print('the same' if same else 'NOT the same')
-        sys.exit(0 if same else 1)
-    open(paths[0], 'w').write(stdin)
-    open(paths[1], 'w').write(stdout)
-    print('%d cases, %d and %d bytes' % (len(c.lines), len(stdin), len(stdout)))
+    parts.put(FOLDER, 'cuts', head, c.lines, c.answers)
 
 
 main()

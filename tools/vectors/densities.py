@@ -1,9 +1,13 @@
 #!/usr/bin/env python3
-"""densities.py STDIN STDOUT: cases of the density, the mirror, trace scaling and the block factor, and what 01 says they give.
+"""densities.py [--check]: writes the part `densities` of crates/cut_cases: cases of the density, the mirror, trace scaling and the block
+factor, and what 01 says they give. With --check it compares with what is there and writes nothing.
 Copies of density cases behind plates on the far side have the text of the case that they copy.
 
 Written from the paper alone: Python's floats are IEEE 754 doubles, and each operation below is one rounding."""
-import random, struct, sys
+import os, random, struct, sys
+
+sys.dont_write_bytecode = True
+import parts  # noqa: E402
 
 seed = 20261115
 draw = random.Random(seed)
@@ -314,8 +318,7 @@ made = len(cases)
 generated()
 drawn = len(cases) - made
 plated()
-head = '# %d cases, %d of them generated and %d copies behind plates, of the density, the mirror, trace scaling and the block factor.\n' % (
+head = '%d cases, %d of them generated and %d copies behind plates, of the density, the mirror, trace scaling and the block factor.\n' % (
     len(cases), drawn, len(cases) - made - drawn)
 head += '# Made by tools/vectors/densities.py with seed %d, the expected values from the paper by IEEE 754 doubles.\n' % seed
-open(sys.argv[1], 'w').write(head + '\n'.join(cases) + '\n')
-open(sys.argv[2], 'w').write('\n'.join(results) + '\n')
+parts.put(os.path.join(os.path.dirname(os.path.abspath(__file__)), '..', '..', 'crates', 'cut_cases'), 'densities', head, cases, results, 6)

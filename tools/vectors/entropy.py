@@ -1,9 +1,9 @@
 #!/usr/bin/env python3
-"""entropy.py [--check]: writes crates/entropy_cases/stdin and stdout: weights of floats, bands of pairs of whole numbers, and the entropy's
-band of the cuts of crates/schmidt_cases, whose values are the published Rust's. Weights are exact (fractions); every band that is written
+"""entropy.py [--check]: writes the part `entropy` of crates/factor_cases: weights of floats, bands of pairs of whole numbers, and the
+entropy's band of the cuts of the part `schmidt`, whose values are the published Rust's. Weights are exact (fractions); every band that is written
 is first held to 2^lo * w^4096 <= W^4096 <= 2^hi * w^4096 and to a width of at most 2, by exact whole numbers, and to 4096 times the
 logarithm where the ratio is a power of two. It follows 02's text and C-23's intervals, and no code of this repository.
-With --check it compares with what the two files hold and writes nothing. The draws are fixed by SEED."""
+With --check it compares with what is there and writes nothing. The draws are fixed by SEED."""
 import os
 import sys
 
@@ -12,10 +12,12 @@ sys.path = [x for x in sys.path if os.path.abspath(x) != HERE]  # numbers.py bes
 import random  # noqa: E402
 import struct  # noqa: E402
 from fractions import Fraction  # noqa: E402
+sys.path.append(HERE)
+sys.dont_write_bytecode = True
+import parts  # noqa: E402
 
 SEED = 20261115
-CRATES = os.path.join(HERE, '..', '..', 'crates')
-FOLDER = os.path.join(CRATES, 'entropy_cases')
+FOLDER = os.path.join(HERE, '..', '..', 'crates', 'factor_cases')
 
 
 def value_of(bits):
@@ -104,7 +106,7 @@ def weights(cases, draw):
     every = edges + drawn
     for start in range(0, len(every), 40):
         part = every[start:start + 40]
-        cases.add([1, len(part)] + part, [weight(b) for b in part])
+        cases.add([9, len(part)] + part, [weight(b) for b in part])
 
 
 def pairs(cases, draw):
@@ -114,28 +116,28 @@ def pairs(cases, draw):
         whole = draw.randrange(1, 2 ** draw.randrange(1, 33))
         chosen.append((draw.randrange(1, whole + 1), whole))
     for w, whole in chosen:
-        cases.add([3, w, whole], band(w, whole))
+        cases.add([10, w, whole], band(w, whole))
 
 
 def cuts(cases, draw):
-    """The cases of schmidt_cases with bands in the place of out."""
-    asked = open(os.path.join(CRATES, 'schmidt_cases', 'stdin')).read().split('\n')
-    words = [int(x, 16) for line in asked for x in line.split('#')[0].split()]
-    told = [[int(x, 16) for x in line.split()] for line in open(os.path.join(CRATES, 'schmidt_cases', 'stdout'))]
+    """The cases of the part `schmidt` with bands in the place of out."""
+    text, printed = next(part[1:] for part in parts.read(FOLDER) if part[0] == 'schmidt')
+    words = [int(x, 16) for line in text.split('\n') for x in line.split('#')[0].split()]
+    told = [[int(x, 16) for x in line.split()] for line in printed.splitlines()]
     at = 0
     for answer in told:
-        assert words[at] == 1
+        assert words[at] == 7
         size = words[at + 1]
         state, at = words[at + 2:at + 2 + size], at + 2 + size
         n, k = words[at], words[at + 1]
         listed, at = words[at + 2:at + 2 + k], at + 2 + k
         cap, room, scratch = words[at:at + 3]
         at += 3
-        number, place, count, begun, quiet = answer[:5]
-        out, left = answer[5:5 + room], answer[5 + room:]
+        number, place, count, begun, quiet = answer[:5]  # and then the pairs turned, and whether every root came out even
+        out, left = answer[7:7 + room], answer[7 + room:]
         assert len(left) == scratch
         length = min(512, 3 * room + draw.randrange(3))
-        asked = [2, size] + state + [n, k] + listed + [cap, length, scratch]
+        asked = [8, size] + state + [n, k] + listed + [cap, length, scratch]
         rows = 2 ** min(k, n - k) if n >= k else 0
         cells, low, high, whole, left_over = [7] * length, 0, 0, 0, 0
         if number == 0:
@@ -159,7 +161,7 @@ def paper(cases):
     triples, low, high, whole = bands_of([bits_of(0.5)] * 4)
     assert (low, high, whole) == (137438953472, 137438953472, 68719476736)
     scratch = 8 * 2 ** n + 2 * 2 ** k
-    cases.add([2, len(state)] + state + [n, k] + listed + [13, 12, scratch],
+    cases.add([8, len(state)] + state + [n, k] + listed + [13, 12, scratch],
               [0, 0, 4, low, high, whole, 1, 1] + [x for triple in triples for x in triple] + [0] * scratch)
 
 
@@ -170,16 +172,9 @@ def main():
     pairs(cases, draw)
     cuts(cases, draw)
     paper(cases)
-    files = {'stdin': cases.asked, 'stdout': cases.told}
-    for name, lines in files.items():
-        text = '\n'.join(lines) + '\n'
-        path = os.path.join(FOLDER, name)
-        if '--check' in sys.argv[1:]:
-            if open(path).read() != text:
-                sys.exit('%s differs' % path)
-        else:
-            open(path, 'w').write(text)
-    print('%d cases, %d bands held to exact powers' % (len(cases.asked), len(TESTED)))
+    head = ('weights, bands, and the entropy of cuts; %d bands held to exact powers.\n'
+            '# Made by tools/vectors/entropy.py with seed %d, which follows 02 and no code of this repository.\n' % (len(TESTED), SEED))
+    parts.put(FOLDER, 'entropy', head, cases.asked, cases.told)
 
 
 if __name__ == '__main__':

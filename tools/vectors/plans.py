@@ -1,17 +1,20 @@
 #!/usr/bin/env python3
-"""plans.py [--check]: writes crates/plan_cases/stdin and stdout: sequences of changes of a plan, calls of its list between them, and what
+"""plans.py [--check]: writes the part `plans` of crates/cut_cases: sequences of changes of a plan, calls of its list between them, and what
 each answers and leaves. It follows 01's and 02's text, by bits, sets and lists, and no code of this repository: a plan is worked out from
 its list anew at every step. The states of the Schmidt values have at most one amplitude in each row and column of the cut, so that no
 pair is turned and every value is a whole number's, scaled.
-With --check it compares with what the two files hold and writes nothing. The draws are fixed by SEED."""
+With --check it compares with what is there and writes nothing. The draws are fixed by SEED."""
 import math
 import os
 import random
 import struct
 import sys
 
+sys.dont_write_bytecode = True
+import parts  # noqa: E402
+
 SEED, P = 20261116, 2**31 - 1
-FOLDER = os.path.join(os.path.dirname(os.path.abspath(__file__)), '..', '..', 'crates', 'plan_cases')
+FOLDER = os.path.join(os.path.dirname(os.path.abspath(__file__)), '..', '..', 'crates', 'cut_cases')
 TOP, LENT = 2.0**200, 0xC000000000000000
 
 
@@ -299,15 +302,9 @@ def listed():
 
 def main():
     cases = listed()
-    head = '# Made by tools/vectors/plans.py with seed %d, which follows 01 and 02 and no code of this repository.\n' % SEED
-    for name, text in (('stdin', head + '\n'.join(cases.asked) + '\n'), ('stdout', '\n'.join(cases.said) + '\n')):
-        path = os.path.join(FOLDER, name)
-        if sys.argv[1:] == ['--check']:
-            if open(path).read() != text:
-                sys.exit('plans.py: %s differs' % name)
-        else:
-            open(path, 'w').write(text)
-    print('plans.py: %d operations' % len(cases.asked))
+    head = ('changes of a plan, and the calls of its list.\n'
+            '# Made by tools/vectors/plans.py with seed %d, which follows 01 and 02 and no code of this repository.\n' % SEED)
+    parts.put(FOLDER, 'plans', head, cases.asked, cases.said, 16)
 
 
 if __name__ == '__main__':

@@ -148,11 +148,22 @@ pub fn past(text: &[u8], at: usize) -> usize {
     next_word(text, at).next
 }
 
-// The same size where it is at most 512, and else 512: the programs' buffers are that long.
-pub fn room_at(text: &[u8], at: usize) -> usize
-    ensures { λ r. ⌜ r ≤ 512 ⌝ }
+// Where the text goes on after so many words from `at` on.
+pub fn skip(text: &[u8], at: usize, count: usize) -> usize {
+    let mut next = at;
+    let mut i = 0;
+    while i < count {
+        next = past(text, next);
+        i += 1;
+    }
+    next
+}
+
+// The word that so many words stand before from `at` on, as a length: what it says where that is at most `most`, and else `most`.
+pub fn length_at(text: &[u8], at: usize, before: usize, most: usize) -> usize
+    ensures { λ r. ⌜ r ≤ most ⌝ }
 {
-    least(size_at(text, at), 512)
+    least(size_at(text, skip(text, at, before)), most)
 }
 
 // The size as a word.

@@ -12,6 +12,8 @@
 // the bits 3FF0000000000000 + i before the changes. The lent slice has room numbers, number i with the bits C000000000000000 + i.
 // A fill writes its answer and the slice, or the slice's digest where it is 200 numbers or longer. Lists of kinds 1 and 2 have at
 // most 64 values; SOURCE at most 16,384 numbers, VALUES 4,200, the slice 8,300.
+use answers::Answer;
+use site_ranks::CutRank;
 
 // A source or values as the text has them, from the word after the length on; where the text goes on.
 fn read_source(text: &[u8], at: usize, s: &mut [f64]) -> usize {
@@ -39,40 +41,26 @@ fn discard_case(text: &[u8], at: usize) -> usize {
     let count = replay::size_at(text, at);
     let next = replay::read_floats(text, replay::past(text, at), &mut values, count);
     let list = replay::front_floats(&values, count);
-    if site_ranks::discards_resolvable_weight(list, replay::size_at(text, next)) {
-        replay::print_word(1);
-    } else {
-        replay::print_word(0);
-    }
+    replay::print_yes(site_ranks::discards_resolvable_weight(list, replay::size_at(text, next)));
     replay::past(text, next)
 }
 
-fn cut_case(text: &[u8], at: usize) -> usize {
-    let second = replay::past(text, at);
-    let third = replay::past(text, second);
-    let r = site_ranks::cut_rank(
-        replay::size_at(text, at),
-        replay::size_at(text, second),
-        replay::size_at(text, third),
-    );
+fn print_rank(r: CutRank) {
     let answer = r.answer;
     replay::print_answer(answer);
     replay::print_word(r.rank);
-    replay::past(text, third)
 }
 
-fn block_case(text: &[u8], at: usize) -> usize {
-    let second = replay::past(text, at);
-    let third = replay::past(text, second);
-    let r = site_ranks::widest_block_cut(
-        replay::size_at(text, at),
-        replay::size_at(text, second),
-        replay::size_at(text, third),
-    );
-    let answer = r.answer;
-    replay::print_answer(answer);
-    replay::print_word(r.rank);
-    replay::past(text, third)
+fn bond_case(text: &[u8], at: usize, kind: u64) -> usize {
+    let a = replay::size_at(text, at);
+    let b = replay::size_at(text, replay::skip(text, at, 1));
+    let c = replay::size_at(text, replay::skip(text, at, 2));
+    if kind == 3 {
+        print_rank(site_ranks::cut_rank(a, b, c));
+    } else {
+        print_rank(site_ranks::widest_block_cut(a, b, c));
+    }
+    replay::skip(text, at, 3)
 }
 
 // The sizes of a fill: four words, the last of which only the fills of rows have.
@@ -83,172 +71,75 @@ struct Sizes {
     fourth: usize,
 }
 
-fn isometry(source: &[f64], z: Sizes, room: usize, out: &mut [f64]) {
-    if out.len() < room {
-        return;
-    }
-    replay::print_answer(sites::fill_isometry_site_data(
-        source,
-        z.line,
-        z.second,
-        z.third,
-        &mut out[..room],
-    ));
-    replay::print_or_digest(replay::front_floats(out, room));
-}
-
-fn scaled_u(source: &[f64], values: &[f64], z: Sizes, room: usize, out: &mut [f64]) {
-    if out.len() < room {
-        return;
-    }
-    replay::print_answer(sites::fill_scaled_u_site_data(
-        source,
-        values,
-        z.line,
-        z.second,
-        z.third,
-        &mut out[..room],
-    ));
-    replay::print_or_digest(replay::front_floats(out, room));
-}
-
-fn vt(source: &[f64], z: Sizes, room: usize, out: &mut [f64]) {
-    if out.len() < room {
-        return;
-    }
-    replay::print_answer(sites::fill_vt_site_data(
-        source,
-        z.line,
-        z.second,
-        z.third,
-        z.fourth,
-        &mut out[..room],
-    ));
-    replay::print_or_digest(replay::front_floats(out, room));
-}
-
-fn scaled_vt(values: &[f64], source: &[f64], z: Sizes, room: usize, out: &mut [f64]) {
-    if out.len() < room {
-        return;
-    }
-    replay::print_answer(sites::fill_scaled_vt_data(
-        values,
-        source,
-        z.line,
-        z.second,
-        z.third,
-        z.fourth,
-        &mut out[..room],
-    ));
-    replay::print_or_digest(replay::front_floats(out, room));
-}
-
-// The sizes of kind 5 and 6, from `at` on.
-fn column_sizes(text: &[u8], at: usize) -> Sizes {
-    let second = replay::past(text, at);
-    let third = replay::past(text, second);
+fn read_sizes(text: &[u8], at: usize) -> Sizes {
     Sizes {
         line: replay::size_at(text, at),
-        second: replay::size_at(text, second),
-        third: replay::size_at(text, third),
-        fourth: 0,
+        second: replay::size_at(text, replay::skip(text, at, 1)),
+        third: replay::size_at(text, replay::skip(text, at, 2)),
+        fourth: replay::size_at(text, replay::skip(text, at, 3)),
     }
 }
 
-// The sizes of kind 7 and 8.
-fn row_sizes(text: &[u8], at: usize) -> Sizes {
-    let second = replay::past(text, at);
-    let third = replay::past(text, second);
-    let fourth = replay::past(text, third);
-    Sizes {
-        line: replay::size_at(text, at),
-        second: replay::size_at(text, second),
-        third: replay::size_at(text, third),
-        fourth: replay::size_at(text, fourth),
+// The fill of a kind.
+fn fill(kind: u64, source: &[f64], values: &[f64], z: Sizes, out: &mut [f64]) -> Answer {
+    if kind == 5 {
+        return sites::fill_isometry_site_data(source, z.line, z.second, z.third, out);
     }
+    if kind == 6 {
+        return sites::fill_scaled_u_site_data(source, values, z.line, z.second, z.third, out);
+    }
+    if kind == 7 {
+        return sites::fill_vt_site_data(source, z.line, z.second, z.third, z.fourth, out);
+    }
+    sites::fill_scaled_vt_data(values, source, z.line, z.second, z.third, z.fourth, out)
 }
 
-fn three(text: &[u8], at: usize) -> usize {
-    replay::past(text, replay::past(text, replay::past(text, at)))
+fn show(kind: u64, source: &[f64], values: &[f64], z: Sizes, room: usize, out: &mut [f64]) {
+    if out.len() < room {
+        return;
+    }
+    replay::print_answer(fill(kind, source, values, z, &mut out[..room]));
+    replay::print_or_digest(replay::front_floats(out, room));
 }
 
-fn isometry_case(text: &[u8], at: usize) -> usize {
-    let lengths = three(text, at);
-    let mut source = [0.0; 16384];
-    let room = read_source(text, replay::past(text, lengths), &mut source);
-    let mut out = [0.0; 8300];
-    replay::count_up(&mut out, 0xc000_0000_0000_0000);
-    isometry(
-        replay::front_floats(&source, replay::size_at(text, lengths)),
-        column_sizes(text, at),
-        replay::size_at(text, room),
-        &mut out,
-    );
-    replay::past(text, room)
+// VALUES, where the case has them at this place; where the text goes on.
+fn read_values(text: &[u8], at: usize, wanted: bool, s: &mut [f64]) -> usize {
+    if wanted {
+        return read_source(text, replay::past(text, at), s);
+    }
+    at
 }
 
-fn scaled_u_case(text: &[u8], at: usize) -> usize {
-    let first = three(text, at);
-    let mut source = [0.0; 16384];
-    let second = read_source(text, replay::past(text, first), &mut source);
-    let mut values = [0.0; 4200];
-    let room = read_source(text, replay::past(text, second), &mut values);
-    let mut out = [0.0; 8300];
-    replay::count_up(&mut out, 0xc000_0000_0000_0000);
-    scaled_u(
-        replay::front_floats(&source, replay::size_at(text, first)),
-        replay::front_floats(&values, replay::size_at(text, second)),
-        column_sizes(text, at),
-        replay::size_at(text, room),
-        &mut out,
-    );
-    replay::past(text, room)
-}
-
-fn vt_case(text: &[u8], at: usize) -> usize {
-    let lengths = replay::past(text, three(text, at));
-    let mut source = [0.0; 16384];
-    let room = read_source(text, replay::past(text, lengths), &mut source);
-    let mut out = [0.0; 8300];
-    replay::count_up(&mut out, 0xc000_0000_0000_0000);
-    vt(
-        replay::front_floats(&source, replay::size_at(text, lengths)),
-        row_sizes(text, at),
-        replay::size_at(text, room),
-        &mut out,
-    );
-    replay::past(text, room)
-}
-
-fn scaled_vt_case(text: &[u8], at: usize) -> usize {
-    let first = replay::past(text, three(text, at));
-    let mut values = [0.0; 4200];
-    let second = read_source(text, replay::past(text, first), &mut values);
-    let mut source = [0.0; 16384];
-    let room = read_source(text, replay::past(text, second), &mut source);
-    let mut out = [0.0; 8300];
-    replay::count_up(&mut out, 0xc000_0000_0000_0000);
-    scaled_vt(
-        replay::front_floats(&values, replay::size_at(text, first)),
-        replay::front_floats(&source, replay::size_at(text, second)),
-        row_sizes(text, at),
-        replay::size_at(text, room),
-        &mut out,
-    );
-    replay::past(text, room)
+// Their length, where kind 6 or kind 8 has them.
+fn values_length(text: &[u8], kind: u64, first: usize, last: usize) -> usize {
+    if kind == 8 {
+        return replay::size_at(text, first);
+    }
+    replay::size_at(text, last)
 }
 
 fn fill_case(text: &[u8], at: usize, kind: u64) -> usize {
-    if kind == 5 {
-        return isometry_case(text, at);
-    }
-    if kind == 6 {
-        return scaled_u_case(text, at);
-    }
-    if kind == 7 {
-        return vt_case(text, at);
-    }
-    scaled_vt_case(text, at)
+    let first = if kind < 7 {
+        replay::skip(text, at, 3)
+    } else {
+        replay::skip(text, at, 4)
+    };
+    let mut values = [0.0; 4200];
+    let second = read_values(text, first, kind == 8, &mut values);
+    let mut source = [0.0; 16384];
+    let last = read_source(text, replay::past(text, second), &mut source);
+    let room = read_values(text, last, kind == 6, &mut values);
+    let mut out = [0.0; 8300];
+    replay::count_up(&mut out, 0xc000_0000_0000_0000);
+    show(
+        kind,
+        replay::front_floats(&source, replay::size_at(text, second)),
+        replay::front_floats(&values, values_length(text, kind, first, last)),
+        read_sizes(text, at),
+        replay::size_at(text, room),
+        &mut out,
+    );
+    replay::past(text, room)
 }
 
 fn case(text: &[u8], at: usize, kind: u64) -> usize {
@@ -258,11 +149,8 @@ fn case(text: &[u8], at: usize, kind: u64) -> usize {
     if kind == 2 {
         return discard_case(text, at);
     }
-    if kind == 3 {
-        return cut_case(text, at);
-    }
-    if kind == 4 {
-        return block_case(text, at);
+    if kind < 5 {
+        return bond_case(text, at, kind);
     }
     fill_case(text, at, kind)
 }

@@ -1,4 +1,4 @@
-//! Cases for `chain_cases` and `profile_cases`, in a format of their own: a state is counted up from a first word, or nothing, and the text
+//! Cases for the parts of `chain_cases`, in a format of their own: a state is counted up from a first word, or nothing, and the text
 //! has what differs; long slices of floats are printed as a digest.
 
 use crate::call::{Arg, Call, Entry::{chain_of_sites, cut_profile}, Kind};
@@ -10,13 +10,13 @@ use crate::sites_sample::{LONG, READ, counted, digest};
 use crate::table::{CHAIN_LARGEST, LARGEST};
 
 /// The state's length, the first word of the count or 0, how many numbers differ, and the place and bits of each.
-pub fn asked(call: &Call) -> String {
+pub fn asked(number: usize, call: &Call) -> String {
     let state = call.many(0);
     let (up, nothing) = (counted(READ, state.len()), vec![0; state.len()]);
     let changes = |before: &[u64]| (0..state.len()).filter(|&at| state[at] != before[at]).collect::<Vec<_>>();
     let (first, differ) =
         if changes(&up).len() < changes(&nothing).len() { (READ, changes(&up)) } else { (0, changes(&nothing)) };
-    let mut words = vec![1, state.len() as u64, first, differ.len() as u64];
+    let mut words = vec![number as u64, state.len() as u64, first, differ.len() as u64];
     words.extend(differ.into_iter().flat_map(|at| [at as u64, state[at]]));
     words.extend(call.args.iter().filter_map(|arg| if let Arg::One(word) = arg { Some(*word) } else { None }));
     words.extend(call.slices()[1..].iter().map(|&at| call.many(at).len() as u64));

@@ -10,16 +10,16 @@ use crate::{chains_sample, sites_sample};
 /// What stands in a lent slice before the call.
 pub const BEFORE: u64 = 0x4008000000000000;
 
-/// The entry points of a replay program; a case starts with its number here, from 1.
-pub fn entries(kind: &str) -> &'static [Entry] {
-    match kind {
-        "svd_cases" => &[svd_jacobi],
-        "qr_cases" => &[factorize_gram_schmidt],
-        "spectra_cases" => {
+/// The entry points of a part of a replay program.
+pub fn entries(part: &str) -> &'static [Entry] {
+    match part {
+        "svd" => &[svd_jacobi],
+        "qr" => &[factorize_gram_schmidt],
+        "spectra" => {
             &[hermitian_eigenvalues, finish_schmidt_values, schmidt_values_from_density, hermitian_eigen]
         }
-        "schmidt_cases" => &[dense_schmidt_values],
-        "sites_cases" => &[
+        "schmidt" => &[dense_schmidt_values],
+        "sites" => &[
             truncated_svd_rank,
             discards_resolvable_weight,
             cut_rank,
@@ -29,19 +29,29 @@ pub fn entries(kind: &str) -> &'static [Entry] {
             fill_vt_site_data,
             fill_scaled_vt_data,
         ],
-        "chain_cases" => &[chain_of_sites],
-        "profile_cases" => &[cut_profile],
-        _ => panic!("no such replay program: {kind}"),
+        "chain" => &[chain_of_sites],
+        "profile" => &[cut_profile],
+        _ => panic!("no such part of a replay program: {part}"),
+    }
+}
+
+/// The number in its program of a part's first entry point; a case starts with its entry point's.
+fn first(part: &str) -> usize {
+    match part {
+        "qr" | "profile" => 2,
+        "spectra" => 3,
+        "schmidt" => 7,
+        _ => 1,
     }
 }
 
 /// A case's words: its kind, then each argument. A slice has its length first; one that is lent has only its length.
-pub fn asked(kind: &str, call: &Call) -> String {
+pub fn asked(part: &str, call: &Call) -> String {
     let number =
-        entries(kind).iter().position(|&entry| entry == call.entry).expect("an entry point of the program") + 1;
-    match kind {
-        "sites_cases" => return sites_sample::asked(number, call),
-        "chain_cases" | "profile_cases" => return chains_sample::asked(call),
+        entries(part).iter().position(|&entry| entry == call.entry).expect("an entry point of the part") + first(part);
+    match part {
+        "sites" => return sites_sample::asked(number, call),
+        "chain" | "profile" => return chains_sample::asked(number, call),
         _ => {}
     }
     let mut line = format!("{number:X}");
@@ -64,10 +74,10 @@ pub fn asked(kind: &str, call: &Call) -> String {
 /// What the case prints: number, place, the number handed back where there is one, the sweeps, whether the last was quiet
 /// (1 or 0) and the turned pairs where the call sweeps, whether its roots came out even (1 or 0) where it says so, and each lent
 /// slice whole.
-pub fn printed(kind: &str, call: &Call) -> String {
-    match kind {
-        "sites_cases" => return sites_sample::printed(call),
-        "chain_cases" | "profile_cases" => return chains_sample::printed(call),
+pub fn printed(part: &str, call: &Call) -> String {
+    match part {
+        "sites" => return sites_sample::printed(call),
+        "chain" | "profile" => return chains_sample::printed(call),
         _ => {}
     }
     let outcome = outcome(call, Build::Counting);
@@ -317,11 +327,11 @@ fn damaged(rng: &mut Random, entry: Entry, count: usize, calls: &mut Vec<Call>) 
     }
 }
 
-/// The cases of a replay program, the same for the same seed.
-pub fn cases_of(kind: &str, seed: u64) -> Vec<Call> {
+/// The cases of a part, the same for the same seed.
+pub fn cases_of(part: &str, seed: u64) -> Vec<Call> {
     let rng = &mut Random::new(seed);
     let mut calls = vec![];
-    for &entry in entries(kind) {
+    for &entry in entries(part) {
         match entry {
             svd_jacobi | factorize_gram_schmidt => matrices(rng, entry, &mut calls),
             finish_schmidt_values => finishes(rng, &mut calls),
@@ -332,8 +342,8 @@ pub fn cases_of(kind: &str, seed: u64) -> Vec<Call> {
             _ => sites_sample::cases_of(rng, entry, &mut calls),
         }
     }
-    for &entry in entries(kind) {
+    for &entry in entries(part) {
         restless(rng, entry, &mut calls);
     }
-    calls.into_iter().map(if kind == "sites_cases" { sites_sample::filled } else { filled }).collect()
+    calls.into_iter().map(if part == "sites" { sites_sample::filled } else { filled }).collect()
 }
