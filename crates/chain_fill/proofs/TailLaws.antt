@@ -1,4 +1,4 @@
--- The loops that fill a tail and clear counts. Assumes nothing.
+-- The loop that fills a tail. Assumes nothing.
 use mathlib.Core.Path.{_≡_, refl, sym, ap, ap₂, _∙_}
 use mathlib.Core.Bool.{Bool, true, false, cond}
 use mathlib.Core.List.{List, [], _∷_, _++_, append-nil, append-assoc}
@@ -13,33 +13,13 @@ use borrow.Rule.Slice.PartMut.{midOf, putMid}
 use borrow.Author.Tests.{lt-ltb, le-ltb, ltb-true, ltb-false}
 use Rattle.complex.specs.Zeros.{zeroFloat, zeros}
 use Rattle.complex.proofs.ZerosLaws.{length-zeros}
-use Rattle.chain_fill.specs.Fill.{numberAt, zeroCounts, Last}
+use Rattle.chain_fill.specs.Fill.{numberAt, Last}
 
 -- a number put where the written part ends
 put-next : {A : Type 0} (front old : List A) (i : ℕ) (d x : A) → length front ≡ i → i < length old → set (front ++ drop i old) i x ≡ (front ++ x ∷ []) ++ drop (suc i) old
 put-next {A} front old i d x e h =
     ap (λ (l : List A). set (front ++ l) i x) (drop-cons old i d h) ∙ set-at front (getD old i d) (drop (suc i) old) x i e
     ∙ sym (append-assoc front (x ∷ []) (drop (suc i) old))
-
--- ---- counts
-
-length-counts : (m : ℕ) → length (zeroCounts m) ≡ m
-unfolding zeroCounts
-length-counts zero = refl
-length-counts (suc m) = length-append (zeroCounts m) (0 ∷ []) ∙ omega (arith, length-counts m)
-
-pub counts-none : (old : List ℕ) → old ≡ zeroCounts 0 ++ drop 0 old
-unfolding zeroCounts
-counts-none old = refl
-
-pub counts-more : (old : List ℕ) (i : ℕ) {s : List ℕ} → i < length old → s ≡ zeroCounts i ++ drop i old → set s i 0 ≡ zeroCounts (i + 1) ++ drop (i + 1) old
-unfolding zeroCounts
-counts-more old i h e = rw add-one (ap (λ (l : List ℕ). set l i 0) e ∙ put-next (zeroCounts i) old i 0 0 (length-counts i) h)
-
-pub counts-end : (old : List ℕ) (i : ℕ) {s : List ℕ} → i ≡ length old → s ≡ zeroCounts i ++ drop i old → s ≡ zeroCounts (length old)
-counts-end old i h e =
-    let l : length old ≤ i = omega arith in
-    e ∙ ap (λ (x : List ℕ). zeroCounts i ++ x) (drop-of-length-le old l) ∙ append-nil (zeroCounts i) ∙ ap zeroCounts h
 
 -- ---- a tail
 

@@ -16,11 +16,6 @@ use Rattle.chain_fill.specs.declared.Chained.{Chained}
 abbrev pub numberAt : List Float → ℕ → ℕ → Float
 numberAt s count i = cond (ltb i count) (getD s i nan) zeroFloat
 
--- so many counts of 0
-unfoldable pub zeroCounts : ℕ → List ℕ
-zeroCounts zero = []
-zeroCounts (suc m) = zeroCounts m ++ 0 ∷ []
-
 -- ---- the chain of a state
 
 -- what every cut of the state leaves

@@ -5,7 +5,7 @@ ghost use Prim.Native.Nat.{_+_, _-_, _*_, _≤_};
 ghost use mathlib.Core.List.{_++_};
 ghost use lib.ListN.{length, take, set};
 ghost use Rattle.complex.specs.Zeros.{zeros};
-ghost use Rattle.chain_fill.specs.Fill.{numberAt, zeroCounts, LastRoom, Last, FillRoom, ChainFilled};
+ghost use Rattle.chain_fill.specs.Fill.{numberAt, LastRoom, Last, FillRoom, ChainFilled};
 
 // The answer, and how many cuts dropped a value above the resolution.
 pub struct Chained {
@@ -32,16 +32,6 @@ fn fill_tail(s: &[f64], count: usize, out: &mut [f64])
     let end = out.len();
     for i in 0..end {
         out[i] = number_at(s, count, i);
-    }
-}
-
-// Every number of s becomes 0.
-pub fn clear_counts(s: &mut [usize])
-    ensures { λ _. ⌜ now (s .exit) ≡ zeroCounts (length (now (s .entry))) ⌝ }
-{
-    let end = s.len();
-    for i in 0..end {
-        s[i] = 0;
     }
 }
 

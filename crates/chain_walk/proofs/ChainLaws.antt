@@ -17,7 +17,8 @@ use Rattle.svd.specs.Svd.{sideOf, sOf, svdSweeps}
 use Rattle.svd.proofs.SvdLaws.{side-low}
 use Rattle.chain_step.specs.Step.{stepSite}
 use Rattle.chain_step.proofs.StepLaws.{rank-fits, rank-most, side-some}
-use Rattle.chain_walk.specs.Chain.{Links, oneIf, cutMarks, nextMatrix, nextRank, linked, linksTo, mostOf, roomTo}
+use Rattle.cut_marks.specs.Marks.{oneIf, cutMarks}
+use Rattle.chain_walk.specs.Chain.{Links, nextMatrix, nextRank, linked, linksTo, mostOf, roomTo}
 
 -- ---- the values of a step and its rank
 

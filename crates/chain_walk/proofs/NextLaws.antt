@@ -20,7 +20,7 @@ use Rattle.site_lines.specs.Sources.{siteCell, isometryCell}
 use Rattle.chain_step.specs.declared.Link.{Link}
 use Rattle.chain_step.specs.Step.{columnwise, stepSite}
 use Rattle.chain_link.specs.OneLink.{LinkRoom, OneLink, rowsAt, columnsAt, cellsAt}
-use Rattle.chain_walk.specs.Chain.{oneIf, cutMarks}
+use Rattle.cut_marks.specs.Marks.{oneIf, cutMarks}
 use Rattle.chain_walk.specs.Walk.{Next}
 use Rattle.chain_walk.proofs.ChainLaws.{rank-in}
 
@@ -88,26 +88,3 @@ module _ (n j bond at : ℕ) (epsilon : Float) (limit : ℕ) (sites u : List Flo
               carried-is = carried-front ∙ rw (← x) at (o .step .carried-is z);
             };
       }
-
--- three numbers put one after another
-pub put-three : (l : List ℕ) (k a b c : ℕ) → k + 3 ≤ length l → set (set (set l k a) (k + 1) b) (k + 2) c ≡ take k l ++ (a ∷ b ∷ c ∷ drop (k + 3) l)
-put-three [] k a b c h = absurd (omega (arith, h))
-put-three (x ∷ []) zero a b c h = absurd (omega (arith, h))
-put-three (x ∷ y ∷ []) zero a b c h = absurd (omega (arith, h))
-put-three (x ∷ y ∷ z ∷ l) zero a b c h = refl
-put-three (x ∷ l) (suc k) a b c h =
-    let e : suc k + 1 ≡ suc (k + 1) = omega arith in
-    let f : suc k + 2 ≡ suc (k + 2) = omega arith in
-    let g : suc k + 3 ≡ suc (k + 3) = omega arith in
-    rw (e, f, g) (ap (λ (q : List ℕ). x ∷ q) (put-three l k a b c (omega (arith, h))))
-
-pub marks-put : (l : List ℕ) (j : ℕ) (t : Sweeps) {quiet : ℕ} → 3 * j + 3 ≤ length l → quiet ≡ oneIf (t .quiet)
-    → set (set (set l (3 * j) (t .begun)) (3 * j + 1) quiet) (3 * j + 2) (t .turned) ≡ take (3 * j) l ++ (cutMarks t ++ drop (3 * j + 3) l)
-marks-put l j t h e = rw e (put-three l (3 * j) (t .begun) (oneIf (t .quiet)) (t .turned) h)
-
--- a place of a list stays one where a number is put
-pub in-set : (l : List ℕ) (i x k : ℕ) → k < length l → k < length (set l i x)
-in-set l i x k h = rw length-set h
-
-pub in-set-two : (l : List ℕ) (i x j y k : ℕ) → k < length l → k < length (set (set l i x) j y)
-in-set-two l i x j y k h = in-set (set l i x) j y k (in-set l i x k h)

@@ -17,7 +17,8 @@ use Rattle.svd.specs.Svd.{sideOf, sOf, svdSweeps}
 use Rattle.chain_step.specs.Step.{columnwise, stepSite, carriedOn, stepReply}
 use Rattle.chain_link.specs.OneLink.{rowsAt, columnsAt, cellsAt}
 use Rattle.chain_walk.specs.declared.Walked.{Walked}
-use Rattle.chain_walk.specs.Chain.{Links, oneIf, cutMarks, nextMatrix, nextRank, linksTo, replyTo, mostOf}
+use Rattle.cut_marks.specs.Marks.{oneIf, cutMarks}
+use Rattle.chain_walk.specs.Chain.{Links, nextMatrix, nextRank, linksTo, replyTo, mostOf}
 use Rattle.chain_walk.specs.Walk.{NextRoom, Next, WalkRoom, Walking, WalkEnd}
 use Rattle.chain_walk.proofs.ChainLaws.{Bounds, bounds, most-next, room-next, room-within}
 

@@ -1,11 +1,11 @@
 -- The chain of sites: what its first steps leave, and the room that they ask. Definitions only.
-use mathlib.Core.Bool.{Bool, true, false}
 use mathlib.Core.List.{List, [], _∷_, _++_}
 use Prim.Native.Nat.{ℕ, zero, suc, _+_, _-_, _*_, _^_, min}
 use lib.Ieee.{Float}
 use Rattle.answers.specs.Paper.{Reply, done, andThen}
 use Rattle.site_ranks.specs.Ranks.{rankOf, discardsOf}
 use Rattle.sweeps.specs.declared.Sweeps.{Sweeps}
+use Rattle.cut_marks.specs.Marks.{oneIf, cutMarks}
 use Rattle.svd.specs.Svd.{sOf, svdSweeps}
 use Rattle.chain_step.specs.Step.{columnwise, stepSite, carriedOn, stepReply}
 
@@ -20,15 +20,6 @@ pub record Links : Type 0 where
   pub ends : List ℕ
   pub marks : List ℕ
   pub dropped : ℕ
-
--- 1 where it is so, else 0
-abbrev pub oneIf : Bool → ℕ
-oneIf true = 1
-oneIf false = 0
-
--- the marks of a cut: the sweeps begun, 1 where the last was quiet else 0, the turned pairs
-abbrev pub cutMarks : Sweeps → List ℕ
-cutMarks t = t .begun ∷ oneIf (t .quiet) ∷ t .turned ∷ []
 
 -- the next step's matrix, of so many columns, and its rank
 abbrev pub nextMatrix : Links → ℕ → List Float

@@ -7,7 +7,7 @@ ghost use Prim.Native.Nat.{_+_, _*_, _≤_};
 ghost use lib.ListN.{length, take, drop};
 ghost use Rattle.chain_step.specs.Step.{columnwise};
 ghost use Rattle.chain_link.specs.OneLink.{rowsAt, columnsAt, cellsAt};
-ghost use Rattle.chain_walk.specs.Chain.{oneIf, cutMarks};
+ghost use Rattle.cut_marks.specs.Marks.{cutMarks};
 ghost use Rattle.chain_walk.specs.Walk.{NextRoom, Next, WalkRoom, WalkEnd};
 
 // How a walk ended: its answer, the last bond, the cells of the sites so far, the cuts that dropped a value above the resolution.
@@ -18,24 +18,12 @@ pub struct Walked {
     pub dropped: usize,
 }
 
-fn one_if(yes: bool) -> usize
-    ensures { λ r. ⌜ r ≡ oneIf yes ⌝ }
-{
-    if yes {
-        return 1;
-    }
-    0
-}
-
 // The three marks of cut j: the sweeps begun, 1 where the last was quiet else 0, the turned pairs.
 fn put_marks(j: usize, sweeps: Sweeps, marks: &mut [usize])
     requires { ⌜ 3 * j + 3 ≤ length (now marks) ⌝ }
     ensures { λ _. ⌜ now (marks .exit) ≡ take (3 * j) (now (marks .entry)) ++ (cutMarks sweeps ++ drop (3 * j + 3) (now (marks .entry))) ⌝ }
 {
-    let at = 3 * j;
-    marks[at] = sweeps.begun;
-    marks[at + 1] = one_if(sweeps.quiet);
-    marks[at + 2] = sweeps.turned;
+    cut_marks::put_sweeps(3 * j, sweeps, marks);
 }
 
 // Step j of n: its site goes to sites from cell `at` on, its rank to bonds, the cell after its site to starts, and its marks to marks.
@@ -87,7 +75,7 @@ fn next_step(
     };
     let chi = link.chi;
     let end = at + 2 * bond * chi;
-    let drops = dropped + one_if(link.drops);
+    let drops = dropped + cut_marks::one_if(link.drops);
     put_marks(j, link.sweeps, marks);
     bonds[j] = chi;
     starts[j] = end;

@@ -5,7 +5,7 @@ use mathlib.Core.List.{List, _++_}
 use mathlib.Core.Logic.{inl, inr}
 use Prim.Native.Nat.{ℕ, zero, suc, _+_, _-_, _*_, _/_, _^_, _<_}
 use native.Mathlib.Omega.{arith}
-use lib.ListN.{length, drop}
+use lib.ListN.{length, drop, replicate}
 use lib.Ieee.{Float}
 use Rattle.answers.specs.declared.Answer.{Answer}
 use Rattle.answers.specs.declared.Answer.the-variants.{Done}
@@ -19,7 +19,7 @@ use Rattle.chain_start.specs.Start.{stateZero, carriedFirst}
 use Rattle.chain_step.specs.Step.{carriedReply, carriedOn, stepReply}
 use Rattle.chain_walk.specs.Chain.{nextMatrix, nextRank, linksTo, replyTo, roomTo}
 use Rattle.chain_fill.specs.declared.Chained.{Chained}
-use Rattle.chain_fill.specs.Fill.{zeroCounts, bondsOf, startsOf, marksOf, droppedOf, workReply, ChainFilled}
+use Rattle.chain_fill.specs.Fill.{bondsOf, startsOf, marksOf, droppedOf, workReply, ChainFilled}
 use Rattle.chain_checks.specs.Checks.{needSites, needMarks, needPlane, needScratch, chainTests}
 use Rattle.chain_checks.proofs.CheckLaws.{tests-small}
 use Rattle.chains.specs.Chains.{sitesFilled, countsCleared, chainReply, ChainOfSites, ChainWorked}
@@ -30,8 +30,8 @@ use Rattle.chains.specs.Chains.{sitesFilled, countsCleared, chainReply, 
 cleared : (l : List Float) (m : ℕ) {l' : List Float} → length l ≡ m → l' ≡ zeroed (length l) l → l' ≡ zeros m
 cleared l m e h = h ∙ zeroed-all l ∙ ap zeros e
 
-counts-cleared : (l : List ℕ) (m : ℕ) {l' : List ℕ} → length l ≡ m → l' ≡ zeroCounts (length l) → l' ≡ zeroCounts m
-counts-cleared l m e h = h ∙ ap zeroCounts e
+counts-cleared : (l : List ℕ) (m : ℕ) {l' : List ℕ} → length l ≡ m → l' ≡ replicate (length l) 0 → l' ≡ replicate m 0
+counts-cleared l m e h = h ∙ ap (λ (x : ℕ). replicate x 0) e
 
 module _ (s : List Float) (n : ℕ) (epsilon : Float) (limit : ℕ) (r : Chained)
     (sites : List Float) (bonds starts marks : List ℕ) (f : ChainFilled s n epsilon limit r sites bonds starts marks)
@@ -46,9 +46,9 @@ module _ (s : List Float) (n : ℕ) (epsilon : Float) (limit : ℕ) (r : Chained
         answer = f .answer;
         dropped-is = f .dropped-is;
         sites-is = f .sites-is e ∙ done-new (paper (r .answer) .0) _ (zeros (needSites n limit)) e;
-        bonds-is = f .bonds-is e ∙ done-new (paper (r .answer) .0) _ (zeroCounts (n + 1)) e;
-        starts-is = f .starts-is e ∙ done-new (paper (r .answer) .0) _ (zeroCounts (n + 1)) e;
-        marks-is = f .marks-is e ∙ done-new (paper (r .answer) .0) _ (zeroCounts (needMarks n)) e;
+        bonds-is = f .bonds-is e ∙ done-new (paper (r .answer) .0) _ (replicate (n + 1) 0) e;
+        starts-is = f .starts-is e ∙ done-new (paper (r .answer) .0) _ (replicate (n + 1) 0) e;
+        marks-is = f .marks-is e ∙ done-new (paper (r .answer) .0) _ (replicate (needMarks n) 0) e;
         matrix-is = cleared matrix (needPlane n) lm (z .0);
         u-is = cleared u (needPlane n) lu (z .1);
         vt-is = cleared vt (needPlane n) lv (z .2);
@@ -57,7 +57,7 @@ module _ (s : List Float) (n : ℕ) (epsilon : Float) (limit : ℕ) (r : Chained
 
   pub work-stopped : {sites' : List Float} {bonds' starts' marks' : List ℕ} → (paper (r .answer) .0 ≡ 0 → ⊥)
       → length sites ≡ needSites n limit → length bonds ≡ n + 1 → length starts ≡ n + 1 → length marks ≡ needMarks n
-      → (sites' ≡ zeroed (length sites) sites) × (bonds' ≡ zeroCounts (length bonds)) × (starts' ≡ zeroCounts (length starts)) × (marks' ≡ zeroCounts (length marks))
+      → (sites' ≡ zeroed (length sites) sites) × (bonds' ≡ replicate (length bonds) 0) × (starts' ≡ replicate (length starts) 0) × (marks' ≡ replicate (length marks) 0)
       → ChainWorked s n epsilon limit r sites' bonds' starts' marks' matrix' u' vt' scratch'
   work-stopped h ls lb lt la y =
       record {
@@ -132,9 +132,9 @@ chain-worked s n epsilon limit sites bonds starts marks matrix u vt scratch r ec
       answer = w .answer ∙ sym e;
       dropped-is = w .dropped-is;
       sites-is = rw (em, w .sites-is) (join-end a (sitesFilled s n epsilon limit) (zeros (needSites n limit)) (drop (needSites n limit) sites) sites p);
-      bonds-is = rw (w .bonds-is) (join-end a (bondsOf s n epsilon limit) (zeroCounts (n + 1)) (drop (n + 1) bonds) bonds p);
-      starts-is = rw (w .starts-is) (join-end a (startsOf s n epsilon limit) (zeroCounts (n + 1)) (drop (n + 1) starts) starts p);
-      marks-is = rw (w .marks-is) (join-end a (marksOf s n epsilon limit) (zeroCounts (needMarks n)) (drop (needMarks n) marks) marks p);
+      bonds-is = rw (w .bonds-is) (join-end a (bondsOf s n epsilon limit) (replicate (n + 1) 0) (drop (n + 1) bonds) bonds p);
+      starts-is = rw (w .starts-is) (join-end a (startsOf s n epsilon limit) (replicate (n + 1) 0) (drop (n + 1) starts) starts p);
+      marks-is = rw (w .marks-is) (join-end a (marksOf s n epsilon limit) (replicate (needMarks n) 0) (drop (needMarks n) marks) marks p);
       matrix-is = rw (ec, w .matrix-is) (worked-new a (zeros (needPlane n) ++ drop (needPlane n) matrix) matrix p);
       u-is = rw (ec, w .u-is) (worked-new a (zeros (needPlane n) ++ drop (needPlane n) u) u p);
       vt-is = rw (ec, w .vt-is) (worked-new a (zeros (needPlane n) ++ drop (needPlane n) vt) vt p);

@@ -15,7 +15,8 @@ use Rattle.sweeps.specs.declared.Sweeps.{Sweeps}
 use Rattle.factored.specs.declared.Factored.{Factored}
 use Rattle.svd.specs.Svd.{sideOf, Svd}
 use Rattle.chain_step.specs.Step.{columnwise}
-use Rattle.chain_walk.specs.Chain.{Links, oneIf, cutMarks, linksTo}
+use Rattle.cut_marks.specs.Marks.{oneIf, cutMarks}
+use Rattle.chain_walk.specs.Chain.{Links, linksTo}
 
 -- one step: its rank, whether it drops a value, how its sweeps went, its site, and what is carried on
 pub record HandStep (carried : List Float) (bond columns : ℕ) (epsilon : Float) (limit chi : ℕ) (drops : Bool) (sweeps : Sweeps) (site on : List Float) : Type 0 where

@@ -2,12 +2,12 @@
 use mathlib.Core.Path.{_≡_}
 use mathlib.Core.List.{List, _++_}
 use Prim.Native.Nat.{ℕ, _+_, _-_}
-use lib.ListN.{length, drop}
+use lib.ListN.{length, drop, replicate}
 use lib.Ieee.{Float}
 use Rattle.answers.specs.Paper.{Reply, paper, andThen, ifDone, ifWorked, atEnd}
 use Rattle.complex.specs.Zeros.{zeros, zeroed}
 use Rattle.chain_fill.specs.declared.Chained.{Chained}
-use Rattle.chain_fill.specs.Fill.{zeroCounts, chainOf, bondsOf, startsOf, marksOf, droppedOf, workReply}
+use Rattle.chain_fill.specs.Fill.{chainOf, bondsOf, startsOf, marksOf, droppedOf, workReply}
 use Rattle.chain_checks.specs.Checks.{needSites, needMarks, needPlane, needScratch, chainTests}
 
 -- the sites one after another, and +0.0 past them
@@ -16,7 +16,7 @@ sitesFilled s n epsilon limit = chainOf s n epsilon limit ++ zeros (needSites n 
 
 -- so many zero counts at the front
 unfoldable pub countsCleared : ℕ → List ℕ → List ℕ
-countsCleared m old = zeroCounts m ++ drop m old
+countsCleared m old = replicate m 0 ++ drop m old
 
 -- 1, 6, 7, and then 8 and 9
 unfoldable pub chainReply : List Float → ℕ → Float → ℕ → ℕ → ℕ → ℕ → ℕ → ℕ → ℕ → ℕ → ℕ → Reply
@@ -47,9 +47,9 @@ pub record ChainWorked (s : List Float) (n : ℕ) (epsilon : Float) (limit : ℕ
   pub answer : paper (r .answer) ≡ workReply s n epsilon limit
   pub dropped-is : r .dropped ≡ ifDone (paper (r .answer) .0) (droppedOf s n epsilon limit) 0
   pub sites-is : sites ≡ ifDone (paper (r .answer) .0) (sitesFilled s n epsilon limit) (zeros (needSites n limit))
-  pub bonds-is : bonds ≡ ifDone (paper (r .answer) .0) (bondsOf s n epsilon limit) (zeroCounts (n + 1))
-  pub starts-is : starts ≡ ifDone (paper (r .answer) .0) (startsOf s n epsilon limit) (zeroCounts (n + 1))
-  pub marks-is : marks ≡ ifDone (paper (r .answer) .0) (marksOf s n epsilon limit) (zeroCounts (needMarks n))
+  pub bonds-is : bonds ≡ ifDone (paper (r .answer) .0) (bondsOf s n epsilon limit) (replicate (n + 1) 0)
+  pub starts-is : starts ≡ ifDone (paper (r .answer) .0) (startsOf s n epsilon limit) (replicate (n + 1) 0)
+  pub marks-is : marks ≡ ifDone (paper (r .answer) .0) (marksOf s n epsilon limit) (replicate (needMarks n) 0)
   pub matrix-is : matrix ≡ zeros (needPlane n)
   pub u-is : u ≡ zeros (needPlane n)
   pub vt-is : vt ≡ zeros (needPlane n)

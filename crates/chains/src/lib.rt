@@ -2,21 +2,21 @@
 use answers::Answer;
 use chain_fill::Chained;
 ghost use mathlib.Core.Path.{_≡_};
-ghost use lib.ListN.{length};
+ghost use lib.ListN.{length, replicate};
 ghost use Rattle.complex.specs.Zeros.{zeroed};
-ghost use Rattle.chain_fill.specs.Fill.{zeroCounts, FillRoom};
+ghost use Rattle.chain_fill.specs.Fill.{FillRoom};
 ghost use Rattle.chains.specs.Chains.{ChainWorked, ChainOfSites};
 
 // Every number of the results becomes zero: 8 and 9.
 fn clear_chain(sites: &mut [f64], bonds: &mut [usize], starts: &mut [usize], marks: &mut [usize])
     ensures { λ _. ⌜ (now (sites .exit) ≡ zeroed (length (now (sites .entry))) (now (sites .entry)))
-        × (now (bonds .exit) ≡ zeroCounts (length (now (bonds .entry)))) × (now (starts .exit) ≡ zeroCounts (length (now (starts .entry))))
-        × (now (marks .exit) ≡ zeroCounts (length (now (marks .entry)))) ⌝ }
+        × (now (bonds .exit) ≡ replicate (length (now (bonds .entry))) 0) × (now (starts .exit) ≡ replicate (length (now (starts .entry))) 0)
+        × (now (marks .exit) ≡ replicate (length (now (marks .entry))) 0) ⌝ }
 {
     complex::zero_first(sites, sites.len());
-    chain_fill::clear_counts(bonds);
-    chain_fill::clear_counts(starts);
-    chain_fill::clear_counts(marks);
+    cut_marks::clear_counts(bonds);
+    cut_marks::clear_counts(starts);
+    cut_marks::clear_counts(marks);
 }
 
 // Every number of the working slices becomes +0.0.

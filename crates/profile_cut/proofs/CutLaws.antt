@@ -1,15 +1,15 @@
 -- The list 0..j is accepted by a cut where j + 1 < n, and what its call then gives. Assumes nothing.
 use mathlib.Core.Path.{_≡_, refl, sym, ap, ap₂, _∙_}
 use mathlib.Core.Bool.{Bool, true, false, not, _||_}
-use mathlib.Core.List.{List, [], _∷_, _++_}
+use mathlib.Core.List.{List, [], _∷_, _++_, append-assoc}
 use Prim.Native.Nat.{ℕ, zero, suc, _+_, _-_, _*_, _^_, _≤_, _<_, min}
 use native.Mathlib.Nat.{zero-add}
 use native.Mathlib.Omega.{arith}
 use borrow.Author.Tests.{ne-eqb, eq-eqb, eqb-true, eqb-false, ltb-false}
 use lib.Arith.{lt-of-le-ne}
 use lib.Dec.{ltb, eqb}
-use lib.ListN.{length, take, drop, getD, set, length-append, length-set}
-use lib.Seq.{take-at, take-length, take-append-le, getD-at, take-suc-set, take-set-le, take-append-seam}
+use lib.ListN.{length, take, drop, getD, set, length-append, length-drop}
+use lib.Seq.{take-at, length-take-le, take-length, take-append-le, getD-at, take-suc-set, take-set-le, take-append-seam}
 use lib.Ieee.{Float}
 use Rattle.answers.specs.declared.Answer.{Answer}
 use Rattle.answers.specs.declared.Answer.the-variants.{Done}
@@ -21,13 +21,15 @@ use Rattle.cut_sides.specs.declared.Sides.{Sides}
 use Rattle.cut_sides.specs.Sides.{cutSizes, cutRefusal, sidesOf, Parted}
 use Rattle.cut_sides.proofs.SideLaws.{is-parted}
 use Rattle.cut_naming.proofs.ReorderedLaws.{pass, places-pass}
+use Rattle.sweeps.specs.declared.Sweeps.{Sweeps}
 use Rattle.cut_values.specs.declared.CutCounted.{CutCounted}
 use Rattle.factored.specs.Factored.{keptSweeps}
 use Rattle.factored.proofs.Laws.{kept-done}
+use Rattle.cut_marks.specs.Marks.{oneIf, cutMarks}
 use Rattle.finish.specs.Finish.{finishOf, padded}
 use Rattle.cut_values.specs.Schmidt.{cutRows, singularValues, cutSweeps, cutExact, cutValuesTests, valuesReply, cutValuesAnswer, singularOf, sweepsOf, columnsExactOf, CutValuesSized, CutValuesMade, Schmidt}
 use Rattle.cut_values.proofs.SchmidtLaws.{sized, cut-counted-one}
-use Rattle.profile_cut.specs.Cut.{firstQubits, cutList, roomAt, valuesAt, replyAt, resultAt, oneIf, marksOf, marksEach, CutRoom, AloneAt}
+use Rattle.profile_cut.specs.Cut.{firstQubits, cutList, roomAt, valuesAt, replyAt, resultAt, marksOf, marksEach, CutRoom, AloneAt}
 
 -- ---- the first qubits
 
@@ -193,34 +195,22 @@ alone-made s n j out names z r e h x = made-is s n j out r (rw (h, e) at x)
 
 -- ---- the marks
 
--- a place of a list stays one where a number is put
-pub in-set : (l : List ℕ) (i x k : ℕ) → k < length l → k < length (set l i x)
-in-set l i x k h = rw length-set h
+-- the fourth mark has room behind the three of the sweeps
+pub marks-room : (l : List ℕ) (j : ℕ) (t : Sweeps) {l′ : List ℕ} → marksEach * j + marksEach ≤ length l
+    → l′ ≡ take (4 * j) l ++ (cutMarks t ++ drop (4 * j + 3) l) → 4 * j + 3 < length l′
+marks-room l j t h e =
+    omega
+    (arith, ap length e, length-append (take (4 * j) l) (cutMarks t ++ drop (4 * j + 3) l), length-take-le (4 * j) l (omega (arith, h)), length-drop (4 * j + 3) l, h)
 
-pub in-set-two : (l : List ℕ) (i x j y k : ℕ) → k < length l → k < length (set (set l i x) j y)
-in-set-two l i x j y k h = in-set (set l i x) j y k (in-set l i x k h)
-
-pub in-set-three : (l : List ℕ) (i x j y h z k : ℕ) → k < length l → k < length (set (set (set l i x) j y) h z)
-in-set-three l i x j y h z k g = in-set (set (set l i x) j y) h z k (in-set-two l i x j y k g)
-
--- numbers put one after another
-put-four : (l : List ℕ) (k a b c d : ℕ) → k + 4 ≤ length l
-    → take (k + 4) (set (set (set (set l k a) (k + 1) b) (k + 2) c) (k + 3) d) ≡ take k l ++ a ∷ b ∷ c ∷ d ∷ []
-put-four [] k a b c d h = absurd (omega (arith, h))
-put-four (x ∷ []) zero a b c d h = absurd (omega (arith, h))
-put-four (x ∷ y ∷ []) zero a b c d h = absurd (omega (arith, h))
-put-four (x ∷ y ∷ z ∷ []) zero a b c d h = absurd (omega (arith, h))
-put-four (x ∷ y ∷ z ∷ w ∷ l) zero a b c d h = refl
-put-four (x ∷ l) (suc k) a b c d h =
-    let e : suc k + 1 ≡ suc (k + 1) = omega arith in
-    let f : suc k + 2 ≡ suc (k + 2) = omega arith in
-    let g : suc k + 3 ≡ suc (k + 3) = omega arith in
-    let i : suc k + 4 ≡ suc (k + 4) = omega arith in
-    rw (e, f, g, i) (ap (λ (q : List ℕ). x ∷ q) (put-four l k a b c d (omega (arith, h))))
-
-pub marks-put : (l : List ℕ) (j : ℕ) (r : CutCounted) {quiet exact : ℕ} → marksEach * j + marksEach ≤ length l → quiet ≡ oneIf (r .sweeps .quiet) → exact ≡ oneIf (r .exact)
-    → take (marksEach * suc j) (set (set (set (set l (4 * j) (r .sweeps .begun)) (4 * j + 1) quiet) (4 * j + 2) (r .sweeps .turned)) (4 * j + 3) exact)
-    ≡ take (marksEach * j) l ++ marksOf r
-marks-put l j r h e f =
-    let m : 4 * suc j ≡ 4 * j + 4 = omega arith in
-    rw (e, f, m) (put-four l (4 * j) (r .sweeps .begun) (oneIf (r .sweeps .quiet)) (r .sweeps .turned) (oneIf (r .exact)) h)
+pub marks-put : (l : List ℕ) (j : ℕ) (r : CutCounted) {l′ : List ℕ} {exact : ℕ} → marksEach * j + marksEach ≤ length l
+    → l′ ≡ take (4 * j) l ++ (cutMarks (r .sweeps) ++ drop (4 * j + 3) l) → exact ≡ oneIf (r .exact)
+    → take (marksEach * suc j) (set l′ (4 * j + 3) exact) ≡ take (marksEach * j) l ++ marksOf r
+marks-put l j r {l′} {exact} h e f =
+    let m : 4 * suc j ≡ suc (4 * j + 3) = omega arith in
+    let front = take (4 * j) l ++ cutMarks (r .sweeps) in
+    let long : length front ≡ 4 * j + 3 = length-append (take (4 * j) l) (cutMarks (r .sweeps)) ∙ omega (arith, length-take-le (4 * j) l (omega (arith, h))) in
+    let g : l′ ≡ front ++ drop (4 * j + 3) l = e ∙ sym (append-assoc (take (4 * j) l) (cutMarks (r .sweeps)) (drop (4 * j + 3) l)) in
+    rw m
+    (take-suc-set l′ (4 * j + 3) exact (marks-room l j (r .sweeps) h e)
+    ∙ ap₂ (λ (x : List ℕ) (y : ℕ). x ++ y ∷ []) (ap (take (4 * j + 3)) g ∙ take-at front (drop (4 * j + 3) l) (4 * j + 3) long) f
+    ∙ append-assoc (take (4 * j) l) (cutMarks (r .sweeps)) (oneIf (r .exact) ∷ []))

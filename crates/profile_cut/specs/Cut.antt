@@ -1,6 +1,5 @@
 -- Cut j of a chain: the qubits 0..j against the rest. Definitions only.
 use mathlib.Core.Path.{_≡_}
-use mathlib.Core.Bool.{Bool, true, false}
 use mathlib.Core.List.{List, [], _∷_, _++_}
 use Prim.Native.Nat.{ℕ, zero, suc, _+_, _-_, _*_, _^_, _≤_, _<_, min}
 use lib.ListN.{length, take}
@@ -10,6 +9,7 @@ use Rattle.answers.specs.Paper.{Reply, paper}
 use Rattle.complex.specs.Cells.{components}
 use Rattle.cut_sides.specs.Sides.{cutSizes}
 use Rattle.cut_values.specs.declared.CutCounted.{CutCounted}
+use Rattle.cut_marks.specs.Marks.{oneIf, cutMarks}
 use Rattle.finish.specs.Finish.{finishOf}
 use Rattle.cut_values.specs.Schmidt.{singularValues, cutSweeps, cutExact, valuesReply}
 
@@ -42,14 +42,10 @@ resultAt s n j = record { answer = Done; count = length (valuesAt s n j); sweeps
 
 -- ---- the marks
 
-abbrev pub oneIf : Bool → ℕ
-oneIf true = 1
-oneIf false = 0
-
 -- the marks of a cut, from what its call returned: the sweeps begun, 1 where the last was quiet else 0, the turned pairs, 1 where
 -- every root was exact else 0
 abbrev pub marksOf : CutCounted → List ℕ
-marksOf r = r .sweeps .begun ∷ oneIf (r .sweeps .quiet) ∷ r .sweeps .turned ∷ oneIf (r .exact) ∷ []
+marksOf r = cutMarks (r .sweeps) ++ oneIf (r .exact) ∷ []
 
 -- how many they are
 abbrev pub marksEach : ℕ

@@ -5,16 +5,7 @@ ghost use mathlib.Core.Path.{_≡_};
 ghost use mathlib.Core.List.{_++_};
 ghost use Prim.Native.Nat.{suc, _+_, _*_, _≤_};
 ghost use lib.ListN.{length, take};
-ghost use Rattle.profile_cut.specs.Cut.{oneIf, marksEach, marksOf, CutRoom, AloneAt};
-
-fn one_if(yes: bool) -> usize
-    ensures { λ r. ⌜ r ≡ oneIf yes ⌝ }
-{
-    if yes {
-        return 1;
-    }
-    0
-}
+ghost use Rattle.profile_cut.specs.Cut.{marksEach, marksOf, CutRoom, AloneAt};
 
 // The marks of cut j, from what the call of that cut returned.
 pub fn put_marks(j: usize, result: CutCounted, marks: &mut [usize])
@@ -23,10 +14,8 @@ pub fn put_marks(j: usize, result: CutCounted, marks: &mut [usize])
 {
     let sweeps: Sweeps = result.sweeps;
     let at = 4 * j;
-    marks[at] = sweeps.begun;
-    marks[at + 1] = one_if(sweeps.quiet);
-    marks[at + 2] = sweeps.turned;
-    marks[at + 3] = one_if(result.exact);
+    cut_marks::put_sweeps(at, sweeps, marks);
+    marks[at + 3] = cut_marks::one_if(result.exact);
 }
 
 // Cut j as asked for alone: its values at the front of out. The list and the state are known to be accepted, and scratch is left as

@@ -1,5 +1,4 @@
 -- The laws of the page, and what a reader may want to know of it.
-pub mod CountLaws
 pub mod ProfileLaws
 pub mod EntryLaws
 pub mod Theorems

@@ -5,16 +5,6 @@ ghost use lib.ListN.{length, replicate};
 ghost use Rattle.complex.specs.Zeros.{zeros};
 ghost use Rattle.profiles.specs.Profile.{WorkRoom, ProfileWorked, CutProfile};
 
-// Every number of s becomes 0.
-fn clear_counts(s: &mut [usize])
-    ensures { λ _. ⌜ now (s .exit) ≡ replicate (length (now (s .entry))) 0 ⌝ }
-{
-    let end = s.len();
-    for i in 0..end {
-        s[i] = 0;
-    }
-}
-
 // Every number of the page becomes zero: 8 and 9.
 fn clear_page(
     header: &mut [usize],
@@ -27,11 +17,11 @@ fn clear_page(
         × (now (largest .exit) ≡ zeros (length (now (largest .entry)))) × (now (ranks .exit) ≡ replicate (length (now (ranks .entry))) 0)
         × (now (marks .exit) ≡ replicate (length (now (marks .entry))) 0) ⌝ }
 {
-    clear_counts(header);
+    cut_marks::clear_counts(header);
     complex::zero_first(values, values.len());
     complex::zero_first(largest, largest.len());
-    clear_counts(ranks);
-    clear_counts(marks);
+    cut_marks::clear_counts(ranks);
+    cut_marks::clear_counts(marks);
 }
 
 // The work of an accepted call, over slices of exactly the needed lengths.

@@ -1,6 +1,6 @@
 use native.Mathlib.Omega.{arith}
 use Rattle.answers.proofs.Stopped.{stopped-number}
-use Rattle.profile_cut.proofs.CutLaws.{in-set}
+use Rattle.cut_marks.proofs.MarkLaws.{in-set}
 use Rattle.profile_walk.proofs.PutLaws.{alone-room, at-inside, put-inside, end-within, put-refused, put-taken}
 use borrow.Author.Needs.{needs}
 use Rattle.profile_walk.proofs.put_cut.Statement.{statement}

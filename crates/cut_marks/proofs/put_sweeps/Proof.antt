@@ -1,13 +1,9 @@
--- `chain_walk::put_marks` meets its contract: three numbers one after another. Assumes nothing.
-
-use Rattle.chain_walk.proofs.NextLaws.{in-set, in-set-two, marks-put}
+-- `cut_marks::put_sweeps` meets its contract: three numbers one after another. Assumes nothing.
+use Rattle.cut_marks.proofs.MarkLaws.{in-set, in-set-two, marks-put}
 use native.Mathlib.Omega.{arith}
 use borrow.Author.Needs.{needs}
-use Rattle.chain_walk.proofs.put_marks.Statement.{statement}
-use Rattle.chain_walk.proofs.put_marks.Tie as tie
-
-mul-at : tie.Need-mul-at
-mul-at c = search needs
+use Rattle.cut_marks.proofs.put_sweeps.Statement.{statement}
+use Rattle.cut_marks.proofs.put_sweeps.Tie as tie
 
 mul-marks : tie.Need-mul-marks
 mul-marks c = search needs
@@ -42,11 +38,10 @@ same-length c = search needs
 returns : tie.Need-returns
 returns c = marks-put _ _ (c .before .before .args .sweeps) (c .before .before .pre) (c .one-if .ensures)
 
-pub put-marks-spec : {M : Type 1} → statement M
-put-marks-spec =
+pub put-sweeps-spec : {M : Type 1} → statement M
+put-sweeps-spec =
     tie.close
     (tie.spec
-    mul-at
     mul-marks
     slice-write-marks
     one-if-requires

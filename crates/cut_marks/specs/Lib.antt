@@ -1,0 +1,2 @@
+-- What the contracts of `cut_marks` cite.
+pub mod Marks
