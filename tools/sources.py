@@ -7,7 +7,7 @@ CRATES = pathlib.Path('crates')
 WORD = r"[^\s(){}\[\],.;]+"
 SIGNATURE = re.compile(r'^((?:(?:unfoldable|abbrev|pub) )*)(' + WORD + r')(?: \{[^}]*\})? :(?: |$)')
 TYPE = re.compile(r'^(?:pub )?(?:record|data) (' + WORD + ')')
-USE = re.compile(r'^(?:ghost )?use Rattle·(\w+?)(?:·specs|·proofs)?\.(specs|proofs)\.([\w-]+)(?:\.\{([^}]*)\}| as (\w+));?$', re.M)
+USE = re.compile(r'^(?:ghost |(?:unfoldable )?pub )?use Rattle·(\w+?)(?:·specs|·proofs)?\.(specs|proofs)\.([\w-]+)(?:\.\{([^}]*)\}| as (\w+));?$', re.M)
 
 
 def listed():
@@ -61,6 +61,7 @@ class File:
         self.path, self.crate, self.module = path, path.parts[1], path.stem
         text = path.read_text()
         self.names, self.aliases = brought(text)
+        self.passed = brought('\n'.join(re.findall(r'^(?:unfoldable )?pub use .*$', text, re.M)))[0]
         self.items = []
         for block in self.blocks(text.split('\n')):
             found = SIGNATURE.match(block['head']) or TYPE.match(block['head'])
@@ -76,7 +77,7 @@ class File:
         current, comment = None, []
         for line in lines:
             starts = SIGNATURE.match(line) or TYPE.match(line) or re.match(r'(module|infix)', line)
-            if line.startswith('use ') or line.startswith(('pub use ', 'mod ', 'pub mod ')):
+            if line.startswith(('use ', 'pub use ', 'unfoldable pub use ', 'mod ', 'pub mod ')):
                 comment = []
             elif line.startswith('--'):
                 if current and not comment:
@@ -127,6 +128,9 @@ def closure(files, todo):
     while todo:
         crate, module, name = todo.pop()
         file = files.get((crate, module))
+        if file and name in file.passed:  # it stands elsewhere, and this file passes it on
+            todo.append(file.passed[name])
+            continue
         if not file or name not in file.where or (crate, module, name) in seen:
             continue
         seen.add((crate, module, name))

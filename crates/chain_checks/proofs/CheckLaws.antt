@@ -8,10 +8,11 @@ use lib.Dec.{eqb, ltb}
 use lib.ListN.{length}
 use lib.Pow.{pow-mono}
 use lib.Ieee.{Float}
-use borrow.Author.Tests.{eq-eqb, ne-eqb, lt-ltb, le-ltb, eqb-true, eqb-false, ltb-false, not-false}
+use borrow.Author.Tests.{eq-eqb, ne-eqb, lt-ltb, le-ltb, eqb-false, ltb-false}
 use Rattle.answers.specs.Paper.{Reply, done, refuse, andThen, exactly, room}
-use Rattle.answers.proofs.PaperLaws.{both, refuse-done, andThen-done, refuse-small, after-small}
-use Rattle.chain_start.specs.Start.{allowedFor, componentsFor}
+use Rattle.answers.proofs.PaperLaws.{both, refuse-done, andThen-done, exactly-done, room-done, refuse-small, then-small, exactly-small, room-small}
+use Rattle.numbers.specs.Numbers.{allowedFor}
+use Rattle.chain_start.specs.Start.{componentsFor}
 use Rattle.chain_walk.specs.Chain.{roomTo}
 use Rattle.chain_checks.specs.Checks.{needSites, needMarks, needPlane, needScratch, chainSizes, resultLengths, scratchLengths, chainTests}
 
@@ -71,12 +72,6 @@ scratch-are n matrix u vt scratch e f a5 a6 a7 a8 b1 b2 b3 =
     (both b2 (a6 ∙ ap (λ (x : ℕ). room 6 u (2 * x)) e)
     (both b1 (a7 ∙ ap (λ (x : ℕ). room 7 vt (2 * x)) e) (a8 ∙ ap₂ (λ (x y : ℕ). room 8 scratch (6 * x + 2 * y)) e f)))
 
-exactly-done : (slice have need : ℕ) → exactly slice have need .0 ≡ 0 → have ≡ need
-exactly-done slice have need e = eqb-true have need (not-false (eqb have need) (refuse-done (not (eqb have need)) 5 slice done e .0))
-
-room-done : (slice have need : ℕ) → room slice have need .0 ≡ 0 → need ≤ have
-room-done slice have need e = ltb-false have need (refuse-done (ltb have need) 5 slice done e .0)
-
 -- what an accepted call has passed
 pub record ChainAccepted (n limit state sites bonds starts marks matrix u vt scratch : ℕ) : Type 0 where
   pub limit-some : 1 ≤ limit
@@ -131,26 +126,20 @@ sizes-small n limit =
     let d : refuse (ltb 12 n) (1, 0) done .0 < 8 = refuse-small (ltb 12 n) 1 0 done one (omega arith) in
     refuse-small (eqb limit 0) 1 0 _ one (refuse-small (ltb n 1) 1 0 _ one d)
 
-length-small : (slice have need : ℕ) → room slice have need .0 < 8
-length-small slice have need = refuse-small (ltb have need) 6 slice done (omega arith) (omega arith)
-
-then-small : (x b : Reply) → x .0 < 8 → b .0 < 8 → andThen x b .0 < 8
-then-small x b h i = after-small (x .0) x b h i
-
 results-small : (n limit state sites bonds starts marks : ℕ) → resultLengths n limit state sites bonds starts marks .0 < 8
 unfolding resultLengths
 results-small n limit state sites bonds starts marks =
-    then-small (exactly 0 state (needPlane n)) _ (refuse-small (not (eqb state (needPlane n))) 6 0 done (omega arith) (omega arith))
-    (then-small (room 1 sites (needSites n limit)) _ (length-small 1 sites (needSites n limit))
-    (then-small (room 2 bonds (n + 1)) _ (length-small 2 bonds (n + 1))
-    (then-small (room 3 starts (n + 1)) _ (length-small 3 starts (n + 1)) (length-small 4 marks (needMarks n)))))
+    then-small (exactly 0 state (needPlane n)) _ (exactly-small 0 state (needPlane n))
+    (then-small (room 1 sites (needSites n limit)) _ (room-small 1 sites (needSites n limit))
+    (then-small (room 2 bonds (n + 1)) _ (room-small 2 bonds (n + 1))
+    (then-small (room 3 starts (n + 1)) _ (room-small 3 starts (n + 1)) (room-small 4 marks (needMarks n)))))
 
 scratch-small : (n matrix u vt scratch : ℕ) → scratchLengths n matrix u vt scratch .0 < 8
 unfolding scratchLengths
 scratch-small n matrix u vt scratch =
-    then-small (room 5 matrix (needPlane n)) _ (length-small 5 matrix (needPlane n))
-    (then-small (room 6 u (needPlane n)) _ (length-small 6 u (needPlane n))
-    (then-small (room 7 vt (needPlane n)) _ (length-small 7 vt (needPlane n)) (length-small 8 scratch (needScratch n))))
+    then-small (room 5 matrix (needPlane n)) _ (room-small 5 matrix (needPlane n))
+    (then-small (room 6 u (needPlane n)) _ (room-small 6 u (needPlane n))
+    (then-small (room 7 vt (needPlane n)) _ (room-small 7 vt (needPlane n)) (room-small 8 scratch (needScratch n))))
 
 state-small : (k i : ℕ) (l : List Float) → componentsFor k i l .0 < 8
 unfolding componentsFor

@@ -17,9 +17,9 @@ use borrow.Author.Tests.{le-leb, leb-true, eqb-true, eqb-false}
 use Rattle.answers.specs.Paper.{done}
 use Rattle.complex.specs.declared.Complex.{Complex}
 use Rattle.svd_columns.proofs.Grids.{written-turn, columns-all}
-use Rattle.numbers.specs.Numbers.{allowed}
+use Rattle.numbers.specs.Numbers.{allowedFor, allowed}
 use Rattle.complex.specs.Cells.{cellAt, setCell, cellsOf, written}
-use Rattle.chain_start.specs.Start.{allowedFor, componentsFor, stateZero, reversed, cellReversed, carriedFirst, TurnedTo, BlockRoom}
+use Rattle.chain_start.specs.Start.{componentsFor, stateZero, reversed, cellReversed, carriedFirst, TurnedTo, BlockRoom}
 
 -- ---- the test of 2^190 is at least as strict as 01's of 2^200
 
@@ -31,15 +31,10 @@ stricter k i (fin s m e) h b =
     let p : 2 ^ k * down e ≤ 2 ^ i * down e = mul-le-mul-right (down e) (pow-mono h) in
     le-leb _ _ (le-trans (leb-true _ _ b) p)
 
-pub allowed-is : (x : Float) → allowedFor 200 x ≡ allowed x
-unfolding allowedFor allowed
-allowed-is nan = refl
-allowed-is (inf s) = refl
-allowed-is (fin s m e) = refl
-
 -- A COMPONENT OF AT MOST 2^190 IS AN ALLOWED ONE
 pub still-allowed : (x : Float) → allowedFor 190 x ≡ true → allowed x ≡ true
-still-allowed x e = sym (allowed-is x) ∙ stricter 190 200 x (omega arith) e
+unfolding allowed
+still-allowed x e = stricter 190 200 x (omega arith) e
 
 -- ---- the scans
 

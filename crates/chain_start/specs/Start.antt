@@ -1,21 +1,15 @@
 -- What the chain of sites asks of its state, and the rows of its first step. Definitions only.
 use mathlib.Core.Path.{_≡_}
-use mathlib.Core.Bool.{Bool, true, false, not, _&&_}
+use mathlib.Core.Bool.{Bool, true, not, _&&_}
 use mathlib.Core.List.{List, [], _∷_}
 use Prim.Native.Nat.{ℕ, zero, suc, _+_, _*_, _/_, _%_, _^_, _≤_, _<_}
 use lib.ListN.{length, getD}
-use lib.Dec.{leb}
 use lib.Ieee as Ieee
-use lib.Ieee.{Float, nan, inf, fin, up, down, binary64, ofBits}
+use lib.Ieee.{Float, binary64, ofBits}
 use Rattle.answers.specs.Paper.{Reply, done, refuse}
+use Rattle.numbers.specs.Numbers.{allowedFor}
 use Rattle.complex.specs.declared.Complex.{Complex}
 use Rattle.complex.specs.Cells.{cellAt, cellsOf}
-
--- finite, and of magnitude at most 2 ^ k
-unfoldable pub allowedFor : ℕ → Float → Bool
-allowedFor k nan = false
-allowedFor k (inf s) = false
-allowedFor k (fin s m e) = leb (m * up e) (2 ^ k * down e)
 
 -- 7 at the first cell with a number that is not: the numbers from i on are left
 unfoldable pub componentsFor : ℕ → ℕ → List Float → Reply

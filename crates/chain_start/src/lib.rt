@@ -6,8 +6,9 @@ ghost use Prim.Native.Nat.{_+_, _*_, _^_, _≤_};
 ghost use lib.Ieee.{Float};
 ghost use lib.ListN.{length};
 ghost use Rattle.answers.specs.Paper.{paper};
+ghost use Rattle.numbers.specs.Numbers.{allowedFor};
 ghost use Rattle.complex.specs.Cells.{written};
-ghost use Rattle.chain_start.specs.Start.{allowedFor, componentsFor, stateZero, reversed, cellReversed, carriedFirst, TurnedTo, BlockRoom};
+ghost use Rattle.chain_start.specs.Start.{componentsFor, stateZero, reversed, cellReversed, carriedFirst, TurnedTo, BlockRoom};
 
 // Finite, and of magnitude at most 2^190.
 fn state_allowed(x: f64) -> bool

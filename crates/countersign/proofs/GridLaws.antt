@@ -4,17 +4,17 @@ use mathlib.Core.Bool.{true, not}
 use mathlib.Core.List.{List, [], _∷_}
 use Prim.Native.Nat.{ℕ, zero, suc, _/_, _<_}
 use native.Mathlib.Omega.{arith}
+use borrow.Author.Tests.{not-false}
 use lib.Ieee.{Float, nan}
 use lib.ListN.{length, getD}
 use Rattle.answers.proofs.PaperLaws.{refuse-done, andThen-done}
 use Rattle.countersign_grid.specs.Grid.{gridOf}
 use Rattle.countersign_checks.specs.Checks.{countersignSizes, countersignLengths, countersignComponents, offGrid, countersignGrid, countersignTests}
-use Rattle.countersign_checks.proofs.CheckLaws.{not-out}
 
 on-grid : (per i : ℕ) (l : List Float) → offGrid per i l .0 ≡ 0 → (j : ℕ) → j < length l → gridOf (getD l j nan) .on ≡ true
 unfolding offGrid
 on-grid per i [] e j h = absurd (omega arith)
-on-grid per i (x ∷ l) e zero h = not-out (gridOf x .on) (refuse-done (not (gridOf x .on)) 10 (i / per) (offGrid per (suc i) l) e .0)
+on-grid per i (x ∷ l) e zero h = not-false (gridOf x .on) (refuse-done (not (gridOf x .on)) 10 (i / per) (offGrid per (suc i) l) e .0)
 on-grid per i (x ∷ l) e (suc j) h = on-grid per (suc i) l (refuse-done (not (gridOf x .on)) 10 (i / per) (offGrid per (suc i) l) e .1) j (omega arith)
 
 abbrev OnGrid : List Float → Type 0

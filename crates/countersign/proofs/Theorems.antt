@@ -13,7 +13,8 @@ use Rattle.countersign_products.specs.Products.{productFits}
 use Rattle.countersign_grams.specs.Grams.{gramFits}
 use Rattle.countersign_scans.specs.Scans.{firstFail, valueFits}
 use Rattle.countersign_scans.proofs.ScanLaws.{before-holds, there-fails, all-hold}
-use Rattle.countersign_checks.specs.Checks.{sideOf, countersignTests}
+use Rattle.matrix_sizes.specs.Sizes.{sideOf}
+use Rattle.countersign_checks.specs.Checks.{countersignTests}
 use Rattle.countersign.proofs.GridLaws.{all-on-grid}
 use Rattle.countersign.specs.declared.Finding.{Finding}
 use Rattle.countersign.specs.declared.Finding.the-variants.{Unread, Yes, Product, Left, Right, Values}

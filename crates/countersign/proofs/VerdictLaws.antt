@@ -12,8 +12,10 @@ use Rattle.answers.proofs.PaperLaws.{andThen-done}
 use Rattle.countersign_products.specs.Products.{Factors, productFits}
 use Rattle.countersign_grams.specs.Grams.{gramFits}
 use Rattle.countersign_scans.specs.Scans.{firstFail, valueFits}
-use Rattle.countersign_checks.specs.Checks.{sideOf, countersignSizes, countersignLengths, countersignTests}
-use Rattle.countersign_checks.proofs.CheckLaws.{size-done, lengths-done, side-cells}
+use Rattle.matrix_sizes.specs.Sizes.{sideOf}
+use Rattle.matrix_sizes.proofs.SizesLaws.{side-cells}
+use Rattle.countersign_checks.specs.Checks.{countersignSizes, countersignLengths, countersignTests}
+use Rattle.countersign_checks.proofs.CheckLaws.{sizes-done, lengths-done}
 use Rattle.countersign.specs.declared.Finding.{Finding}
 use Rattle.countersign.specs.Verdict.{Says, says, failsAt, verdictOf, Accepted}
 
@@ -76,9 +78,9 @@ unfolding countersignTests
 accepted a m n u s vt {k} e d =
     let p = andThen-done (countersignSizes m n) _ e in
     let q = andThen-done (countersignLengths m n (length a) (length u) (length s) (length vt)) _ (p .1) in
-    let g = size-done m n (p .0) in
+    let g = sizes-done m n (p .0) in
     let l = lengths-done m n (length a) (length u) (length s) (length vt) (q .0) in
-    rw d (record { side = refl; most = g .3; cells = g .2; a-is = l .0; u-is = l .1; s-is = l .2; vt-is = l .3 })
+    rw d (record { side = refl; most = g .1; cells = g .0 .few; a-is = l .0; u-is = l .1; s-is = l .2; vt-is = l .3 })
 
 pub at-side : (a : List Float) (m n : ℕ) (u s vt : List Float) (t : ℕ) {k : ℕ} {f : Says} → k ≡ sideOf m n → f ≡ verdictOf a m n k u s vt t
     → f ≡ verdictOf a m n (sideOf m n) u s vt t

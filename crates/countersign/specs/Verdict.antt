@@ -9,7 +9,8 @@ use Rattle.answers.specs.Paper.{paper, ifDone}
 use Rattle.countersign_products.specs.Products.{productFits}
 use Rattle.countersign_grams.specs.Grams.{gramFits}
 use Rattle.countersign_scans.specs.Scans.{firstFail, valueFits}
-use Rattle.countersign_checks.specs.Checks.{sideOf, countersignTests}
+use Rattle.matrix_sizes.specs.Sizes.{sideOf}
+use Rattle.countersign_checks.specs.Checks.{countersignTests}
 use Rattle.countersign.specs.declared.Finding.{Finding}
 use Rattle.countersign.specs.declared.Finding.the-variants.{Unread, Yes, Product, Left, Right, Values}
 use Rattle.countersign.specs.declared.Countersigned.{Countersigned}

@@ -120,7 +120,7 @@ pub fn countersign(
             finding: Finding::Unread,
         };
     };
-    let k = countersign_checks::smaller_side(m, n);
+    let k = matrix_sizes::smaller_size(m, n);
     let finding = judge(a, m, n, k, u, s, vt, tolerance);
     Countersigned {
         answer: Answer::Done,

@@ -1,23 +1,19 @@
 -- The refusals of a call that countersigns, in their order: 1, 6, 7 in all four arguments, 11 in all four.
 -- Definitions only.
-use mathlib.Core.Bool.{not, cond}
+use mathlib.Core.Bool.{not}
 use mathlib.Core.List.{List, [], _∷_}
 use Prim.Native.Nat.{ℕ, suc, _*_, _/_}
-use lib.Dec.{leb, ltb}
+use lib.Dec.{ltb}
 use lib.Ieee.{Float}
 use lib.ListN.{length}
 use Rattle.answers.specs.Paper.{Reply, done, refuse, andThen, exactly}
+use Rattle.matrix_sizes.specs.Sizes.{sideOf, matrixSizes}
 use Rattle.complex.specs.Cells.{components}
 use Rattle.values.specs.Lists.{valuesAllowed}
 use Rattle.countersign_grid.specs.Grid.{gridOf}
 
--- the smaller size: how many values there are
-unfoldable pub sideOf : ℕ → ℕ → ℕ
-sideOf m n = cond (ltb m n) m n
-
 unfoldable pub countersignSizes : ℕ → ℕ → Reply
-countersignSizes m n =
-    refuse (not (leb 1 m)) (1, 0) (refuse (not (leb 1 n)) (1, 0) (refuse (ltb 4096 (m * n)) (1, 0) (refuse (ltb 16 (sideOf m n)) (1, 0) done)))
+countersignSizes m n = andThen (matrixSizes m n) (refuse (ltb 16 (sideOf m n)) (1, 0) done)
 
 unfoldable pub countersignLengths : ℕ → ℕ → ℕ → ℕ → ℕ → ℕ → Reply
 countersignLengths m n a u s vt =

@@ -4,38 +4,17 @@ ghost use mathlib.Core.Path.{_≡_};
 ghost use Prim.Native.Nat.{_*_, _<_, _≤_};
 ghost use lib.ListN.{length};
 ghost use Rattle.answers.specs.Paper.{paper};
-ghost use Rattle.countersign_checks.specs.Checks.{sideOf, countersignSizes, countersignLengths, countersignComponents, offGrid, countersignGrid, countersignTests};
+ghost use Rattle.countersign_checks.specs.Checks.{countersignSizes, countersignLengths, countersignComponents, offGrid, countersignGrid, countersignTests};
 
-// The smaller of the two sizes.
-pub fn smaller_side(m: usize, n: usize) -> usize
-    ensures { λ r. ⌜ r ≡ sideOf m n ⌝ }
-{
-    if m < n {
-        return m;
-    }
-    n
-}
-
-// Both sizes at least 1, at most 4096 cells, and the smaller size at most 16: else 1.
+// Sizes that are taken, and the smaller size at most 16: else 1.
 fn check_sizes(m: usize, n: usize) -> Answer
     ensures { λ r. ⌜ paper r ≡ countersignSizes m n ⌝ }
 {
-    if m < 1 {
-        return Answer::Size;
-    }
-    if n < 1 {
-        return Answer::Size;
-    }
-    if m > 4096 {
-        return Answer::Size;
-    }
-    if n > 4096 {
-        return Answer::Size;
-    }
-    if m * n > 4096 {
-        return Answer::Size;
-    }
-    let k = smaller_side(m, n);
+    let first = matrix_sizes::check_sizes(m, n);
+    let Answer::Done = first else {
+        return first;
+    };
+    let k = matrix_sizes::smaller_size(m, n);
     if k > 16 {
         return Answer::Size;
     }
@@ -47,7 +26,7 @@ fn check_lengths(m: usize, n: usize, a: usize, u: usize, s: usize, vt: usize) ->
     requires { ⌜ m * n ≤ 4096 ⌝ }
     ensures { λ r. ⌜ paper r ≡ countersignLengths m n a u s vt ⌝ }
 {
-    let k = smaller_side(m, n);
+    let k = matrix_sizes::smaller_size(m, n);
     let in_a = answers::exact_length(0, a, 2 * (m * n));
     let in_u = answers::exact_length(1, u, 2 * (m * k));
     let in_s = answers::exact_length(2, s, k);

@@ -53,8 +53,13 @@ orderNumber Less = 0
 orderNumber Equal = 1
 orderNumber Greater = 2
 
+-- finite, and of magnitude at most 2 ^ k
+unfoldable pub allowedFor : ℕ → Float → Bool
+allowedFor k nan = false
+allowedFor k (inf s) = false
+allowedFor k (fin s m e) = leb (m * up e) (2 ^ k * down e)
+
 -- finite, and of magnitude at most 2 ^ 200
 unfoldable pub allowed : Float → Bool
-allowed nan = false
-allowed (inf s) = false
-allowed (fin s m e) = leb (m * up e) (2 ^ 200 * down e)
+unfolding allowedFor
+allowed x = allowedFor 200 x

@@ -1,20 +1,20 @@
 -- What each way out of a call makes of its contract, and that the contract leaves one outcome. Assumes nothing.
 use mathlib.Core.Path.{_≡_, refl, sym, ap, subst, _∙_}
-use mathlib.Core.Bool.{Bool, true, false, not, _&&_}
+use mathlib.Core.Bool.{Bool, true, false, _&&_}
 use mathlib.Core.List.{List, _++_}
 use mathlib.Core.Logic.{inl}
 use Prim.Native.Nat.{ℕ, zero, suc, _+_, _*_, _≤_, _<_, min}
 use native.Mathlib.Nat.{mul-comm, mul-le-mul-right, le-mul-of-pos-right, mul-pos, le-min, min-le-left, min-le-right}
 use native.Mathlib.Omega.{arith}
-use borrow.Author.Tests.{eq-eqb, ne-eqb, lt-ltb, le-ltb, ltb-false, eqb-true, not-false}
-use lib.Dec.{eqb, ltb}
 use lib.Ieee.{Float}
 use lib.ListN.{length, take, drop}
 use lib.Seq.{length-take-le}
 use Rattle.answers.specs.declared.Answer.{Answer}
 use Rattle.answers.specs.declared.Answer.the-variants.{Done, NotFinite}
-use Rattle.answers.specs.Paper.{Reply, paper, done, refuse, after, andThen, ifDone, ifWorked, atEnd}
-use Rattle.answers.proofs.PaperLaws.{refuse-done, andThen-done, stays, refuse-small, after-small, Ended, nine-ended, worked-new, worked-old, done-new, done-old, end-old}
+use Rattle.answers.specs.Paper.{Reply, paper, done, after, andThen, ifDone, ifWorked, atEnd, exactly, room}
+use Rattle.answers.proofs.PaperLaws.{both, andThen-done, exactly-done, room-done, stays, then-small, exactly-small, room-small, Ended, nine-ended, worked-new, worked-old, done-new, done-old, end-old}
+use Rattle.matrix_sizes.specs.Sizes.{matrixSizes, MatrixSized}
+use Rattle.matrix_sizes.proofs.SizesLaws.{size-done, size-small}
 use Rattle.values.specs.Lists.{allFinite}
 use Rattle.complex.specs.Cells.{components}
 use Rattle.complex.proofs.CellLaws.{components-small}
@@ -23,40 +23,13 @@ use Rattle.complex.proofs.ZerosLaws.{length-zeros}
 use Rattle.qr_passes.specs.Room.{QrRoom}
 use Rattle.qr_passes.proofs.GramSchmidtLaws.{zeroed-all}
 use Rattle.qr_passes.specs.GramSchmidt.{Factors, factors, qrFactors}
-use Rattle.qr.specs.Call.{qNeed, rNeed, scratchNeed, QrSized, qrSizes, qrLengths, qrRefusal, qrEnd, qrAnswer, QrFinished, Factorized}
+use Rattle.qr.specs.Call.{qNeed, rNeed, scratchNeed, qrLengths, qrRefusal, qrEnd, qrAnswer, QrFinished, Factorized}
 
--- ---- 1
+-- ---- the needed lengths
 
 module _ (rows cols : ℕ) where
-  pub no-rows : rows < 1 → (1, 0) ≡ qrSizes rows cols
-  unfolding qrSizes
-  no-rows h = rw (lt-ltb _ _ h)
-
-  pub no-cols : 1 ≤ rows → cols < 1 → (1, 0) ≡ qrSizes rows cols
-  unfolding qrSizes
-  no-cols h g = rw (le-ltb rows 1 h, lt-ltb cols 1 g)
-
-  pub too-many : 1 ≤ rows → 1 ≤ cols → 4096 < rows * cols → (1, 0) ≡ qrSizes rows cols
-  unfolding qrSizes
-  too-many h g l = rw (le-ltb rows 1 h, le-ltb cols 1 g, lt-ltb 4096 (rows * cols) l)
-
-  pub sized : 1 ≤ rows → 1 ≤ cols → rows * cols ≤ 4096 → done ≡ qrSizes rows cols
-  unfolding qrSizes
-  sized h g l = rw (le-ltb rows 1 h, le-ltb cols 1 g, le-ltb 4096 (rows * cols) l)
-
   pub rows-within : 1 ≤ cols → rows ≤ rows * cols
   rows-within h = le-mul-of-pos-right rows h
-
-  pub cols-within : 1 ≤ rows → cols ≤ rows * cols
-  cols-within h = omega (arith, le-mul-of-pos-right cols h, mul-comm rows cols)
-
-  pub sizes-done : qrSizes rows cols .0 ≡ 0 → QrSized rows cols
-  unfolding qrSizes
-  sizes-done e =
-      let a = refuse-done (ltb rows 1) 0 0 (refuse (ltb cols 1) (1, 0) (refuse (ltb 4096 (rows * cols)) (1, 0) done)) e in
-      let b = refuse-done (ltb cols 1) 0 0 (refuse (ltb 4096 (rows * cols)) (1, 0) done) (a .1) in
-      let d = refuse-done (ltb 4096 (rows * cols)) 0 0 done (b .1) in
-      record { some-rows = ltb-false rows 1 (a .0); some-cols = ltb-false cols 1 (b .0); few = ltb-false 4096 (rows * cols) (d .0) }
 
   -- no slice needs more numbers than the matrix has
   pub q-within : min rows cols * rows ≤ rows * cols
@@ -81,29 +54,11 @@ module _ (rows cols : ℕ) {cap : ℕ} (e : cap ≡ min rows cols) where
 
 -- ---- 6
 
-module _ (rows cols a q r s : ℕ) where
-  pub length-0 : (a ≡ 2 * (rows * cols) → ⊥) → (6, 0) ≡ qrLengths rows cols a q r s
-  unfolding qrLengths
-  length-0 h = rw (ne-eqb a (2 * (rows * cols)) h)
-
-  module _ (e : a ≡ 2 * (rows * cols)) where
-    pub length-1 : q < qNeed rows cols → (6, 1) ≡ qrLengths rows cols a q r s
-    unfolding qrLengths
-    length-1 h = rw (eq-eqb a (2 * (rows * cols)) e, lt-ltb q (qNeed rows cols) h)
-
-    module _ (f : qNeed rows cols ≤ q) where
-      pub length-2 : r < rNeed rows cols → (6, 2) ≡ qrLengths rows cols a q r s
-      unfolding qrLengths
-      length-2 h = rw (eq-eqb a (2 * (rows * cols)) e, le-ltb q (qNeed rows cols) f, lt-ltb r (rNeed rows cols) h)
-
-      module _ (g : rNeed rows cols ≤ r) where
-        pub length-3 : s < scratchNeed rows → (6, 3) ≡ qrLengths rows cols a q r s
-        unfolding qrLengths
-        length-3 h = rw (eq-eqb a (2 * (rows * cols)) e, le-ltb q (qNeed rows cols) f, le-ltb r (rNeed rows cols) g, lt-ltb s (scratchNeed rows) h)
-
-        pub length-ok : scratchNeed rows ≤ s → done ≡ qrLengths rows cols a q r s
-        unfolding qrLengths
-        length-ok h = rw (eq-eqb a (2 * (rows * cols)) e, le-ltb q (qNeed rows cols) f, le-ltb r (rNeed rows cols) g, le-ltb s (scratchNeed rows) h)
+pub made-lengths : (rows cols a q r s : ℕ) {cap : ℕ} {r0 r1 r2 r3 q1 q2 q3 : Reply} → cap ≡ min rows cols
+    → r0 ≡ exactly 0 a (2 * (rows * cols)) → r1 ≡ room 1 q (2 * (cap * rows)) → r2 ≡ room 2 r (2 * (cap * cols)) → r3 ≡ room 3 s (2 * rows)
+    → q1 ≡ andThen r2 r3 → q2 ≡ andThen r1 q1 → q3 ≡ andThen r0 q2 → q3 ≡ qrLengths rows cols a q r s
+unfolding qrLengths
+made-lengths rows cols a q r s e r0 r1 r2 r3 q1 q2 q3 = rw (← e) (both q3 r0 (both q2 r1 (both q1 r2 r3)))
 
 -- what the slices have where no length is refused
 pub record Long (rows cols a q r s : ℕ) : Type 0 where
@@ -115,31 +70,27 @@ pub record Long (rows cols a q r s : ℕ) : Type 0 where
 lengths-done : (rows cols a q r s : ℕ) → qrLengths rows cols a q r s .0 ≡ 0 → Long rows cols a q r s
 unfolding qrLengths
 lengths-done rows cols a q r s e =
-    let d₃ = refuse (ltb s (scratchNeed rows)) (6, 3) done in
-    let d₂ = refuse (ltb r (rNeed rows cols)) (6, 2) d₃ in
-    let d₁ = refuse (ltb q (qNeed rows cols)) (6, 1) d₂ in
-    let x₀ = refuse-done (not (eqb a (2 * (rows * cols)))) 5 0 d₁ e in
-    let x₁ = refuse-done (ltb q (qNeed rows cols)) 5 1 d₂ (x₀ .1) in
-    let x₂ = refuse-done (ltb r (rNeed rows cols)) 5 2 d₃ (x₁ .1) in
-    let x₃ = refuse-done (ltb s (scratchNeed rows)) 5 3 done (x₂ .1) in
+    let x₀ = andThen-done (exactly 0 a (2 * (rows * cols))) _ e in
+    let x₁ = andThen-done (room 1 q (qNeed rows cols)) _ (x₀ .1) in
+    let x₂ = andThen-done (room 2 r (rNeed rows cols)) (room 3 s (scratchNeed rows)) (x₁ .1) in
     record {
-      a-is = eqb-true a (2 * (rows * cols)) (not-false _ (x₀ .0));
-      q-has = ltb-false q (qNeed rows cols) (x₁ .0);
-      r-has = ltb-false r (rNeed rows cols) (x₂ .0);
-      s-has = ltb-false s (scratchNeed rows) (x₃ .0);
+      a-is = exactly-done 0 a (2 * (rows * cols)) (x₀ .0);
+      q-has = room-done 1 q (qNeed rows cols) (x₁ .0);
+      r-has = room-done 2 r (rNeed rows cols) (x₂ .0);
+      s-has = room-done 3 s (scratchNeed rows) (x₂ .1);
     }
 
 -- ---- 1, 6 and 7
 
 module _ (a : List Float) (rows cols q r s : ℕ) where
-  refusal-parts : qrRefusal a rows cols q r s .0 ≡ 0 → (qrSizes rows cols .0 ≡ 0) × (qrLengths rows cols (length a) q r s .0 ≡ 0)
+  refusal-parts : qrRefusal a rows cols q r s .0 ≡ 0 → (matrixSizes rows cols .0 ≡ 0) × (qrLengths rows cols (length a) q r s .0 ≡ 0)
   unfolding qrRefusal
   refusal-parts e =
-      let x = andThen-done (qrSizes rows cols) (andThen (qrLengths rows cols (length a) q r s) (components 0 a)) e in
+      let x = andThen-done (matrixSizes rows cols) (andThen (qrLengths rows cols (length a) q r s) (components 0 a)) e in
       (x .0, andThen-done (qrLengths rows cols (length a) q r s) (components 0 a) (x .1) .0)
 
-  pub refusal-sized : qrRefusal a rows cols q r s .0 ≡ 0 → QrSized rows cols
-  refusal-sized e = sizes-done rows cols (refusal-parts e .0)
+  pub refusal-sized : qrRefusal a rows cols q r s .0 ≡ 0 → MatrixSized rows cols
+  refusal-sized e = size-done rows cols (refusal-parts e .0)
 
   pub refusal-long : qrRefusal a rows cols q r s .0 ≡ 0 → Long rows cols (length a) q r s
   refusal-long e = lengths-done rows cols (length a) q r s (refusal-parts e .1)
@@ -156,9 +107,9 @@ parts-room rows cols a q r s {nq} {nr} {ns} l e f g =
       v-is = length-take-le ns s (omega (arith, l .s-has)) ∙ g;
     }
 
-pub room-some : {rows cols la lq lr lv : ℕ} → QrSized rows cols → QrRoom rows cols (min rows cols) la lq lr lv → 1 < lq
+pub room-some : {rows cols la lq lr lv : ℕ} → MatrixSized rows cols → QrRoom rows cols (min rows cols) la lq lr lv → 1 < lq
 room-some {rows} {cols} s o =
-    let h : 0 < min rows cols * rows = mul-pos (le-min (s .some-rows) (s .some-cols)) (s .some-rows) in
+    let h : 0 < min rows cols * rows = mul-pos (le-min (s .some-rows) (s .some-columns)) (s .some-rows) in
     omega (arith, o .q-is)
 
 -- ---- 9
@@ -220,24 +171,18 @@ scratch-end n m old part h e =
     ap (λ (x : List Float). x ++ drop m old) e ∙ worked-new n (zeros m ++ drop m old) old h
 
 -- a refusal's number is at most 7
+lengths-small : (rows cols a q r s : ℕ) → qrLengths rows cols a q r s .0 < 8
+unfolding qrLengths
+lengths-small rows cols a q r s =
+    then-small (exactly 0 a (2 * (rows * cols))) _ (exactly-small 0 a (2 * (rows * cols)))
+    (then-small (room 1 q (qNeed rows cols)) _ (room-small 1 q (qNeed rows cols))
+    (then-small (room 2 r (rNeed rows cols)) _ (room-small 2 r (rNeed rows cols)) (room-small 3 s (scratchNeed rows))))
+
 refusal-small : (a : List Float) (rows cols q r s : ℕ) → qrRefusal a rows cols q r s .0 < 8
-unfolding qrRefusal qrSizes qrLengths
+unfolding qrRefusal
 refusal-small a rows cols q r s =
-    let a₂ = refuse (ltb 4096 (rows * cols)) (1, 0) done in
-    let a₁ = refuse (ltb cols 1) (1, 0) a₂ in
-    let b₃ = refuse (ltb s (scratchNeed rows)) (6, 3) done in
-    let b₂ = refuse (ltb r (rNeed rows cols)) (6, 2) b₃ in
-    let b₁ = refuse (ltb q (qNeed rows cols)) (6, 1) b₂ in
-    let d₃ = refuse-small (ltb s (scratchNeed rows)) 6 3 done (omega arith) (omega arith) in
-    let d₂ = refuse-small (ltb r (rNeed rows cols)) 6 2 b₃ (omega arith) d₃ in
-    let d₁ = refuse-small (ltb q (qNeed rows cols)) 6 1 b₂ (omega arith) d₂ in
-    let d₀ = refuse-small (not (eqb (length a) (2 * (rows * cols)))) 6 0 b₁ (omega arith) d₁ in
-    let e₂ = refuse-small (ltb 4096 (rows * cols)) 1 0 done (omega arith) (omega arith) in
-    let e₁ = refuse-small (ltb cols 1) 1 0 a₂ (omega arith) e₂ in
-    let e₀ = refuse-small (ltb rows 1) 1 0 a₁ (omega arith) e₁ in
-    let x = qrLengths rows cols (length a) q r s in
-    let y = qrSizes rows cols in
-    after-small (y .0) y (andThen x (components 0 a)) e₀ (after-small (x .0) x (components 0 a) d₀ (components-small 0 a))
+    then-small (matrixSizes rows cols) _ (size-small rows cols)
+    (then-small (qrLengths rows cols (length a) q r s) (components 0 a) (lengths-small rows cols (length a) q r s) (components-small 0 a))
 
 module _ (a : List Float) (rows cols : ℕ) (q r s : List Float) where
   pub call-refused : (x : Answer) → paper x ≡ qrRefusal a rows cols (length q) (length r) (length s) → (paper x .0 ≡ 0 → ⊥)

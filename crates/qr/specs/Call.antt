@@ -2,12 +2,12 @@
 use mathlib.Core.Path.{_≡_}
 use mathlib.Core.Bool.{not, _&&_}
 use mathlib.Core.List.{List, _++_}
-use Prim.Native.Nat.{ℕ, _*_, _≤_, min}
-use lib.Dec.{eqb, ltb}
+use Prim.Native.Nat.{ℕ, _*_, min}
 use lib.Ieee.{Float}
 use lib.ListN.{length, drop}
 use Rattle.answers.specs.declared.Answer.{Answer}
-use Rattle.answers.specs.Paper.{Reply, paper, done, refuse, andThen, ifDone, ifWorked, atEnd}
+use Rattle.answers.specs.Paper.{Reply, paper, done, refuse, andThen, ifDone, ifWorked, atEnd, exactly, room}
+use Rattle.matrix_sizes.specs.Sizes.{matrixSizes}
 use Rattle.values.specs.Lists.{allFinite}
 use Rattle.complex.specs.Cells.{components}
 use Rattle.complex.specs.Zeros.{zeros, zeroed}
@@ -23,26 +23,16 @@ rNeed rows cols = 2 * (min rows cols * cols)
 abbrev pub scratchNeed : ℕ → ℕ
 scratchNeed rows = 2 * rows
 
--- the sizes that are taken
-pub record QrSized (rows cols : ℕ) : Type 0 where
-  pub some-rows : 1 ≤ rows
-  pub some-cols : 1 ≤ cols
-  pub few : rows * cols ≤ 4096
-
--- 1
-unfoldable pub qrSizes : ℕ → ℕ → Reply
-qrSizes rows cols = refuse (ltb rows 1) (1, 0) (refuse (ltb cols 1) (1, 0) (refuse (ltb 4096 (rows * cols)) (1, 0) done))
-
 -- 6: the matrix is exact, the others are long enough
 unfoldable pub qrLengths : ℕ → ℕ → ℕ → ℕ → ℕ → ℕ → Reply
 qrLengths rows cols a q r scratch =
-    refuse (not (eqb a (2 * (rows * cols)))) (6, 0)
-    (refuse (ltb q (qNeed rows cols)) (6, 1) (refuse (ltb r (rNeed rows cols)) (6, 2) (refuse (ltb scratch (scratchNeed rows)) (6, 3) done)))
+    andThen (exactly 0 a (2 * (rows * cols)))
+    (andThen (room 1 q (qNeed rows cols)) (andThen (room 2 r (rNeed rows cols)) (room 3 scratch (scratchNeed rows))))
 
 -- 1, 6 and 7
 unfoldable pub qrRefusal : List Float → ℕ → ℕ → ℕ → ℕ → ℕ → Reply
-unfolding qrSizes qrLengths
-qrRefusal a rows cols q r scratch = andThen (qrSizes rows cols) (andThen (qrLengths rows cols (length a) q r scratch) (components 0 a))
+unfolding qrLengths
+qrRefusal a rows cols q r scratch = andThen (matrixSizes rows cols) (andThen (qrLengths rows cols (length a) q r scratch) (components 0 a))
 
 -- 9: a number of q or r is not finite
 unfoldable pub qrEnd : Factors → Reply

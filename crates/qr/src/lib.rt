@@ -2,14 +2,15 @@
 use answers::Answer;
 ghost use mathlib.Core.Path.{_≡_};
 ghost use mathlib.Core.Bool.{_&&_};
-ghost use Prim.Native.Nat.{_*_, _<_, _≤_, min};
+ghost use Prim.Native.Nat.{_<_, min};
 ghost use lib.ListN.{length};
 ghost use Rattle.answers.specs.Paper.{paper};
+ghost use Rattle.matrix_sizes.specs.Sizes.{MatrixSized};
 ghost use Rattle.complex.specs.Zeros.{zeros};
 ghost use Rattle.qr_passes.specs.Room.{QrRoom};
 ghost use Rattle.qr_passes.specs.GramSchmidt.{factors, qrFactors};
 ghost use Rattle.values.specs.Lists.{allFinite};
-ghost use Rattle.qr.specs.Call.{QrSized, qrSizes, qrLengths, qrRefusal, QrFinished, Factorized};
+ghost use Rattle.qr.specs.Call.{qrLengths, qrRefusal, QrFinished, Factorized};
 
 // What a call hands back: the answer, and on Done the rank.
 pub struct Factored {
@@ -66,54 +67,27 @@ fn factor_parts(
     settle(q, r, rank)
 }
 
-// Answer 1.
-fn check_sizes(rows: usize, cols: usize) -> Answer
-    ensures { λ x. ⌜ paper x ≡ qrSizes rows cols ⌝ }
-{
-    if rows < 1 {
-        return Answer::Size;
-    }
-    if cols < 1 {
-        return Answer::Size;
-    }
-    if 4096 < rows {
-        return Answer::Size;
-    }
-    if 4096 < cols {
-        return Answer::Size;
-    }
-    if 4096 < rows * cols {
-        return Answer::Size;
-    }
-    Answer::Done
-}
-
 // Answer 6.
 fn check_lengths(rows: usize, cols: usize, a: usize, q: usize, r: usize, scratch: usize) -> Answer
-    requires { ⌜ QrSized rows cols ⌝ }
+    requires { ⌜ MatrixSized rows cols ⌝ }
     ensures { λ x. ⌜ paper x ≡ qrLengths rows cols a q r scratch ⌝ }
 {
     let cap = qr_passes::smaller(rows, cols);
-    if a != 2 * (rows * cols) {
-        return Answer::Length(0);
-    }
-    if q < 2 * (cap * rows) {
-        return Answer::Length(1);
-    }
-    if r < 2 * (cap * cols) {
-        return Answer::Length(2);
-    }
-    if scratch < 2 * rows {
-        return Answer::Length(3);
-    }
-    Answer::Done
+    let in_a = answers::exact_length(0, a, 2 * (rows * cols));
+    let in_q = answers::enough_room(1, q, 2 * (cap * rows));
+    let in_r = answers::enough_room(2, r, 2 * (cap * cols));
+    let in_scratch = answers::enough_room(3, scratch, 2 * rows);
+    answers::and_then(
+        in_a,
+        answers::and_then(in_q, answers::and_then(in_r, in_scratch)),
+    )
 }
 
 // Answers 1, 6 and 7.
 fn check(a: &[f64], rows: usize, cols: usize, q: usize, r: usize, scratch: usize) -> Answer
     ensures { λ x. ⌜ paper x ≡ qrRefusal (now (a .entry)) rows cols q r scratch ⌝ }
 {
-    let first = check_sizes(rows, cols);
+    let first = matrix_sizes::check_sizes(rows, cols);
     let Answer::Done = first else {
         return first;
     };

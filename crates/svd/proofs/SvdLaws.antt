@@ -11,8 +11,11 @@ use borrow.Author.Tests.{lt-ltb, le-ltb, le-leb, lt-leb, ltb-true, ltb-false, le
 use lib.ListN.{length, drop, drop-of-length-le}
 use lib.Ieee.{Float}
 use Rattle.answers.specs.declared.Answer.{Answer}
-use Rattle.answers.specs.Paper.{Reply, paper, done, refuse, andThen, ifDone, atEnd}
-use Rattle.answers.proofs.PaperLaws.{refuse-done, andThen-done, stays, refuse-small, after-small, Ended, nine-ended, worked-new, worked-old, end-old}
+use Rattle.answers.specs.Paper.{Reply, paper, done, andThen, ifDone, atEnd, exactly, room}
+use Rattle.answers.proofs.PaperLaws.{both, andThen-done, exactly-done, room-done, stays, then-small, exactly-small, room-small, Ended, nine-ended, worked-new, worked-old, end-old}
+use Rattle.matrix_sizes.specs.Sizes.{matrixSizes}
+use Rattle.matrix_sizes.proofs.SizesLaws.{size-done, size-small}
+pub use Rattle.matrix_sizes.proofs.SizesLaws.{side-wide, side-tall, side-low, side-cells}
 use Rattle.complex.specs.Cells.{cellAt, components}
 use Rattle.complex.proofs.CellLaws.{components-small}
 use Rattle.complex.specs.Zeros.{zeros, zeroed}
@@ -25,140 +28,17 @@ use Rattle.svd_thin.proofs.ThinLaws.{side-fits}
 use Rattle.factored.specs.declared.Factored.{Factored}
 use Rattle.factored.specs.Factored.{keptSweeps}
 use Rattle.factored.proofs.Laws.{kept-none, kept-by}
-use Rattle.svd.specs.Svd.{sideOf, rowsOf, needU, needVt, svdScratch, svdSizes, svdLengths, svdTests, workOf, directions, vColumns, uOf, sOf, vtOf, svdSweeps, finiteFactors, svdEnd, svdAnswer, Svd, SvdExact, SvdFactored, SvdFinished, SvdWorked}
+use Rattle.svd.specs.Svd.{sideOf, rowsOf, needU, needVt, svdScratch, svdLengths, svdTests, workOf, directions, vColumns, uOf, sOf, vtOf, svdSweeps, finiteFactors, svdEnd, svdAnswer, Svd, SvdExact, SvdFactored, SvdFinished, SvdWorked}
 use Rattle.sweeps.proofs.Ceiling.{Ceiling}
 use Rattle.svd_sweeps.proofs.SweepingLaws.{settled-ceiling}
 
--- ---- the sizes
+-- ---- the lengths
 
-pub side-wide : (m n : ℕ) → m < n → (sideOf m n ≡ m) × (rowsOf m n ≡ n)
-unfolding sideOf rowsOf
-side-wide m n h = (rw (lt-ltb m n h), rw (lt-ltb m n h))
-
-pub side-tall : (m n : ℕ) → n ≤ m → (sideOf m n ≡ n) × (rowsOf m n ≡ m)
-unfolding sideOf rowsOf
-side-tall m n h = (rw (le-ltb m n h), rw (le-ltb m n h))
-
-pub side-low : (m n : ℕ) → (sideOf m n ≤ m) × (sideOf m n ≤ n)
-unfolding sideOf
-side-low m n = pick (ltb m n) refl
-  where
-    pick : (b : Bool) → ltb m n ≡ b → (cond b m n ≤ m) × (cond b m n ≤ n)
-    pick true e =
-        let h : m < n = ltb-true m n e in
-        (omega arith, omega arith)
-    pick false e =
-        let h : n ≤ m = ltb-false m n e in
-        (omega arith, omega arith)
-
--- a size above 4096 leaves no room for the other
-pub too-many : (m n : ℕ) → 1 ≤ m → 1 ≤ n → 4096 < m → 4096 < m * n
-too-many m n a b h =
-    let p : 4097 * 1 ≤ m * n = mul-le-mul h b in
-    omega arith
-
-pub too-many' : (m n : ℕ) → 1 ≤ m → 1 ≤ n → 4096 < n → 4096 < m * n
-too-many' m n a b h =
-    let p : 1 * 4097 ≤ m * n = mul-le-mul a h in
-    omega arith
-
--- a size below 1 is refused, and so is a product above 4096
-pub size-rows : (m n : ℕ) → m < 1 → (1, 0) ≡ svdSizes m n
-unfolding svdSizes
-size-rows m n h = rw (lt-leb 1 m h)
-
-pub size-columns : (m n : ℕ) → 1 ≤ m → n < 1 → (1, 0) ≡ svdSizes m n
-unfolding svdSizes
-size-columns m n a h = rw (le-leb 1 m a, lt-leb 1 n h)
-
-pub size-cells : (m n : ℕ) → 1 ≤ m → 1 ≤ n → 4096 < m * n → (1, 0) ≡ svdSizes m n
-unfolding svdSizes
-size-cells m n a b h = rw (le-leb 1 m a, le-leb 1 n b, lt-ltb 4096 (m * n) h)
-
-pub size-good : (m n : ℕ) → 1 ≤ m → 1 ≤ n → m * n ≤ 4096 → done ≡ svdSizes m n
-unfolding svdSizes
-size-good m n a b h = rw (le-leb 1 m a, le-leb 1 n b, le-ltb 4096 (m * n) h)
-
-not-out : (b : Bool) → not b ≡ false → b ≡ true
-not-out true e = refl
-not-out false e = cc
-
-pub size-done : (m n : ℕ) → svdSizes m n .0 ≡ 0 → (1 ≤ m) × (1 ≤ n) × (m * n ≤ 4096)
-unfolding svdSizes
-size-done m n e =
-    let a = refuse-done (not (leb 1 m)) 0 0 _ e in
-    let b = refuse-done (not (leb 1 n)) 0 0 _ (a .1) in
-    let c = refuse-done (ltb 4096 (m * n)) 0 0 _ (b .1) in
-    (leb-true 1 m (not-out (leb 1 m) (a .0)), leb-true 1 n (not-out (leb 1 n) (b .0)), ltb-false 4096 (m * n) (c .0))
-
--- the products that are reckoned
-pub side-cells : (m n k : ℕ) → k ≡ sideOf m n → (m * k ≤ m * n) × (k * n ≤ m * n) × (k ≤ m * n)
-side-cells m n k e =
-    let l = side-low m n in
-    let a : k ≤ m = rw (sym e) at (l .0) in
-    let b : k ≤ n = rw (sym e) at (l .1) in
-    let q : k * k ≤ m * n = mul-le-mul a b in
-    (mul-le-mul-left m b, mul-le-mul-right n a, omega (arith, side-fits k))
-
-module _ (m n a u s vt scratch : ℕ) {k : ℕ} (e : k ≡ sideOf m n) where
-  pub lengths-0 : (a ≡ 2 * (m * n) → ⊥) → (6, 0) ≡ svdLengths m n a u s vt scratch
-  unfolding svdLengths
-  lengths-0 h = rw (ne-eqb a (2 * (m * n)) h)
-
-  module _ (ea : a ≡ 2 * (m * n)) where
-    pub lengths-1 : u < 2 * (m * k) → (6, 1) ≡ svdLengths m n a u s vt scratch
-    unfolding svdLengths
-    lengths-1 h =
-        let g : u < needU m n = rw e at h in
-        rw (eq-eqb a (2 * (m * n)) ea, lt-ltb u (needU m n) g)
-
-    module _ (hu : 2 * (m * k) ≤ u) where
-      gu : needU m n ≤ u
-      gu = rw e at hu
-
-      pub lengths-2 : s < k → (6, 2) ≡ svdLengths m n a u s vt scratch
-      unfolding svdLengths
-      lengths-2 h =
-          let g : s < sideOf m n = rw e at h in
-          rw (eq-eqb a (2 * (m * n)) ea, le-ltb u (needU m n) gu, lt-ltb s (sideOf m n) g)
-
-      module _ (hs : k ≤ s) where
-        gs : sideOf m n ≤ s
-        gs = rw e at hs
-
-        pub lengths-3 : vt < 2 * (k * n) → (6, 3) ≡ svdLengths m n a u s vt scratch
-        unfolding svdLengths
-        lengths-3 h =
-            let g : vt < needVt m n = rw e at h in
-            rw (eq-eqb a (2 * (m * n)) ea, le-ltb u (needU m n) gu, le-ltb s (sideOf m n) gs, lt-ltb vt (needVt m n) g)
-
-        module _ (hv : 2 * (k * n) ≤ vt) where
-          gv : needVt m n ≤ vt
-          gv = rw e at hv
-
-          pub lengths-4 : scratch < 6 * (m * n) + 2 * k → (6, 4) ≡ svdLengths m n a u s vt scratch
-          unfolding svdLengths
-          lengths-4 h =
-              let g : scratch < svdScratch m n = rw e at h in
-              rw (
-                eq-eqb a (2 * (m * n)) ea,
-                le-ltb u (needU m n) gu,
-                le-ltb s (sideOf m n) gs,
-                le-ltb vt (needVt m n) gv,
-                lt-ltb scratch (svdScratch m n) g,
-              )
-
-          pub lengths-good : 6 * (m * n) + 2 * k ≤ scratch → done ≡ svdLengths m n a u s vt scratch
-          unfolding svdLengths
-          lengths-good h =
-              let g : svdScratch m n ≤ scratch = rw e at h in
-              rw (
-                eq-eqb a (2 * (m * n)) ea,
-                le-ltb u (needU m n) gu,
-                le-ltb s (sideOf m n) gs,
-                le-ltb vt (needVt m n) gv,
-                le-ltb scratch (svdScratch m n) g,
-              )
+pub made-lengths : (m n a u s vt scratch : ℕ) {k : ℕ} {r0 r1 r2 r3 r4 q1 q2 q3 q4 : Reply} → k ≡ sideOf m n
+    → r0 ≡ exactly 0 a (2 * (m * n)) → r1 ≡ room 1 u (2 * (m * k)) → r2 ≡ room 2 s k → r3 ≡ room 3 vt (2 * (k * n)) → r4 ≡ room 4 scratch (6 * (m * n) + 2 * k)
+    → q1 ≡ andThen r3 r4 → q2 ≡ andThen r2 q1 → q3 ≡ andThen r1 q2 → q4 ≡ andThen r0 q3 → q4 ≡ svdLengths m n a u s vt scratch
+unfolding svdLengths
+made-lengths m n a u s vt scratch e r0 r1 r2 r3 r4 q1 q2 q3 q4 = rw (← e) (both q4 r0 (both q3 r1 (both q2 r2 (both q1 r3 r4))))
 
 -- ---- the tests of an accepted call
 
@@ -175,23 +55,22 @@ pub record SvdAccepted (m n a u s vt scratch : ℕ) : Type 0 where
 pub accepted : (a : List Float) (m n u s vt scratch : ℕ) → svdTests a m n u s vt scratch .0 ≡ 0 → SvdAccepted m n (length a) u s vt scratch
 unfolding svdTests svdLengths
 accepted a m n u s vt scratch e =
-    let first = andThen-done (svdSizes m n) _ e in
+    let first = andThen-done (matrixSizes m n) _ e in
     let z = size-done m n (first .0) in
     let second = andThen-done (svdLengths m n (length a) u s vt scratch) (components 0 a) (first .1) in
-    let t0 = refuse-done (not (eqb (length a) (2 * (m * n)))) 5 0 _ (second .0) in
-    let t1 = refuse-done (ltb u (needU m n)) 5 1 _ (t0 .1) in
-    let t2 = refuse-done (ltb s (sideOf m n)) 5 2 _ (t1 .1) in
-    let t3 = refuse-done (ltb vt (needVt m n)) 5 3 _ (t2 .1) in
-    let t4 = refuse-done (ltb scratch (svdScratch m n)) 5 4 _ (t3 .1) in
+    let t0 = andThen-done (exactly 0 (length a) (2 * (m * n))) _ (second .0) in
+    let t1 = andThen-done (room 1 u (needU m n)) _ (t0 .1) in
+    let t2 = andThen-done (room 2 s (sideOf m n)) _ (t1 .1) in
+    let t3 = andThen-done (room 3 vt (needVt m n)) (room 4 scratch (svdScratch m n)) (t2 .1) in
     record {
-      rows = z .0;
-      columns = z .1;
-      cells = z .2;
-      a-is = eqb-true (length a) (2 * (m * n)) (not-out (eqb (length a) (2 * (m * n))) (t0 .0));
-      u-fits = ltb-false u (needU m n) (t1 .0);
-      s-fits = ltb-false s (sideOf m n) (t2 .0);
-      vt-fits = ltb-false vt (needVt m n) (t3 .0);
-      scratch-fits = ltb-false scratch (svdScratch m n) (t4 .0);
+      rows = z .some-rows;
+      columns = z .some-columns;
+      cells = z .few;
+      a-is = exactly-done 0 (length a) (2 * (m * n)) (t0 .0);
+      u-fits = room-done 1 u (needU m n) (t1 .0);
+      s-fits = room-done 2 s (sideOf m n) (t2 .0);
+      vt-fits = room-done 3 vt (needVt m n) (t3 .0);
+      scratch-fits = room-done 4 scratch (svdScratch m n) (t3 .1);
     }
 
 -- ---- the factors
@@ -342,37 +221,19 @@ join-end zero new cleared rest old h = refl
 join-end (suc x) new cleared rest old h = worked-new (suc x) (cleared ++ rest) old h
 
 -- no refusal before the work has a number from 8 on
-size-small : (m n : ℕ) → svdSizes m n .0 < 8
-unfolding svdSizes
-size-small m n =
-    let one : 1 < 8 = omega arith in
-    refuse-small (not (leb 1 m)) 1 0 (refuse (not (leb 1 n)) (1, 0) (refuse (ltb 4096 (m * n)) (1, 0) done)) one
-    (refuse-small (not (leb 1 n)) 1 0 (refuse (ltb 4096 (m * n)) (1, 0) done) one (refuse-small (ltb 4096 (m * n)) 1 0 done one (omega arith)))
-
--- a row of length tests
-row : Bool → Bool → Bool → Bool → Bool → Reply
-row t0 t1 t2 t3 t4 = refuse t0 (6, 0) (refuse t1 (6, 1) (refuse t2 (6, 2) (refuse t3 (6, 3) (refuse t4 (6, 4) done))))
-
-row-small : (t0 t1 t2 t3 t4 : Bool) → row t0 t1 t2 t3 t4 .0 < 8
-unfolding row
-row-small true t1 t2 t3 t4 = omega arith
-row-small false true t2 t3 t4 = omega arith
-row-small false false true t3 t4 = omega arith
-row-small false false false true t4 = omega arith
-row-small false false false false true = omega arith
-row-small false false false false false = omega arith
-
 lengths-small : (m n a u s vt scratch : ℕ) → svdLengths m n a u s vt scratch .0 < 8
-unfolding svdLengths row
+unfolding svdLengths
 lengths-small m n a u s vt scratch =
-    row-small (not (eqb a (2 * (m * n)))) (ltb u (needU m n)) (ltb s (sideOf m n)) (ltb vt (needVt m n)) (ltb scratch (svdScratch m n))
+    then-small (exactly 0 a (2 * (m * n))) _ (exactly-small 0 a (2 * (m * n)))
+    (then-small (room 1 u (needU m n)) _ (room-small 1 u (needU m n))
+    (then-small (room 2 s (sideOf m n)) _ (room-small 2 s (sideOf m n))
+    (then-small (room 3 vt (needVt m n)) _ (room-small 3 vt (needVt m n)) (room-small 4 scratch (svdScratch m n)))))
 
 tests-small : (a : List Float) (m n u s vt scratch : ℕ) → svdTests a m n u s vt scratch .0 < 8
 unfolding svdTests
 tests-small a m n u s vt scratch =
-    let l = svdLengths m n (length a) u s vt scratch in
-    after-small (svdSizes m n .0) (svdSizes m n) (andThen l (components 0 a)) (size-small m n)
-    (after-small (l .0) l (components 0 a) (lengths-small m n (length a) u s vt scratch) (components-small 0 a))
+    then-small (matrixSizes m n) _ (size-small m n)
+    (then-small (svdLengths m n (length a) u s vt scratch) (components 0 a) (lengths-small m n (length a) u s vt scratch) (components-small 0 a))
 
 -- an accepted call, and a refused one
 pub svd-worked : (a : List Float) (m n : ℕ) (u s vt scratch : List Float) (r : Factored) {u' s' vt' scratch' : List Float} {k : ℕ}

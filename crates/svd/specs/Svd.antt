@@ -3,11 +3,13 @@ use mathlib.Core.Path.{_≡_}
 use mathlib.Core.Bool.{Bool, not, cond, _&&_}
 use mathlib.Core.List.{List, _++_}
 use Prim.Native.Nat.{ℕ, _+_, _*_, _≤_}
-use lib.Dec.{leb, ltb, eqb}
+use lib.Dec.{ltb}
 use lib.ListN.{length, drop}
 use lib.Ieee.{Float}
 use Rattle.answers.specs.declared.Answer.{Answer}
-use Rattle.answers.specs.Paper.{Reply, paper, done, refuse, andThen, ifDone, ifWorked, atEnd}
+use Rattle.answers.specs.Paper.{Reply, paper, done, refuse, andThen, ifDone, ifWorked, atEnd, exactly, room}
+use Rattle.matrix_sizes.specs.Sizes.{matrixSizes}
+unfoldable pub use Rattle.matrix_sizes.specs.Sizes.{sideOf, rowsOf}
 use Rattle.complex.specs.Cells.{cellAt, components}
 use Rattle.complex.specs.Zeros.{zeros, zeroed}
 use Rattle.svd_load.specs.Loading.{planesOf, conjugateTransposed}
@@ -18,14 +20,7 @@ use Rattle.svd_thin.specs.Thin.{swept, orderOf, valuesOf}
 use Rattle.factored.specs.declared.Factored.{Factored}
 use Rattle.factored.specs.Factored.{keptSweeps}
 
--- ---- the sizes
-
--- the smaller size and the larger one: the columns and the rows of the work matrix
-unfoldable pub sideOf : ℕ → ℕ → ℕ
-sideOf m n = cond (ltb m n) m n
-
-unfoldable pub rowsOf : ℕ → ℕ → ℕ
-rowsOf m n = cond (ltb m n) n m
+-- ---- the sizes: the smaller and the larger one are the columns and the rows of the work matrix
 
 -- the needed lengths, in numbers
 abbrev pub needU : ℕ → ℕ → ℕ
@@ -39,19 +34,13 @@ svdScratch m n = 6 * (m * n) + 2 * sideOf m n
 
 -- ---- the refusals, in the paper's order
 
-unfoldable pub svdSizes : ℕ → ℕ → Reply
-svdSizes m n = refuse (not (leb 1 m)) (1, 0) (refuse (not (leb 1 n)) (1, 0) (refuse (ltb 4096 (m * n)) (1, 0) done))
-
 unfoldable pub svdLengths : ℕ → ℕ → ℕ → ℕ → ℕ → ℕ → ℕ → Reply
 svdLengths m n a u s vt scratch =
-    refuse (not (eqb a (2 * (m * n)))) (6, 0)
-    (refuse (ltb u (needU m n)) (6, 1)
-    (refuse (ltb s (sideOf m n)) (6, 2)
-    (refuse (ltb vt (needVt m n)) (6, 3)
-    (refuse (ltb scratch (svdScratch m n)) (6, 4) done))))
+    andThen (exactly 0 a (2 * (m * n)))
+    (andThen (room 1 u (needU m n)) (andThen (room 2 s (sideOf m n)) (andThen (room 3 vt (needVt m n)) (room 4 scratch (svdScratch m n)))))
 
 unfoldable pub svdTests : List Float → ℕ → ℕ → ℕ → ℕ → ℕ → ℕ → Reply
-svdTests a m n u s vt scratch = andThen (svdSizes m n) (andThen (svdLengths m n (length a) u s vt scratch) (components 0 a))
+svdTests a m n u s vt scratch = andThen (matrixSizes m n) (andThen (svdLengths m n (length a) u s vt scratch) (components 0 a))
 
 -- ---- the factors
 

@@ -2,44 +2,13 @@
 // the values falling.
 use answers::Answer;
 use factored::Factored;
+pub use matrix_sizes::smaller_size;
 use sweeps::Sweeps;
 ghost use mathlib.Core.Path.{_≡_};
 ghost use Prim.Native.Nat.{_*_, _≤_};
 ghost use lib.ListN.{length};
 ghost use Rattle.answers.specs.Paper.{paper};
-ghost use Rattle.svd.specs.Svd.{sideOf, svdSizes, svdLengths, svdTests, finiteFactors, SvdExact, SvdFactored, SvdFinished, SvdWorked, Svd};
-
-// The smaller of the two sizes: how many values there are.
-pub fn smaller_size(m: usize, n: usize) -> usize
-    ensures { λ r. ⌜ r ≡ sideOf m n ⌝ }
-{
-    if m < n {
-        return m;
-    }
-    n
-}
-
-// Both sizes at least 1, and at most 4096 cells: else 1.
-fn check_sizes(m: usize, n: usize) -> Answer
-    ensures { λ r. ⌜ paper r ≡ svdSizes m n ⌝ }
-{
-    if m < 1 {
-        return Answer::Size;
-    }
-    if n < 1 {
-        return Answer::Size;
-    }
-    if m > 4096 {
-        return Answer::Size;
-    }
-    if n > 4096 {
-        return Answer::Size;
-    }
-    if m * n > 4096 {
-        return Answer::Size;
-    }
-    Answer::Done
-}
+ghost use Rattle.svd.specs.Svd.{svdLengths, svdTests, finiteFactors, SvdExact, SvdFactored, SvdFinished, SvdWorked, Svd};
 
 // The first slice of a wrong length, or too short: 6.
 fn check_lengths(
@@ -55,29 +24,25 @@ fn check_lengths(
     ensures { λ r. ⌜ paper r ≡ svdLengths m n a u s vt scratch ⌝ }
 {
     let k = smaller_size(m, n);
-    if a != 2 * (m * n) {
-        return Answer::Length(0);
-    }
-    if u < 2 * (m * k) {
-        return Answer::Length(1);
-    }
-    if s < k {
-        return Answer::Length(2);
-    }
-    if vt < 2 * (k * n) {
-        return Answer::Length(3);
-    }
-    if scratch < 6 * (m * n) + 2 * k {
-        return Answer::Length(4);
-    }
-    Answer::Done
+    let in_a = answers::exact_length(0, a, 2 * (m * n));
+    let in_u = answers::enough_room(1, u, 2 * (m * k));
+    let in_s = answers::enough_room(2, s, k);
+    let in_vt = answers::enough_room(3, vt, 2 * (k * n));
+    let in_scratch = answers::enough_room(4, scratch, 6 * (m * n) + 2 * k);
+    answers::and_then(
+        in_a,
+        answers::and_then(
+            in_u,
+            answers::and_then(in_s, answers::and_then(in_vt, in_scratch)),
+        ),
+    )
 }
 
 // Every refusal that comes before the work.
 fn check(a: &[f64], m: usize, n: usize, u: usize, s: usize, vt: usize, scratch: usize) -> Answer
     ensures { λ r. ⌜ paper r ≡ svdTests (now (a .entry)) m n u s vt scratch ⌝ }
 {
-    let first = check_sizes(m, n);
+    let first = matrix_sizes::check_sizes(m, n);
     let Answer::Done = first else {
         return first;
     };

@@ -2,7 +2,7 @@
 use mathlib.Core.Path.{sym, _∙_}
 use Rattle.answers.proofs.Stopped.{refused, passed, was-done}
 use Rattle.countersign_checks.specs.Checks.{countersignTests}
-use Rattle.countersign_checks.proofs.CheckLaws.{size-done}
+use Rattle.countersign_checks.proofs.CheckLaws.{sizes-done}
 use borrow.Author.Needs.{needs}
 use Rattle.countersign_checks.proofs.check.Statement.{statement}
 use Rattle.countersign_checks.proofs.check.Tie as tie
@@ -18,7 +18,7 @@ unfolding countersignTests
 returns c = refused (c .before .check-sizes .result) _ _ (c .before .check-sizes .ensures) (c .match .keys2)
 
 check-lengths-requires : tie.Need-check-lengths-requires
-check-lengths-requires c κs = size-done _ _ (was-done _ _ (c .before .before .check-sizes .ensures) (c .enum-told .given .1)) .2
+check-lengths-requires c κs = sizes-done _ _ (was-done _ _ (c .before .before .check-sizes .ensures) (c .enum-told .given .1)) .0 .few
 
 enum-told-2 : tie.Need-enum-told-2
 enum-told-2 c = search needs

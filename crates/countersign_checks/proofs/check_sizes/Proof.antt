@@ -1,49 +1,33 @@
--- `countersign_checks::check_sizes` meets its contract: a size above 4096 makes the product too large. Assumes
--- nothing.
-use native.Mathlib.Nat.{mul-le-mul}
-use native.Mathlib.Omega.{arith}
-use Rattle.countersign_checks.proofs.CheckLaws.{size-rows, size-columns, size-cells, size-side, size-good, too-many, too-many'}
+-- `countersign_checks::check_sizes` meets its contract: the sizes of a matrix, and then its smaller one. Assumes nothing.
+use mathlib.Core.Path.{sym, _∙_}
+use Rattle.answers.proofs.Stopped.{refused, passed}
+use Rattle.countersign_checks.specs.Checks.{countersignSizes}
+use Rattle.countersign_checks.proofs.CheckLaws.{side-large, side-good}
 use borrow.Author.Needs.{needs}
 use Rattle.countersign_checks.proofs.check_sizes.Statement.{statement}
 use Rattle.countersign_checks.proofs.check_sizes.Tie as tie
 
+check-sizes-requires : tie.Need-check-sizes-requires
+check-sizes-requires c κs = search needs
+
+enum-told : tie.Need-enum-told
+enum-told c = search needs
+
 returns : tie.Need-returns
-returns c = size-rows _ _ (c .if1 .taken)
+unfolding countersignSizes
+returns c = refused (c .before .check-sizes .result) _ _ (c .before .check-sizes .ensures) (c .match .keys2)
+
+smaller-size-requires : tie.Need-smaller-size-requires
+smaller-size-requires c κs = search needs
 
 returns-2 : tie.Need-returns-2
-returns-2 c = size-columns _ _ (c .before .if1 .left) (c .if2 .taken)
+unfolding countersignSizes
+returns-2 c = side-large _ _ (c .before .smaller-size .ensures) (c .if1 .taken) ∙ sym (passed _ _ _ (c .before .before .before .before .check-sizes .ensures) (c .before .before .enum-told .given .1))
 
 returns-3 : tie.Need-returns-3
-returns-3 c = size-cells _ _ (c .before .before .if1 .left) (c .before .if2 .left) (too-many _ _ (c .before .before .if1 .left) (c .before .if2 .left) (c .if3 .taken))
-
-returns-4 : tie.Need-returns-4
-returns-4 c = size-cells _ _ (c .before .before .before .if1 .left) (c .before .before .if2 .left) (too-many' _ _ (c .before .before .before .if1 .left) (c .before .before .if2 .left) (c .if4 .taken))
-
-mul-if5 : tie.Need-mul-if5
-mul-if5 c = omega (arith, mul-le-mul (c .before .if3 .left) (c .if4 .left))
-
-returns-5 : tie.Need-returns-5
-returns-5 c = size-cells _ _ (c .before .before .before .before .if1 .left) (c .before .before .before .if2 .left) (c .if5 .taken)
-
-smaller-side-requires : tie.Need-smaller-side-requires
-smaller-side-requires c κs = search needs
-
-returns-6 : tie.Need-returns-6
-returns-6 c = size-side _ _ (c .before .smaller-side .ensures) (c .before .before .before .before .before .before .if1 .left) (c .before .before .before .before .before .if2 .left) (c .before .before .if5 .left) (c .if6 .taken)
-
-returns-7 : tie.Need-returns-7
-returns-7 c = size-good _ _ (c .before .smaller-side .ensures) (c .before .before .before .before .before .before .if1 .left) (c .before .before .before .before .before .if2 .left) (c .before .before .if5 .left) (c .if6 .left)
+unfolding countersignSizes
+returns-3 c = side-good _ _ (c .before .smaller-size .ensures) (c .if1 .left) ∙ sym (passed _ _ _ (c .before .before .before .before .check-sizes .ensures) (c .before .before .enum-told .given .1))
 
 pub check-sizes-spec : {M : Type 1} → statement M
 check-sizes-spec =
-    tie.close
-    (tie.spec
-    returns
-    returns-2
-    returns-3
-    returns-4
-    mul-if5
-    returns-5
-    smaller-side-requires
-    returns-6
-    returns-7)
+    tie.close (tie.spec check-sizes-requires enum-told returns smaller-size-requires returns-2 returns-3)

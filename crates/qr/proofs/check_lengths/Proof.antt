@@ -1,6 +1,6 @@
--- `qr::check_lengths` meets its contract: each way out is one test of the row. Assumes nothing.
+-- `qr::check_lengths` meets its contract: four lengths, one after the other. Assumes nothing.
 use native.Mathlib.Omega.{arith}
-use Rattle.qr.proofs.CallLaws.{q-cells, r-cells, q-same, r-same, rows-within, length-0, length-1, length-2, length-3, length-ok}
+use Rattle.qr.proofs.CallLaws.{q-cells, r-cells, rows-within, made-lengths}
 use borrow.Author.Needs.{needs}
 use Rattle.qr.proofs.check_lengths.Statement.{statement}
 use Rattle.qr.proofs.check_lengths.Tie as tie
@@ -8,56 +8,68 @@ use Rattle.qr.proofs.check_lengths.Tie as tie
 smaller-requires : tie.Need-smaller-requires
 smaller-requires c κs = search needs
 
-mul-if1 : tie.Need-mul-if1
-mul-if1 c = omega arith
+mul-exact-length : tie.Need-mul-exact-length
+mul-exact-length c = omega (arith, c .before .pre)
 
-mul-if1-2 : tie.Need-mul-if1-2
-mul-if1-2 c = omega arith
+mul-exact-length-2 : tie.Need-mul-exact-length-2
+mul-exact-length-2 c = omega (arith, c .before .pre)
+
+exact-length-requires : tie.Need-exact-length-requires
+exact-length-requires c κs = search needs
+
+mul-enough-room : tie.Need-mul-enough-room
+mul-enough-room c = omega (arith, q-cells (c .before .before .args .rows) (c .before .before .args .cols) (c .before .smaller .ensures), c .before .before .pre)
+
+mul-enough-room-2 : tie.Need-mul-enough-room-2
+mul-enough-room-2 c = omega (arith, q-cells (c .before .before .args .rows) (c .before .before .args .cols) (c .before .smaller .ensures), c .before .before .pre)
+
+enough-room-requires : tie.Need-enough-room-requires
+enough-room-requires c κs = search needs
+
+mul-enough-room-3 : tie.Need-mul-enough-room-3
+mul-enough-room-3 c = omega (arith, r-cells (c .before .before .before .args .rows) (c .before .before .before .args .cols) (c .before .before .smaller .ensures), c .before .before .before .pre)
+
+mul-enough-room-4 : tie.Need-mul-enough-room-4
+mul-enough-room-4 c = omega (arith, r-cells (c .before .before .before .args .rows) (c .before .before .before .args .cols) (c .before .before .smaller .ensures), c .before .before .before .pre)
+
+enough-room-requires-2 : tie.Need-enough-room-requires-2
+enough-room-requires-2 c κs = search needs
+
+mul-enough-room-5 : tie.Need-mul-enough-room-5
+mul-enough-room-5 c = omega (arith, rows-within (c .before .before .before .before .args .rows) (c .before .before .before .before .args .cols) (c .before .before .before .before .pre .some-columns), c .before .before .before .before .pre)
+
+enough-room-requires-3 : tie.Need-enough-room-requires-3
+enough-room-requires-3 c κs = search needs
+
+and-then-requires : tie.Need-and-then-requires
+and-then-requires c κs = search needs
+
+and-then-requires-2 : tie.Need-and-then-requires-2
+and-then-requires-2 c κs = search needs
+
+and-then-requires-3 : tie.Need-and-then-requires-3
+and-then-requires-3 c κs = search needs
 
 returns : tie.Need-returns
-returns c = length-0 _ _ _ _ _ _ (c .if1 .taken)
-
-mul-if2 : tie.Need-mul-if2
-mul-if2 c = omega (arith, q-cells (c .before .before .args .rows) (c .before .before .args .cols) (c .before .smaller .ensures), c .before .before .pre)
-
-mul-if2-2 : tie.Need-mul-if2-2
-mul-if2-2 c = omega (arith, q-cells (c .before .before .args .rows) (c .before .before .args .cols) (c .before .smaller .ensures), c .before .before .pre)
-
-returns-2 : tie.Need-returns-2
-returns-2 c = length-1 _ _ _ _ _ _ (c .before .if1 .left) (omega (arith, q-same (c .before .before .before .args .rows) (c .before .before .before .args .cols) (c .before .before .smaller .ensures)))
-
-mul-if3 : tie.Need-mul-if3
-mul-if3 c = omega (arith, r-cells (c .before .before .before .args .rows) (c .before .before .before .args .cols) (c .before .before .smaller .ensures), c .before .before .before .pre)
-
-mul-if3-2 : tie.Need-mul-if3-2
-mul-if3-2 c = omega (arith, r-cells (c .before .before .before .args .rows) (c .before .before .before .args .cols) (c .before .before .smaller .ensures), c .before .before .before .pre)
-
-returns-3 : tie.Need-returns-3
-returns-3 c = length-2 _ _ _ _ _ _ (c .before .before .if1 .left) (omega (arith, q-same (c .before .before .before .before .args .rows) (c .before .before .before .before .args .cols) (c .before .before .before .smaller .ensures))) (omega (arith, r-same (c .before .before .before .before .args .rows) (c .before .before .before .before .args .cols) (c .before .before .before .smaller .ensures)))
-
-mul-if4 : tie.Need-mul-if4
-mul-if4 c = omega (arith, rows-within (c .before .before .before .before .args .rows) (c .before .before .before .before .args .cols) (c .before .before .before .before .pre .some-cols), c .before .before .before .before .pre)
-
-returns-4 : tie.Need-returns-4
-returns-4 c = length-3 _ _ _ _ _ _ (c .before .before .before .if1 .left) (omega (arith, q-same (c .before .before .before .before .before .args .rows) (c .before .before .before .before .before .args .cols) (c .before .before .before .before .smaller .ensures))) (omega (arith, r-same (c .before .before .before .before .before .args .rows) (c .before .before .before .before .before .args .cols) (c .before .before .before .before .smaller .ensures))) (c .if4 .taken)
-
-returns-5 : tie.Need-returns-5
-returns-5 c = length-ok _ _ _ _ _ _ (c .before .before .before .if1 .left) (omega (arith, q-same (c .before .before .before .before .before .args .rows) (c .before .before .before .before .before .args .cols) (c .before .before .before .before .smaller .ensures))) (omega (arith, r-same (c .before .before .before .before .before .args .rows) (c .before .before .before .before .before .args .cols) (c .before .before .before .before .smaller .ensures))) (c .if4 .left)
+returns c = made-lengths _ _ _ _ _ _ (c .before .before .before .before .before .before .before .smaller .ensures) (c .before .before .before .before .before .before .exact-length .ensures) (c .before .before .before .before .before .enough-room .ensures) (c .before .before .before .before .enough-room2 .ensures) (c .before .before .before .enough-room3 .ensures) (c .before .before .and-then .ensures) (c .before .and-then2 .ensures) (c .and-then3 .ensures)
 
 pub check-lengths-spec : {M : Type 1} → statement M
 check-lengths-spec =
     tie.close
     (tie.spec
     smaller-requires
-    mul-if1
-    mul-if1-2
-    returns
-    mul-if2
-    mul-if2-2
-    returns-2
-    mul-if3
-    mul-if3-2
-    returns-3
-    mul-if4
-    returns-4
-    returns-5)
+    mul-exact-length
+    mul-exact-length-2
+    exact-length-requires
+    mul-enough-room
+    mul-enough-room-2
+    enough-room-requires
+    mul-enough-room-3
+    mul-enough-room-4
+    enough-room-requires-2
+    mul-enough-room-5
+    enough-room-requires-3
+    and-then-requires
+    and-then-requires-2
+    and-then-requires-3
+    returns)

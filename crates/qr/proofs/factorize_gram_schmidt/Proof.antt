@@ -6,9 +6,10 @@ use lib.ListN.{length, take}
 use lib.Seq.{length-take-le}
 use denote.Ref.{now}
 use Rattle.answers.proofs.Stopped.{was-done, stopped-number}
+use Rattle.matrix_sizes.specs.Sizes.{MatrixSized}
 use Rattle.complex.specs.Zeros.{zeros}
 use Rattle.qr_passes.specs.Room.{QrRoom}
-use Rattle.qr.specs.Call.{QrSized, qrRefusal}
+use Rattle.qr.specs.Call.{qrRefusal}
 use Rattle.qr.proofs.CallLaws.{Long, q-cells, r-cells, q-same, r-same, rows-within, refusal-sized, refusal-long, parts-room, room-some, call-refused, call-passed, call-worked}
 use borrow.Author.Needs.{needs}
 use Rattle.qr.proofs.factorize_gram_schmidt.Statement.{statement}
@@ -19,7 +20,7 @@ good : (c : tie.After-smaller)
     → let x = c .before .before .before .before .before .before .before .before .args in qrRefusal (now (x .a)) (x .rows) (x .cols) (length (now (x .q))) (length (now (x .r))) (length (now (x .scratch))) .0 ≡ 0
 good c = was-done _ _ (c .before .before .before .check .ensures) (c .before .enum-told .given .1)
 
-fine : (c : tie.After-smaller) → let x = c .before .before .before .before .before .before .before .before .args in QrSized (x .rows) (x .cols)
+fine : (c : tie.After-smaller) → let x = c .before .before .before .before .before .before .before .before .args in MatrixSized (x .rows) (x .cols)
 fine c = refusal-sized _ _ _ _ _ _ (good c)
 
 few : (c : tie.After-smaller) → let x = c .before .before .before .before .before .before .before .before .args in x .rows * x .cols ≤ 4096
@@ -65,7 +66,7 @@ mul-in-r-2 : tie.Need-mul-in-r-2
 mul-in-r-2 c = omega (arith, r-cells (c .before .before .before .before .before .before .before .before .args .rows) (c .before .before .before .before .before .before .before .before .args .cols) (c .smaller .ensures), few c)
 
 mul-in-scratch : tie.Need-mul-in-scratch
-mul-in-scratch c = omega (arith, few c, rows-within (c .before .before .before .before .before .before .before .before .args .rows) (c .before .before .before .before .before .before .before .before .args .cols) (fine c .some-cols))
+mul-in-scratch c = omega (arith, few c, rows-within (c .before .before .before .before .before .before .before .before .args .rows) (c .before .before .before .before .before .before .before .before .args .cols) (fine c .some-columns))
 
 slice-relend-prefix-factor-parts : tie.Need-slice-relend-prefix-factor-parts
 slice-relend-prefix-factor-parts c = q-room c

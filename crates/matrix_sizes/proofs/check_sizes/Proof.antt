@@ -1,9 +1,9 @@
--- `svd::check_sizes` meets its contract: a size above 4096 makes the product too large. Assumes nothing.
+-- `matrix_sizes::check_sizes` meets its contract: a size above 4096 makes the product too large. Assumes nothing.
 use native.Mathlib.Nat.{mul-le-mul}
 use native.Mathlib.Omega.{arith}
-use Rattle.svd.proofs.SvdLaws.{size-rows, size-columns, size-cells, size-good, too-many, too-many'}
-use Rattle.svd.proofs.check_sizes.Statement.{statement}
-use Rattle.svd.proofs.check_sizes.Tie as tie
+use Rattle.matrix_sizes.proofs.SizesLaws.{size-rows, size-columns, size-cells, size-good, too-many, too-many'}
+use Rattle.matrix_sizes.proofs.check_sizes.Statement.{statement}
+use Rattle.matrix_sizes.proofs.check_sizes.Tie as tie
 
 returns : tie.Need-returns
 returns c = size-rows _ _ (c .if1 .taken)

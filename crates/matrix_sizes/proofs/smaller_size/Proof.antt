@@ -1,8 +1,8 @@
--- `svd::smaller_size` is the definition's test. Assumes nothing.
+-- `matrix_sizes::smaller_size` is the definition's test. Assumes nothing.
 use mathlib.Core.Path.{sym}
-use Rattle.svd.proofs.SvdLaws.{side-wide, side-tall}
-use Rattle.svd.proofs.smaller_size.Statement.{statement}
-use Rattle.svd.proofs.smaller_size.Tie as tie
+use Rattle.matrix_sizes.proofs.SizesLaws.{side-wide, side-tall}
+use Rattle.matrix_sizes.proofs.smaller_size.Statement.{statement}
+use Rattle.matrix_sizes.proofs.smaller_size.Tie as tie
 
 returns : tie.Need-returns
 returns c = sym (side-wide _ _ (c .if1 .taken) .0)

@@ -1,0 +1,2 @@
+-- What the contracts of `matrix_sizes` cite.
+pub mod Sizes
