@@ -9,8 +9,8 @@ use lib.ListN.{length, take, length-append}
 use Rattle.cutfile.specs.Layout.{LongEnough, componentAt}
 use Rattle.cutfile.proofs.LayoutLaws.{small-power}
 use Rattle.cutfile_result.specs.Result.{stateOf}
-use Rattle.decode.specs.Tables.{filled}
-use Rattle.decode.proofs.TablesLaws.{take-filled, length-table}
+use Rattle.tables.specs.Tables.{filled}
+use Rattle.tables.proofs.TablesLaws.{take-filled, length-table}
 use Rattle.cut_values.specs.Schmidt.{singularValues}
 use Rattle.cut_totals.specs.Totals.{keptTotal, Totalled}
 use Rattle.texts.specs.Text.{Puts}
@@ -34,13 +34,13 @@ module _ (file : List ℕ) (n k : ℕ) (l : List ℕ) (at room : ℕ) (is : Back
   -- the front of what was decoded is the state
   module _ (m : ℕ) (before state : List Float) (em : m ≡ 2 * 2 ^ n) (es : state ≡ filled (2 * 2 ^ n) (componentAt file k) before) where
     pub state-is : take m state ≡ stateOf file n k
-    state-is = ap₂ (λ (j : ℕ) (x : List Float). take j x) em es ∙ take-filled (componentAt file k) (2 * 2 ^ n) before
+    state-is = ap₂ (λ (j : ℕ) (x : List Float). take j x) em es ∙ take-filled (2 * 2 ^ n) (componentAt file k) before
 
     pub totalled : Totalled (take m state) n l
     totalled = record {
       small = is .fits .n-small;
       taken = is .taken;
-      state = ap length state-is ∙ length-table (componentAt file k) (2 * 2 ^ n);
+      state = ap length state-is ∙ length-table (2 * 2 ^ n) (componentAt file k);
     }
 
     pub back-done : (accepted : Bool) (total : Float) (bits r t : ℕ) (old mid new : List ℕ) → room ≡ length old → total ≡ keptTotal (singularValues (take m state) n l) → bits ≡ toBits binary64 total

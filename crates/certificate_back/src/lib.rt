@@ -21,7 +21,7 @@ pub fn put_back(
 {
     let mut state = [0.0f64; 1024];
     decode::decode_state(file, n, k, &mut state);
-    let components = 2 * cutfile::power_of_two(n);
+    let components = 2 * cutfile::bit(n);
     let total = bits::bits_of(cut_totals::kept_total(&state[..components], n, list));
     let next = page_two::put_two(out, at, &state[..components], n, list, accepted, total);
     texts::put_text(out, next, b"end pages\n")

@@ -19,8 +19,8 @@ use Rattle.io.specs.Counts.{Counts}
 use Rattle.cutfile.specs.Bytes.{word32}
 use Rattle.cutfile.specs.Layout.{headerAnswer, LongEnough, fileEntry}
 use Rattle.cutfile.proofs.LayoutLaws.{accepted}
-use Rattle.decode.specs.Tables.{filled}
-use Rattle.decode.proofs.TablesLaws.{take-filled}
+use Rattle.tables.specs.Tables.{filled}
+use Rattle.tables.proofs.TablesLaws.{take-filled}
 use Rattle.cut_sides.proofs.SideLaws.{is-parted}
 use Rattle.cutfile_result.specs.declared.CutResult.{CutResult}
 use Rattle.cutfile_result.specs.Result.{stateOf, fileReply, fileList, fileValues, fileSweeps, fileExact, Result}
@@ -128,7 +128,7 @@ module _ (file list : List ℕ) (values : List Float) (r : CutResult) (list' : L
     list-is : take (r .k) list' ≡ fileList file
     list-is =
         ap₂ (λ (k : ℕ) (l : List ℕ). take k l) k-is (is .list-is ∙ sym (done-new (headerAnswer file .0) (filled (word32 file 8) (fileEntry file) list) list header))
-        ∙ take-filled (fileEntry file) (word32 file 8) list
+        ∙ take-filled (word32 file 8) (fileEntry file) list
 
     fits : LongEnough file (word32 file 4) (word32 file 8)
     fits = accepted file header .0

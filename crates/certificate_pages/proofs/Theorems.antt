@@ -15,7 +15,7 @@ use Rattle.agreement.specs.FromCut.{cutDensityCell}
 use Rattle.cutfile.specs.Bytes.{word32}
 use Rattle.cutfile.specs.Layout.{headerAnswer, componentAt}
 use Rattle.cutfile.proofs.LayoutLaws.{accepted}
-use Rattle.decode.proofs.TablesLaws.{length-table}
+use Rattle.tables.proofs.TablesLaws.{length-table}
 use Rattle.cutfile_result.specs.Result.{stateOf, libraryReply, fileReply, fileList}
 use Rattle.cutfile_result.proofs.Theorems.{file-never-length}
 use Rattle.page_matrices.specs.Matrices.{matricesText}
@@ -72,4 +72,4 @@ file-never-six file = by (headerAnswer file .0) refl
 pub page-two-never-six : (file : List ℕ) → Ended (fileReply file .0) → pageTwoReply (stateOf file (word32 file 4) (word32 file 8)) (word32 file 4) (fileList file) .0 ≡ 6 → ⊥
 page-two-never-six file h =
     page-two-never-length (stateOf file (word32 file 4) (word32 file 8)) (word32 file 4) (fileList file) (begun-taken file h)
-    (length-table (componentAt file (word32 file 8)) (2 * 2 ^ word32 file 4))
+    (length-table (2 * 2 ^ word32 file 4) (componentAt file (word32 file 8)))

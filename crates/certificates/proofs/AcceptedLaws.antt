@@ -10,7 +10,7 @@ use lib.Ieee.{Float}
 use lib.ListN.{length, take, drop}
 use lib.Seq.{length-take-le, take-at}
 use Rattle.answers.specs.Paper.{Reply}
-use Rattle.submasks.proofs.SubmaskLaws.{le-or-lt}
+use Rattle.whole_numbers.proofs.WholeLaws.{le-or-lt}
 use Rattle.qubit_offsets.specs.Calls.{fronted}
 use Rattle.io.specs.Counts.{Counts}
 use Rattle.texts.specs.Text.{Puts}

@@ -187,7 +187,7 @@ fn of_file(file: &[u8], n: usize, k: usize)
 {
     let mut state = [0.0f64; 1024];
     decode::decode_state(file, n, k, &mut state);
-    let components = 2 * cutfile::power_of_two(n);
+    let components = 2 * cutfile::bit(n);
     print_chain(&state[..components], n);
 }
 

@@ -3,5 +3,6 @@ pub mod CellLaws
 pub mod ConjugateProduct
 pub mod Loops
 pub mod PlanesLaws
+pub mod SquaresLaws
 pub mod Theorems
 pub mod ZerosLaws

@@ -3,3 +3,4 @@ pub mod Arithmetic
 pub mod Cells
 pub mod Planes
 pub mod Zeros
+pub mod Squares

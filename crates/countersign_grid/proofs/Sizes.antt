@@ -13,7 +13,7 @@ use Rattle.numbers.specs.Root.{unitsOf}
 use Rattle.numbers.specs.Steps.{normalSize}
 use Rattle.numbers.proofs.Patterns.{normal-size, small-size}
 use Rattle.numbers.proofs.Cases.{minus-bits, plus-bits}
-use Rattle.submasks.proofs.SubmaskLaws.{le-or-lt}
+use Rattle.whole_numbers.proofs.WholeLaws.{le-or-lt}
 use Rattle.countersign_grid.specs.Grid.{gridded, gridUnits, gridOf, GridBits}
 use Rattle.countersign_grid.specs.declared.Grid.{Grid}
 use Rattle.countersign_grid.specs.declared.Size.{Size}

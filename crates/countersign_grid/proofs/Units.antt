@@ -9,7 +9,7 @@ use borrow.Author.Tests.{eq-eqb, ne-eqb, le-leb, lt-leb}
 use lib.Dec.{leb, eqb}
 use lib.Pow.{pow-add, pow-pos, pow-lt, pow-mono, shl-lt, shl-exact, shl-shr, shr-shr, mod-pow-add}
 use Rattle.numbers.specs.Steps.{digits, shift, normalSize}
-use Rattle.submasks.proofs.SubmaskLaws.{le-or-lt}
+use Rattle.whole_numbers.proofs.WholeLaws.{le-or-lt}
 use Rattle.countersign_grid.specs.Grid.{gridded, gridUnits, GridBits}
 use Rattle.countersign_grid.specs.declared.Size.{Size}
 

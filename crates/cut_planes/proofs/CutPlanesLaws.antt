@@ -2,29 +2,29 @@
 -- matrix. Assumes nothing.
 use mathlib.Core.Path.{_≡_, refl, sym, ap, ap₂, _∙_}
 use mathlib.Core.Bool.{Bool, true, false}
-use mathlib.Core.List.{List, [], _++_, append-nil}
+use mathlib.Core.List.{List}
 use Prim.Native.Nat.{ℕ, zero, suc, _+_, _-_, _*_, _/_, _%_, _^_, _≤_, _<_}
-use native.Mathlib.Nat.{add-mul, zero-mul, one-mul, mul-le-mul-right, mul-comm, div-lt-iff-lt-mul, mod-lt, zero-add}
-use native.Mathlib.Numerals.{add-one}
+use native.Mathlib.Nat.{zero-mul, mul-comm, div-lt-iff-lt-mul, mod-lt, zero-add}
 use native.Mathlib.Omega.{arith}
 use borrow.Author.Tests.{lt-ltb, le-ltb}
 use lib.Arith.{digits-div, digits-mod, digits-lt}
-use lib.Bits.{bitOr, or-lt, or-comm}
+use lib.Bits.{bitOr, or-comm}
 use lib.Ieee.{Float}
-use lib.ListN.{length, drop, drop-of-length-le}
+use lib.ListN.{length}
 use Rattle.submasks.specs.Submasks.{submaskAt, nextSubmask}
-use Rattle.submasks.proofs.SubmaskLaws.{next-submaskAt, submaskAt-first, submaskAt-lt}
+use Rattle.submasks.proofs.SubmaskLaws.{submaskAt-first}
 use Rattle.complex.specs.declared.Complex.{Complex}
 use Rattle.complex.specs.Arithmetic.{conjugate}
-use Rattle.complex.specs.Cells.{cellAt, cellsOf, written}
-use Rattle.complex.proofs.CellLaws.{cell-written}
+use Rattle.complex.specs.Cells.{cellAt, cellsOf}
+use Rattle.complex.proofs.CellLaws.{cell-of}
 use Rattle.complex.proofs.Loops.{cond-yes, cond-no}
 use Rattle.complex.specs.Planes.{setPlane}
 use Rattle.complex.proofs.PlanesLaws.{length-setPlane}
 use Rattle.cuts.specs.Cut.{amplitude, cellOf, CutReady, ColumnReady}
-use Rattle.svd_load.specs.Numbers.{numbersOf}
+use Rattle.cuts.proofs.CutLaws.{bits-more, row-inside, column-there, column-next}
 use Rattle.svd_load.specs.Loading.{planesOf, planesTo, conjugateTransposed}
-use Rattle.svd_load.proofs.LoadingLaws.{planes-none, planes-more, planes-join, planes-all}
+use Rattle.svd_load.proofs.LoadingLaws.{planes-none, planes-more, planes-join, planes-all, planes-alike}
+pub use Rattle.svd_load.proofs.LoadingLaws.{planes-alike as all-same}
 use Rattle.svd.specs.Svd.{workOf}
 use Rattle.cut_planes.specs.CutPlanes.{shown, workCell, columnCell}
 
@@ -35,19 +35,6 @@ pub planes-same : (c : ℕ) (f g : ℕ → Complex) (from k : ℕ) (xs : List Fl
 unfolding planesTo
 planes-same c f g from zero xs h = refl
 planes-same c f g from (suc k) xs h = rw (planes-same c f g from k xs (λ j l. h j (omega arith)), h k (omega arith))
-
-numbers-same : (m : ℕ) (f g : ℕ → Float) → ((i : ℕ) → i < m → f i ≡ g i) → numbersOf m f ≡ numbersOf m g
-unfolding numbersOf
-numbers-same zero f g h = refl
-numbers-same (suc m) f g h = rw (numbers-same m f g (λ i l. h i (omega arith)), h m (omega arith))
-
-pub all-same : (c : ℕ) (f g : ℕ → Complex) → ((i : ℕ) → i < c → f i ≡ g i) → planesOf c f ≡ planesOf c g
-unfolding planesOf
-all-same c f g h =
-    rw (
-      numbers-same c (λ i. f i .re) (λ i. g i .re) (λ i l. ap (λ (z : Complex). z .re) (h i l)),
-      numbers-same c (λ i. f i .im) (λ i. g i .im) (λ i l. ap (λ (z : Complex). z .im) (h i l)),
-    )
 
 -- ---- one column
 
@@ -68,9 +55,7 @@ module _ (n inner count bits at : ℕ) (b : Bool) (s o : List Float) (p : Column
 
   module _ (cells : ℕ) (all : cells ≡ 2 ^ n) (work : List Float) (j inner-bits : ℕ) (i : Column n inner count bits at b s o work j inner-bits) (h : j < count) where
     pub source-in : 2 * bitOr inner-bits bits + 1 < length s
-    source-in =
-        let l : bitOr inner-bits bits < 2 ^ n = rw (i .bits-is) (or-lt n (submaskAt n inner j) bits (submaskAt-lt n inner j) (p .bits-lt)) in
-        omega (arith, p .state)
+    source-in = row-inside n inner count bits at s o j p (i .bits-is)
 
     pub cell-in : (at + j < cells) × (cells + (at + j) < length work)
     cell-in = (omega (arith, p .last), omega (arith, p .last, p .room, i .long))
@@ -82,9 +67,7 @@ module _ (n inner count bits at : ℕ) (b : Bool) (s o : List Float) (p : Column
         let e : at + j - at ≡ j = omega arith in
         record {
           more = omega arith;
-          bits-is =
-              en ∙ ap (λ (x : ℕ). nextSubmask x inner) (i .bits-is) ∙ next-submaskAt n inner j (omega (arith, p .small)) (p .row-lt)
-              ∙ ap (submaskAt n inner) (sym (add-one j));
+          bits-is = bits-more n inner j (p .small) (p .row-lt) (i .bits-is) en;
           long = ap length ee ∙ length-setPlane work cells (at + j) z ∙ i .long;
           cells =
               planes-more (2 ^ n) (columnCell n inner bits at b s) at j o (i .cells)
@@ -119,24 +102,8 @@ module _ (n inner outer count columns : ℕ) (b : Bool) (s o : List Float) (p : 
   }
 
   module _ (work : List Float) (c at bits : ℕ) (i : Columns n inner outer count columns b s o work c at bits) (h : c < columns) where
-    next-number : (c + 1) * count ≡ c * count + count
-    next-number = add-mul c 1 count ∙ ap (λ (x : ℕ). c * count + x) (one-mul count)
-
-    last-cell : at + count ≤ 2 ^ n
-    last-cell =
-        let g : c + 1 ≤ columns = omega arith in
-        let m : (c + 1) * count ≤ columns * count = mul-le-mul-right count g in
-        omega (arith, next-number, i .number, p .product)
-
     pub column-ready : ColumnReady n inner count bits at s work
-    column-ready = record {
-      small = p .small;
-      row-lt = p .row-lt;
-      bits-lt = rw (i .bits-is) (submaskAt-lt n outer c);
-      state = p .state;
-      last = last-cell;
-      room = omega (arith, p .room, i .long);
-    }
+    column-ready = column-there n inner outer count columns s o p work c at bits h (i .bits-is) (i .number) (i .long)
 
     -- the column's cells are the matrix's
     cell-same : (j : ℕ) → j < count → columnCell n inner bits at b s (at + j) ≡ workCell n inner outer count b s (at + j)
@@ -152,10 +119,8 @@ module _ (n inner outer count columns : ℕ) (b : Bool) (s o : List Float) (p : 
         → Columns n inner outer count columns b s o end (c + 1) (at + count) next
     columns-turn end next el ee en = record {
       more = omega arith;
-      bits-is =
-          en ∙ ap (λ (x : ℕ). nextSubmask x outer) (i .bits-is) ∙ next-submaskAt n outer c (omega (arith, p .small)) (p .column-lt)
-          ∙ ap (submaskAt n outer) (sym (add-one c));
-      number = omega (arith, i .number, next-number);
+      bits-is = bits-more n outer c (p .small) (p .column-lt) (i .bits-is) en;
+      number = column-next n inner outer count columns s o p work c at bits h (i .bits-is) (i .number) (i .long);
       long = el ∙ i .long;
       cells =
           let f = workCell n inner outer count b s in
@@ -172,13 +137,6 @@ module _ (n inner outer count columns : ℕ) (b : Bool) (s o : List Float) (p : 
       i .cells ∙ ap (λ (m : ℕ). planesTo (2 ^ n) f 0 m o) (i .number ∙ ap (λ (x : ℕ). x * count) e ∙ p .product) ∙ planes-all (2 ^ n) f o l
 
 -- ---- the SVD's work matrix of the cut matrix
-
-cell-at : (m k : ℕ) (f : ℕ → Complex) → k < m → cellAt (cellsOf m f) k ≡ f k
-unfolding written
-cell-at m k f h =
-    let none : length {A = Float} [] ≤ 2 * m = omega arith in
-    let e : cellsOf m f ++ drop (2 * m) [] ≡ cellsOf m f = rw (drop-of-length-le {A = Float} [] none, append-nil) in
-    ap (λ (l : List Float). cellAt l k) (sym e) ∙ cell-written m k f [] h
 
 module _ (n row column rows columns : ℕ) (s o : List Float) (p : CutReady n row column rows columns s o) where
   -- the masks of a wide cut change places
@@ -203,21 +161,21 @@ module _ (n row column rows columns : ℕ) (s o : List Float) (p : CutReady n ro
       let r : i % columns < columns = mod-lt i pos in
       let k : i % columns * rows + i / columns < 2 ^ n = omega (arith, digits-lt r q, p .product) in
       let a : cellAt (cellsOf (2 ^ n) (cellOf n row column rows s)) (i % columns * rows + i / columns) ≡ amplitude n row column s (i / columns) (i % columns) =
-      cell-at (2 ^ n) (i % columns * rows + i / columns) (cellOf n row column rows s) k ∙ ap₂ (amplitude n row column s) (digits-mod (i % columns) q) (digits-div (i % columns) q) in
+      cell-of (2 ^ n) (i % columns * rows + i / columns) (cellOf n row column rows s) k ∙ ap₂ (amplitude n row column s) (digits-mod (i % columns) q) (digits-div (i % columns) q) in
       ap conjugate (ap (cellAt s) (or-comm (submaskAt n column (i % columns)) (submaskAt n row (i / columns))) ∙ sym a)
 
   pub wide-is : rows < columns → planesOf (2 ^ n) (workCell n column row columns true s) ≡ workOf (cellsOf (2 ^ n) (cellOf n row column rows s)) rows columns
   unfolding workOf
   wide-is h =
       let e : rows * columns ≡ 2 ^ n = mul-comm rows columns ∙ p .product in
-      all-same (2 ^ n) (workCell n column row columns true s) (conjugateTransposed (cellsOf (2 ^ n) (cellOf n row column rows s)) rows columns) (transposed-same h)
+      planes-alike (2 ^ n) (workCell n column row columns true s) (conjugateTransposed (cellsOf (2 ^ n) (cellOf n row column rows s)) rows columns) (transposed-same h)
       ∙ ap (λ (c : ℕ). planesOf c (conjugateTransposed (cellsOf (2 ^ n) (cellOf n row column rows s)) rows columns)) (sym e)
       ∙ sym (cond-yes _ _ (lt-ltb rows columns h))
 
   pub square-is : columns ≤ rows → planesOf (2 ^ n) (workCell n row column rows false s) ≡ workOf (cellsOf (2 ^ n) (cellOf n row column rows s)) rows columns
   unfolding workOf workCell shown
   square-is h =
-      all-same (2 ^ n) (cellOf n row column rows s) (cellAt (cellsOf (2 ^ n) (cellOf n row column rows s)))
-      (λ i l. sym (cell-at (2 ^ n) i (cellOf n row column rows s) l))
+      planes-alike (2 ^ n) (cellOf n row column rows s) (cellAt (cellsOf (2 ^ n) (cellOf n row column rows s)))
+      (λ i l. sym (cell-of (2 ^ n) i (cellOf n row column rows s) l))
       ∙ ap (λ (c : ℕ). planesOf c (cellAt (cellsOf (2 ^ n) (cellOf n row column rows s)))) (sym (p .product))
       ∙ sym (cond-no _ _ (le-ltb rows columns h))

@@ -11,8 +11,8 @@ use lib.Dec.{eqb}
 use borrow.Author.Tests.{eqb-false}
 use Rattle.answers.specs.Paper.{done, refuse}
 use Rattle.answers.proofs.PaperLaws.{refuse-done}
-use Rattle.submasks.proofs.SubmaskLaws.{le-or-lt}
-use Rattle.svd_load.proofs.NumbersLaws.{length-numbers}
+use Rattle.whole_numbers.proofs.WholeLaws.{le-or-lt}
+use Rattle.tables.proofs.TablesLaws.{length-table}
 use Rattle.svd_columns.specs.Columns.{sortedOf}
 use Rattle.values.specs.Lists.{keptAbove, allFinite}
 use Rattle.values.proofs.ListLaws.{length-scaled, kept-le}
@@ -54,4 +54,4 @@ side-first m k =
 
 pub few-singular : (s : List Float) (n : ℕ) (l : List ℕ) → length (singularValues s n l) ≤ cutRows n l
 unfolding singularValues sOf valuesOf sortedOf
-few-singular s n l = same-le (length-numbers (sideOf (cutRows n l) (cutColumns n l)) _) (side-first (cutRows n l) (cutColumns n l))
+few-singular s n l = same-le (length-table (sideOf (cutRows n l) (cutColumns n l)) _) (side-first (cutRows n l) (cutColumns n l))

@@ -1,6 +1,7 @@
 // The cut file: six header fields, a list of qubits, a state. The core, on a slice of bytes and numbers: what the header
 // is answered by, and the entries and amplitudes behind it.
 use answers::Answer;
+pub use whole_numbers::bit;
 ghost use mathlib.Core.Path.{_≡_};
 ghost use Prim.Native.Nat.{_+_, _*_, _^_, _<_, _≤_};
 ghost use lib.ListN.{length};
@@ -80,14 +81,6 @@ fn all_zero(s: &[u8]) -> bool
     true
 }
 
-// Inner: 2 to the n.
-pub fn power_of_two(n: usize) -> usize
-    requires { ⌜ n < 64 ⌝ }
-    ensures { λ r. ⌜ r ≡ 2 ^ n ⌝ }
-{
-    1 << n
-}
-
 // Where the amplitudes begin: past the list, at a multiple of 8.
 fn amplitude_offset(k: usize) -> usize
     requires { ⌜ k ≤ 64 ⌝ }
@@ -100,7 +93,7 @@ fn file_length(n: usize, k: usize) -> usize
     requires { ⌜ (n ≤ 9) × (k ≤ 64) ⌝ }
     ensures { λ r. ⌜ r ≡ fileLength n k ⌝ }
 {
-    amplitude_offset(k) + 16 * power_of_two(n)
+    amplitude_offset(k) + 16 * bit(n)
 }
 
 // Whether the bytes between the list and the amplitudes are zero.

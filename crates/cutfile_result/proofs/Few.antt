@@ -16,8 +16,8 @@ use Rattle.cut_sides.specs.Sides.{cutRefusal, side}
 use Rattle.cutfile.specs.Bytes.{word32}
 use Rattle.cutfile.specs.Layout.{headerAnswer, LongEnough, fileEntry}
 use Rattle.cutfile.proofs.LayoutLaws.{accepted}
-use Rattle.decode.specs.Tables.{filled}
-use Rattle.decode.proofs.TablesLaws.{take-filled}
+use Rattle.tables.specs.Tables.{filled}
+use Rattle.tables.proofs.TablesLaws.{take-filled}
 use Rattle.finish.specs.Finish.{padded}
 use Rattle.sweeps.specs.Sweeping.{noSweeps}
 use Rattle.cut_values.specs.Schmidt.{cutRows, singularValues, cutValuesRest, cutValuesTests, valuesReply, cutValuesAnswer}
@@ -83,7 +83,7 @@ module _ (file list : List ℕ) (values : List Float) (r : CutResult) (list' : L
   list-front =
       ap₂ (λ (k : ℕ) (l : List ℕ). take k l) k-word
       (is .list-is ∙ sym (done-new (headerAnswer file .0) (filled (word32 file 8) (fileEntry file) list) list header-done))
-      ∙ take-filled (fileEntry file) (word32 file 8) list
+      ∙ take-filled (word32 file 8) (fileEntry file) list
 
   pub values-front : take (r .count) values' ≡ fileValues file
   values-front =

@@ -1,6 +1,6 @@
 -- Laws of the result of a file. Assumes nothing.
 use mathlib.Core.Path.{_≡_, refl, sym, ap, ap₂, subst, _∙_}
-use mathlib.Core.Bool.{Bool, false}
+use mathlib.Core.Bool.{false}
 use mathlib.Core.List.{List}
 use Prim.Native.Nat.{ℕ, zero, suc, _*_, _^_}
 use native.Mathlib.Omega.{arith}
@@ -13,8 +13,8 @@ use Rattle.cutfile.specs.Bytes.{word32}
 use Rattle.cutfile.specs.Layout.{headerAnswer, LongEnough, Header·is, fileEntry, componentAt}
 use Rattle.cutfile.specs.declared.Header.{Header}
 use Rattle.cutfile.proofs.LayoutLaws.{accepted}
-use Rattle.decode.specs.Tables.{filled}
-use Rattle.decode.proofs.TablesLaws.{take-filled}
+use Rattle.tables.specs.Tables.{filled}
+use Rattle.tables.proofs.TablesLaws.{take-filled}
 use Rattle.sweeps.specs.Sweeping.{noSweeps}
 use Rattle.finish.specs.Finish.{padded}
 use Rattle.cut_values.specs.declared.CutCounted.{CutCounted}
@@ -49,8 +49,8 @@ file-valued file n k m old list before state values r end l e f v =
       list-is = e;
       valued =
           subst (λ (s : List Float). Valued s n (listOf file k) values r end)
-          (ap₂ (λ (m : ℕ) (s : List Float). take m s) l f ∙ take-filled (componentAt file k) (2 * 2 ^ n) before)
-          (subst (λ (q : List ℕ). Valued (take m state) n q values r end) (ap (take k) e ∙ take-filled (fileEntry file) k old) v);
+          (ap₂ (λ (m : ℕ) (s : List Float). take m s) l f ∙ take-filled (2 * 2 ^ n) (componentAt file k) before)
+          (subst (λ (q : List ℕ). Valued (take m state) n q values r end) (ap (take k) e ∙ take-filled k (fileEntry file) old) v);
     }
 
 -- ---- the header decides

@@ -26,7 +26,7 @@ use Rattle.cut_sides.specs.Sides.{cutSizes, cutRefusal}
 use Rattle.values.specs.Lists.{allFinite}
 use Rattle.values.specs.Sort.{sortedDown}
 use Rattle.finish.specs.Finish.{keptValues, finishSorted, sortedReply, finishReply}
-use Rattle.decode.proofs.TablesLaws.{length-table}
+use Rattle.tables.proofs.TablesLaws.{length-table}
 use Rattle.cut_values.specs.Schmidt.{cutRows, singularValues, cutValuesLengths, cutValuesRest, cutValuesTests, valuesReply, cutValuesAnswer}
 use Rattle.cut_values.proofs.SchmidtLaws.{lengths-good}
 use Rattle.cut_values.proofs.Few.{few-left, few-singular, some-kept}
@@ -113,7 +113,7 @@ never-length state n list h l = library-other state n list h l .1
 
 -- No file is refused by 6.
 pub file-never-length : (file : List ℕ) (n k : ℕ) → LongEnough file n k → cutReply (stateOf file n k) n (listOf file k) .0 ≡ 6 → ⊥
-file-never-length file n k h = never-length (stateOf file n k) n (listOf file k) (h .n-small) (length-table (componentAt file k) (2 * 2 ^ n))
+file-never-length file n k h = never-length (stateOf file n k) n (listOf file k) (h .n-small) (length-table (2 * 2 ^ n) (componentAt file k))
 
 -- three tests of number 10
 tens-other : (a b c : Bool) → Other (refuse a (10, 0) (refuse b (10, 0) (refuse c (10, 0) done)))
@@ -151,7 +151,7 @@ file-number file = by (headerAnswer file .0) refl
     k = word32 file 8
 
     by : (x : ℕ) → headerAnswer file .0 ≡ x → after x (headerAnswer file) (libraryReply file n k) .0 ≤ 10
-    by zero e = library-other (stateOf file n k) n (listOf file k) (accepted file e .0 .n-small) (length-table (componentAt file k) (2 * 2 ^ n)) .0
+    by zero e = library-other (stateOf file n k) n (listOf file k) (accepted file e .0 .n-small) (length-table (2 * 2 ^ n) (componentAt file k)) .0
     by (suc x) e = header-other file .0
 
 -- An accepted file keeps 1 to 16 values.

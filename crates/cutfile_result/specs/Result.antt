@@ -9,7 +9,7 @@ use Rattle.answers.specs.Paper.{Reply, paper, andThen, ifDone, atEnd}
 use Rattle.complex.specs.Zeros.{zeroed}
 use Rattle.cutfile.specs.Bytes.{word32}
 use Rattle.cutfile.specs.Layout.{headerAnswer, nOf, kOf, fileEntry, componentAt}
-use Rattle.decode.specs.Tables.{table, filled}
+use Rattle.tables.specs.Tables.{table, filled}
 use Rattle.sweeps.specs.declared.Sweeps.{Sweeps}
 use Rattle.sweeps.specs.Sweeping.{noSweeps}
 use Rattle.finish.specs.Finish.{finishOf, padded}

@@ -37,7 +37,7 @@ fn of_file(file: &[u8], n: usize, k: usize, list: &mut [usize], values: &mut [f6
     decode::decode_list(file, n, k, list);
     let mut state = [0.0f64; 1024];
     decode::decode_state(file, n, k, &mut state);
-    let components = 2 * cutfile::power_of_two(n);
+    let components = 2 * cutfile::bit(n);
     values_of(&state[..components], n, &list[..k], values)
 }
 

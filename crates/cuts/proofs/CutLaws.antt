@@ -4,7 +4,7 @@ use mathlib.Core.Bool.{not}
 use mathlib.Core.Path.{_≡_, refl, sym, ap, ap₂, _∙_}
 use mathlib.Core.List.{List}
 use Prim.Native.Nat.{ℕ, zero, suc, _+_, _-_, _*_, _^_, _≤_, _<_}
-use native.Mathlib.Nat.{add-mul, zero-mul, one-mul, mul-le-mul-right, min-le-right}
+use native.Mathlib.Nat.{add-mul, zero-mul, one-mul, min-le-right}
 use native.Mathlib.Numerals.{add-one}
 use native.Mathlib.Omega.{arith}
 use borrow.Author.Tests.{eqb-true, ltb-false, not-false}
@@ -17,6 +17,7 @@ use lib.Pow.{pow-pos}
 use Rattle.answers.specs.declared.Answer.{Answer}
 use Rattle.answers.specs.Paper.{Reply, paper, done, refuse, after, ifDone}
 use Rattle.answers.proofs.PaperLaws.{refuse-done, done-new, done-old}
+use Rattle.whole_numbers.proofs.WholeLaws.{column-fits}
 use Rattle.submasks.specs.Submasks.{submaskAt, nextSubmask}
 use Rattle.submasks.proofs.SubmaskLaws.{next-submaskAt, submaskAt-first, submaskAt-lt}
 use Rattle.qubits.proofs.NamedLaws.{sizes-product}
@@ -27,6 +28,36 @@ use Rattle.cut_sides.specs.declared.Sides.{Sides}
 use Rattle.cut_sides.specs.Sides.{cutRefusal, Parted, side, rowMask, columnMask, sidesOf, Sided}
 use Rattle.cut_sides.proofs.SideLaws.{two-sides}
 use Rattle.cuts.specs.Cut.{cellOf, cutLengths, cutRest, cutAnswer, setCells, CutMatrix, CutOver, CutReady, ColumnReady}
+
+-- ---- what both ways to gather a matrix share: as cells here, as planes in `cut_planes`
+
+-- the submask after the j-th
+pub bits-more : (n mask j : ℕ) {bits next : ℕ} → n ≤ 12 → mask < 2 ^ n → bits ≡ submaskAt n mask j → next ≡ nextSubmask bits mask → next ≡ submaskAt n mask (j + 1)
+bits-more n mask j h l e f =
+    f ∙ ap (λ (x : ℕ). nextSubmask x mask) e ∙ next-submaskAt n mask j (omega arith) l ∙ ap (submaskAt n mask) (sym (add-one j))
+
+-- the cell of the state that the row j of a column reads
+pub row-inside : (n row rows bits at : ℕ) (s o : List Float) (j : ℕ) {row-bits : ℕ} → ColumnReady n row rows bits at s o → row-bits ≡ submaskAt n row j
+    → 2 * bitOr row-bits bits + 1 < length s
+row-inside n row rows bits at s o j {row-bits} p e =
+    let l : bitOr row-bits bits < 2 ^ n = rw e (or-lt n (submaskAt n row j) bits (submaskAt-lt n row j) (p .bits-lt)) in
+    omega (arith, p .state)
+
+module _ (n row column rows columns : ℕ) (s o : List Float) (p : CutReady n row column rows columns s o) (out : List Float) (c at bits : ℕ) (h : c < columns)
+    (eb : bits ≡ submaskAt n column c) (ea : at ≡ c * rows) (el : length out ≡ length o) where
+  -- the column c, and where the next one begins
+  pub column-there : ColumnReady n row rows bits at s out
+  column-there = record {
+    small = p .small;
+    row-lt = p .row-lt;
+    bits-lt = rw eb (submaskAt-lt n column c);
+    state = p .state;
+    last = omega (arith, ea, column-fits c columns rows h, p .product);
+    room = omega (arith, p .room, el);
+  }
+
+  pub column-next : at + rows ≡ (c + 1) * rows
+  column-next = omega (arith, ea, add-mul c 1 rows, one-mul rows)
 
 -- ---- one column
 
@@ -64,9 +95,7 @@ module _ (n row rows bits at : ℕ) (s o : List Float) (p : ColumnReady n row ro
 
   module _ (out : List Float) (j row-bits : ℕ) (i : Column n row rows bits at s o out j row-bits) (h : j < rows) where
     pub source-in : 2 * bitOr row-bits bits + 1 < length s
-    source-in =
-        let l : bitOr row-bits bits < 2 ^ n = rw (i .row-is) (or-lt n (submaskAt n row j) bits (submaskAt-lt n row j) (p .bits-lt)) in
-        omega (arith, p .state)
+    source-in = row-inside n row rows bits at s o j p (i .row-is)
 
     pub cell-in : 2 * (at + j) + 1 < length out
     cell-in = omega (arith, p .last, p .room, i .long)
@@ -75,9 +104,7 @@ module _ (n row rows bits at : ℕ) (s o : List Float) (p : ColumnReady n row ro
         → next ≡ nextSubmask row-bits row → Column n row rows bits at s o end (j + 1) next
     column-turn end z next ez ee en = record {
       more = omega arith;
-      row-is =
-          en ∙ ap (λ (x : ℕ). nextSubmask x row) (i .row-is) ∙ next-submaskAt n row j (omega (arith, p .small)) (p .row-lt)
-          ∙ ap (submaskAt n row) (sym (add-one j));
+      row-is = bits-more n row j (p .small) (p .row-lt) (i .row-is) en;
       long = rw ee (simp length-set (i .long));
       cells =
           ee
@@ -112,41 +139,23 @@ module _ (n row column rows columns : ℕ) (s o : List Float) (p : CutReady n ro
   }
 
   module _ (out : List Float) (c at bits : ℕ) (i : Columns n row column rows columns s o out c at bits) (h : c < columns) where
-    next-number : (c + 1) * rows ≡ c * rows + rows
-    next-number = add-mul c 1 rows ∙ ap (λ (x : ℕ). c * rows + x) (one-mul rows)
-
-    last-cell : at + rows ≤ 2 ^ n
-    last-cell =
-        let g : c + 1 ≤ columns = omega arith in
-        let m : (c + 1) * rows ≤ columns * rows = mul-le-mul-right rows g in
-        omega (arith, next-number, i .number, p .product)
-
     pub column-ready : ColumnReady n row rows bits at s out
-    column-ready = record {
-      small = p .small;
-      row-lt = p .row-lt;
-      bits-lt = rw (i .bits-is) (submaskAt-lt n column c);
-      state = p .state;
-      last = last-cell;
-      room = omega (arith, p .room, i .long);
-    }
+    column-ready = column-there n row column rows columns s o p out c at bits h (i .bits-is) (i .number) (i .long)
 
     pub columns-turn : (end : List Float) (next : ℕ) → length end ≡ length out
         → end ≡ setCells at (λ (j : ℕ). cellAt s (bitOr (submaskAt n row j) bits)) rows out → next ≡ nextSubmask bits column
         → Columns n row column rows columns s o end (c + 1) (at + rows) next
     columns-turn end next el ee en = record {
       more = omega arith;
-      bits-is =
-          en ∙ ap (λ (x : ℕ). nextSubmask x column) (i .bits-is) ∙ next-submaskAt n column c (omega (arith, p .small)) (p .column-lt)
-          ∙ ap (submaskAt n column) (sym (add-one c));
-      number = omega (arith, i .number, next-number);
+      bits-is = bits-more n column c (p .small) (p .column-lt) (i .bits-is) en;
+      number = column-next n row column rows columns s o p out c at bits h (i .bits-is) (i .number) (i .long);
       long = el ∙ i .long;
       cells =
           ee ∙ ap (setCells at (λ (j : ℕ). cellAt s (bitOr (submaskAt n row j) bits)) rows) (i .cells)
           ∙ set-written at (λ (j : ℕ). cellAt s (bitOr (submaskAt n row j) bits)) (cellOf n row column rows s) rows o
           (λ j k.
           sym (ap (λ (x : ℕ). cellOf n row column rows s (x + j)) (i .number) ∙ rw (digits-mod c k, digits-div c k, i .bits-is)))
-          (omega (arith, last-cell, p .room));
+          (omega (arith, column-ready .last, p .room));
     }
 
   pub columns-end : (out : List Float) (c at bits : ℕ) → Columns n row column rows columns s o out c at bits → columns ≤ c

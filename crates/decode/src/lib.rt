@@ -4,7 +4,7 @@ ghost use mathlib.Core.Path.{_≡_};
 ghost use Prim.Native.Nat.{_*_, _^_, _≤_};
 ghost use lib.ListN.{length};
 ghost use Rattle.cutfile.specs.Layout.{LongEnough, fileEntry, componentAt};
-ghost use Rattle.decode.specs.Tables.{filled};
+ghost use Rattle.tables.specs.Tables.{filled};
 
 fn index(x: u32) -> usize
     ensures { λ r. ⌜ r ≡ x ⌝ }
@@ -31,7 +31,7 @@ pub fn decode_state(file: &[u8], n: usize, k: usize, out: &mut [f64])
     requires { ⌜ 2 * 2 ^ n ≤ length (now out) ⌝ }
     ensures { λ r. ⌜ now (out .exit) ≡ filled (2 * 2 ^ n) (componentAt (now (file .entry)) k) (now (out .entry)) ⌝ }
 {
-    let components = 2 * cutfile::power_of_two(n);
+    let components = 2 * cutfile::bit(n);
     let mut j = 0;
     while j < components {
         let bits = cutfile_view::amplitude_bits(file, n, k, j / 2, j % 2);

@@ -1,5 +1,5 @@
 -- Laws of what `specs/CellPlanes.antt` defines. Assumes nothing.
-use mathlib.Core.Path.{_≡_, refl, sym, ap, ap₂, subst, _∙_}
+use mathlib.Core.Path.{_≡_, sym, ap, ap₂, subst, _∙_}
 use mathlib.Core.Logic.{⊎-elim}
 use mathlib.Core.List.{List, [], _∷_, _++_}
 use Prim.Native.Nat.{ℕ, zero, suc, _+_, _*_, _<_}
@@ -7,48 +7,33 @@ use native.Mathlib.Nat.{eq-or-lt-of-le}
 use native.Mathlib.Omega.{arith}
 use lib.Ieee.{Float, nan}
 use lib.ListN.{length, getD, set, length-set, List·getD-append}
-use lib.Seq.{set-at, set-append-left, getD-at, getD-append-add, getD-set-same, getD-set-other}
+use lib.Seq.{set-at, set-append-left, getD-append-add, getD-set-same, getD-set-other}
 use Rattle.complex.specs.declared.Complex.{Complex}
 use Rattle.complex.specs.Arithmetic.{complexOf}
 use Rattle.complex.specs.Cells.{cellAt, setCell}
 use Rattle.complex.specs.Planes.{planeAt, setPlane}
-use Rattle.svd_load.specs.Numbers.{numbersOf}
-use Rattle.svd_load.proofs.NumbersLaws.{length-numbers, set-second}
+use Rattle.tables.specs.Tables.{table}
+use Rattle.tables.proofs.TablesLaws.{length-table, table-at, table-same}
+use Rattle.svd_load.proofs.NumbersLaws.{set-second}
 use Rattle.svd_load.specs.Loading.{planesOf}
 use Rattle.eigen_pair.specs.CellPlanes.{asPlanes}
 
 -- ---- numbers one by one
 
-numbers-same : (c : ℕ) (f g : ℕ → Float) → ((k : ℕ) → k < c → f k ≡ g k) → numbersOf c f ≡ numbersOf c g
-unfolding numbersOf
-numbers-same zero f g h = refl
-numbers-same (suc c) f g h =
-    let e : f c ≡ g c = h c (omega arith) in
-    rw (numbers-same c f g (λ k l. h k (omega arith)), e)
-
-number-at : (c k : ℕ) (f : ℕ → Float) → k < c → getD (numbersOf c f) k nan ≡ f k
-unfolding numbersOf
-number-at zero k f h = absurd (omega arith)
-number-at (suc c) k f h =
-    ⊎-elim
-    (λ (e : k ≡ c). rw e (getD-at (numbersOf c f) (f c) [] nan c (length-numbers c f)))
-    (λ (e : k < c). List·getD-append (numbersOf c f) (f c ∷ []) nan k (omega (arith, length-numbers c f)) ∙ number-at c k f e)
-    (eq-or-lt-of-le (omega arith))
-
 -- one number differs
-number-set : (c i : ℕ) (f g : ℕ → Float) (x : Float) → i < c → g i ≡ x → ((k : ℕ) → k < c → (k ≡ i → ⊥) → g k ≡ f k) → numbersOf c g ≡ set (numbersOf c f) i x
-unfolding numbersOf
+number-set : (c i : ℕ) (f g : ℕ → Float) (x : Float) → i < c → g i ≡ x → ((k : ℕ) → k < c → (k ≡ i → ⊥) → g k ≡ f k) → table c g ≡ set (table c f) i x
+unfolding table
 number-set zero i f g x h e o = absurd (omega arith)
 number-set (suc c) i f g x h e o =
     ⊎-elim
     (λ (q : i ≡ c).
-    let s : numbersOf c g ≡ numbersOf c f = numbers-same c g f (λ k l. o k (omega arith) (λ r. omega arith)) in
+    let s : table c g ≡ table c f = table-same c g f (λ k l. o k (omega arith) (λ r. omega arith)) in
     let v : g c ≡ x = ap g (sym q) ∙ e in
-    rw (s, v) (sym (set-at (numbersOf c f) (f c) [] x i (length-numbers c f ∙ sym q))))
+    rw (s, v) (sym (set-at (table c f) (f c) [] x i (length-table c f ∙ sym q))))
     (λ (q : i < c).
     let v : g c ≡ f c = o c (omega arith) (λ r. omega arith) in
     rw (number-set c i f g x q e (λ k l n. o k (omega arith) n), v)
-    (sym (set-append-left (numbersOf c f) (f c ∷ []) i x (omega (arith, length-numbers c f)))))
+    (sym (set-append-left (table c f) (f c ∷ []) i x (omega (arith, length-table c f)))))
     (eq-or-lt-of-le (omega arith))
 
 -- a number read in the second of two lists
@@ -66,10 +51,10 @@ unfolding asPlanes planesOf planeAt
 plane-read c i xs h =
     let f : ℕ → Float = λ k. cellAt xs k .re in
     let g : ℕ → Float = λ k. cellAt xs k .im in
-    let l = length-numbers c f in
+    let l = length-table c f in
     ap₂ complexOf
-    (sym (List·getD-append (numbersOf c f) (numbersOf c g) nan i (omega (arith, l)) ∙ number-at c i f h))
-    (sym (second (numbersOf c f) (numbersOf c g) c i l ∙ number-at c i g h))
+    (sym (List·getD-append (table c f) (table c g) nan i (omega (arith, l)) ∙ table-at nan c i f h))
+    (sym (second (table c f) (table c g) c i l ∙ table-at nan c i g h))
 
 pub plane-re : (c i : ℕ) (xs : List Float) → i < c → getD xs (2 * i) nan ≡ getD (asPlanes c xs) i nan
 unfolding planeAt
@@ -82,24 +67,16 @@ plane-set c i xs z h l =
     let f : ℕ → Float = λ k. cellAt xs k .re in
     let g : ℕ → Float = λ k. cellAt xs k .im in
     let ys = set xs (2 * i) (z .re) in
-    let re : numbersOf c (λ k. cellAt (setCell xs i z) k .re) ≡ set (numbersOf c f) i (z .re) =
+    let re : table c (λ k. cellAt (setCell xs i z) k .re) ≡ set (table c f) i (z .re) =
     number-set c i f (λ k. cellAt (setCell xs i z) k .re) (z .re) h
     (getD-set-other ys (2 * i + 1) (2 * i) (z .im) nan (λ q. omega arith) ∙ getD-set-same xs (2 * i) (z .re) nan (omega arith))
     (λ k m n. getD-set-other ys (2 * i + 1) (2 * k) (z .im) nan (λ q. omega arith) ∙ getD-set-other xs (2 * i) (2 * k) (z .re) nan (λ q. n (omega arith))) in
-    let im : numbersOf c (λ k. cellAt (setCell xs i z) k .im) ≡ set (numbersOf c g) i (z .im) =
+    let im : table c (λ k. cellAt (setCell xs i z) k .im) ≡ set (table c g) i (z .im) =
     number-set c i g (λ k. cellAt (setCell xs i z) k .im) (z .im) h
     (getD-set-same ys (2 * i + 1) (z .im) nan (omega (arith, length-set xs (2 * i) (z .re))))
     (λ k m n. getD-set-other ys (2 * i + 1) (2 * k + 1) (z .im) nan (λ q. n (omega arith)) ∙ getD-set-other xs (2 * i) (2 * k + 1) (z .re) nan (λ q. omega arith)) in
-    let lf = length-numbers c f in
-    let ls : length (set (numbersOf c f) i (z .re)) ≡ c = length-set (numbersOf c f) i (z .re) ∙ lf in
+    let lf = length-table c f in
+    let ls : length (set (table c f) i (z .re)) ≡ c = length-set (table c f) i (z .re) ∙ lf in
     ap₂ (λ (p q : List Float). p ++ q) re im
-    ∙ sym (ap (λ (s : List Float). set s (c + i) (z .im)) (set-append-left (numbersOf c f) (numbersOf c g) i (z .re) (omega (arith, lf)))
-    ∙ set-second (set (numbersOf c f) i (z .re)) (numbersOf c g) c i (z .im) ls)
-
--- cells that are the same give the same planes
-pub planes-same : (c : ℕ) (f g : ℕ → Complex) → ((k : ℕ) → k < c → f k ≡ g k) → planesOf c f ≡ planesOf c g
-unfolding planesOf
-planes-same c f g h =
-    ap₂ (λ (p q : List Float). p ++ q)
-    (numbers-same c (λ k. f k .re) (λ k. g k .re) (λ k l. ap (λ (z : Complex). z .re) (h k l)))
-    (numbers-same c (λ k. f k .im) (λ k. g k .im) (λ k l. ap (λ (z : Complex). z .im) (h k l)))
+    ∙ sym (ap (λ (s : List Float). set s (c + i) (z .im)) (set-append-left (table c f) (table c g) i (z .re) (omega (arith, lf)))
+    ∙ set-second (set (table c f) i (z .re)) (table c g) c i (z .im) ls)

@@ -3,7 +3,6 @@ use mathlib.Core.Path.{_≡_, refl, ap, _∙_}
 use mathlib.Core.List.{List}
 use Prim.Native.Nat.{ℕ, _+_, _*_, _<_}
 use native.Mathlib.Numerals.{add-one}
-use native.Mathlib.Omega.{arith}
 use lib.Ieee.{Float}
 use lib.ListN.{length}
 use Rattle.complex.specs.declared.Complex.{Complex}
@@ -12,7 +11,6 @@ use Rattle.complex.specs.Cells.{cellAt, setCell}
 use Rattle.complex.specs.Planes.{planeAt, setPlane}
 use Rattle.svd_pair.specs.declared.Decision.{Decision}
 use Rattle.svd_pair.specs.declared.Decision.the-variants.{Leave, Turn}
-use Rattle.svd_sweeps.proofs.SweepingLaws.{column-fits}
 use Rattle.eigen_pair.specs.declared.Angle.{Angle}
 use Rattle.eigen_pair.specs.CellPlanes.{asPlanes}
 use Rattle.eigen_pair.proofs.CellPlanesLaws.{length-setCell, plane-read, plane-set}
@@ -56,7 +54,3 @@ applied-turn n p q xs e f = rw e f
 pub applied-leave : {d : Decision} (n p q : ℕ) (xs : List Float) → d ≡ Leave → xs ≡ eigenApplied d n p q xs
 unfolding eigenApplied
 applied-leave n p q xs e = rw e
-
--- the cell of row k and column p stands in the matrix
-pub cell-fits : (k p n : ℕ) → k < n → p < n → k * n + p < n * n
-cell-fits k p n h g = omega (arith, column-fits k n n h)

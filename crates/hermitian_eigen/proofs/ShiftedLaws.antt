@@ -1,7 +1,7 @@
 -- Laws of the shifted matrix. Assumes nothing.
-use mathlib.Core.Path.{_≡_, refl, sym, ap, ap₂, _∙_}
-use mathlib.Core.List.{List, _++_}
-use Prim.Native.Nat.{ℕ, zero, suc, _+_, _*_, _/_, _%_, _<_}
+use mathlib.Core.Path.{_≡_, refl, sym, _∙_}
+use mathlib.Core.List.{List}
+use Prim.Native.Nat.{ℕ, _+_, _*_, _/_, _%_, _<_}
 use native.Mathlib.Numerals.{add-one}
 use native.Mathlib.Nat.{add-zero, mul-add-div-right, mul-add-mod-self-right, div-eq-of-lt, mod-eq-of-lt}
 use native.Mathlib.Omega.{arith}
@@ -13,8 +13,8 @@ use Rattle.modulus.specs.Modulus.{modulusOf}
 use Rattle.complex.specs.Cells.{cellAt, cellsOf}
 use Rattle.complex.proofs.CellLaws.{cell-of}
 use Rattle.complex.specs.Zeros.{zeroFloat}
-use Rattle.svd_load.specs.Numbers.{numbersOf}
 use Rattle.svd_load.specs.Loading.{planesOf}
+use Rattle.svd_load.proofs.LoadingLaws.{planes-alike}
 use Rattle.hermitian_eigen.specs.Shifted.{peakTo, shiftOf, shiftedCell, shiftedAt, shiftedOf}
 
 pub peak-none : (a : List Float) → zeroFloat ≡ peakTo a 0
@@ -40,23 +40,9 @@ shifted-at shift a dim col r h =
     let s = split dim col r h in
     rw (s .0, s .1)
 
--- numbers and planes of two functions that give the same
-pub numbers-same : (m : ℕ) (f g : ℕ → Float) → ((k : ℕ) → k < m → f k ≡ g k) → numbersOf m f ≡ numbersOf m g
-unfolding numbersOf
-numbers-same zero f g h = refl
-numbers-same (suc m) f g h =
-    let e : f m ≡ g m = h m (omega arith) in
-    rw (numbers-same m f g (λ k l. h k (omega arith)), e)
-
-planes-same : (m : ℕ) (f g : ℕ → Complex) → ((k : ℕ) → k < m → f k ≡ g k) → planesOf m f ≡ planesOf m g
-unfolding planesOf
-planes-same m f g h =
-    ap₂ (λ (p q : List Float). p ++ q) (numbers-same m (λ i. f i .re) (λ i. g i .re) (λ k l. ap (λ (z : Complex). z .re) (h k l)))
-    (numbers-same m (λ i. f i .im) (λ i. g i .im) (λ k l. ap (λ (z : Complex). z .im) (h k l)))
-
 -- the planes that the sweeps start from are those of the shifted matrix
 pub shifted-planes : (a : List Float) (dim : ℕ) → planesOf (dim * dim) (shiftedAt (shiftOf a dim) a dim) ≡ planesOf (dim * dim) (cellAt (shiftedOf a dim))
 unfolding shiftedOf
 shifted-planes a dim =
     let f = shiftedAt (shiftOf a dim) a dim in
-    planes-same (dim * dim) f (cellAt (cellsOf (dim * dim) f)) (λ k l. sym (cell-of (dim * dim) k f l))
+    planes-alike (dim * dim) f (cellAt (cellsOf (dim * dim) f)) (λ k l. sym (cell-of (dim * dim) k f l))

@@ -14,8 +14,9 @@ use Rattle.complex.specs.declared.Complex.{Complex}
 use Rattle.complex.specs.Cells.{cellAt, cellsOf}
 use Rattle.complex.proofs.CellLaws.{cells-same, cell-of}
 use Rattle.complex.specs.Planes.{planeAt}
-use Rattle.svd_load.specs.Numbers.{numbersOf, filled}
-use Rattle.svd_load.proofs.NumbersLaws.{length-numbers, column-fits}
+use Rattle.tables.specs.Tables.{table, filled}
+use Rattle.whole_numbers.proofs.WholeLaws.{column-fits}
+use Rattle.tables.proofs.TablesLaws.{length-table, table-same}
 use Rattle.svd_load.specs.Loading.{planesOf, unitPlanes}
 use Rattle.sweeps.specs.declared.Sweeps.{Sweeps}
 use Rattle.sweeps.specs.Sweeping.{State, state}
@@ -31,7 +32,7 @@ use Rattle.svd_thin.proofs.ThinLaws.{part-length, part-back}
 use Rattle.svd.specs.Svd.{uOf, sOf, workOf, directions}
 use Rattle.svd.proofs.SvdLaws.{side-tall, sweeps-tall}
 use Rattle.hermitian_eigen.specs.Shifted.{shiftOf, shiftedAt, shiftedOf}
-use Rattle.hermitian_eigen.proofs.ShiftedLaws.{split, numbers-same, shifted-planes}
+use Rattle.hermitian_eigen.proofs.ShiftedLaws.{split, shifted-planes}
 use Rattle.hermitian_eigen.specs.Backward.{backward}
 use Rattle.hermitian_eigen.proofs.BackwardLaws.{length-backward, backward-at, places-backward, below-backward}
 use Rattle.hermitian_eigen.specs.Hermitian.{hermitianValues, hermitianVectors, hermitianSweeps}
@@ -44,8 +45,8 @@ pub past-filled : (m : ℕ) (f : ℕ → Float) (old : List Float) → getD (fil
 unfolding filled
 past-filled m f old =
     let z : m + 0 ≡ m = omega arith in
-    let e : length (numbersOf m f) + 0 ≡ m = omega (arith, length-numbers m f) in
-    rw e at (getD-append-add (numbersOf m f) (drop m old) 0 nan) ∙ getD-drop m old 0 nan ∙ ap (λ (n : ℕ). getD old n nan) z
+    let e : length (table m f) + 0 ≡ m = omega (arith, length-table m f) in
+    rw e at (getD-append-add (table m f) (drop m old) 0 nan) ∙ getD-drop m old 0 nan ∙ ap (λ (n : ℕ). getD old n nan) z
 
 -- V is no part of the work matrix, and no part of the counts
 pub sweep-made : (a : List Float) (dim : ℕ) (shift : Float) {work work' : List Float} {n : Sweeps} → work ≡ planesOf (dim * dim) (shiftedAt shift a dim)
@@ -125,7 +126,7 @@ module _ (work s : List Float) (o : List ℕ) (dim : ℕ) (ls : length s ≡ dim
 
 length-values : (dim : ℕ) (t : List Float) → length (valuesOf dim dim t) ≡ dim
 unfolding valuesOf sortedOf
-length-values dim t = length-numbers dim _
+length-values dim t = length-table dim _
 
 length-orderOf : (dim : ℕ) (t : List Float) → length (orderOf dim dim t) ≡ dim
 unfolding orderOf
@@ -149,7 +150,7 @@ module _ (a : List Float) (dim : ℕ) where
       rw (le-ltb dim dim h, k .0, k .1, ← shifted-planes a dim)
 
   pub values-made : {values values' : List Float} (vectors : List Float) {shift : Float} {n : Sweeps} → shift ≡ shiftOf a dim → HermitianFactored a dim shift n values vectors
-      → values' ≡ numbersOf (length values) (λ j. sub binary64 (getD values j nan) shift) → values' ≡ hermitianValues a dim
+      → values' ≡ table (length values) (λ j. sub binary64 (getD values j nan) shift) → values' ≡ hermitianValues a dim
   unfolding hermitianValues
   values-made {values} {values'} vectors {shift} e p h =
       let t = sweptBy a dim (shiftOf a dim) in
@@ -159,7 +160,7 @@ module _ (a : List Float) (dim : ℕ) where
       let n : length values ≡ dim = ap length v ∙ length-backward s ∙ l in
       h
       ∙ rw (n, e, v, s-is)
-      (numbers-same dim (λ j. sub binary64 (getD (backward s) j nan) (shiftOf a dim)) (λ j. sub binary64 (getD s (dim - 1 - j) nan) (shiftOf a dim))
+      (table-same dim (λ j. sub binary64 (getD (backward s) j nan) (shiftOf a dim)) (λ j. sub binary64 (getD s (dim - 1 - j) nan) (shiftOf a dim))
       (λ j i. ap (λ (x : Float). sub binary64 x (shiftOf a dim)) (backward-at nan s j (omega arith) ∙ ap (λ (m : ℕ). getD s (m - 1 - j) nan) l)))
 
   pub vectors-made : (values : List Float) {vectors : List Float} {shift : Float} {n : Sweeps} → shift ≡ shiftOf a dim → HermitianFactored a dim shift n values vectors → vectors ≡ hermitianVectors a dim

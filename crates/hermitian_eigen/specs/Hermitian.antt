@@ -11,7 +11,7 @@ use Rattle.answers.specs.declared.Answer.{Answer}
 use Rattle.answers.specs.Paper.{Reply, paper, done, refuse, andThen, ifDone, ifWorked, atEnd}
 use Rattle.complex.specs.Cells.{cellAt, cellsOf, components}
 use Rattle.complex.specs.Zeros.{zeros, zeroed}
-use Rattle.svd_load.specs.Numbers.{numbersOf}
+use Rattle.tables.specs.Tables.{table}
 use Rattle.svd_columns.specs.Columns.{inColumns}
 use Rattle.values.specs.Lists.{allFinite}
 use Rattle.sweeps.specs.declared.Sweeps.{Sweeps}
@@ -42,7 +42,7 @@ hermitianTests a dim values vectors scratch =
 
 -- value j: the singular value dim - 1 - j of the shifted matrix, less the shift
 unfoldable pub hermitianValues : List Float → ℕ → List Float
-hermitianValues a dim = numbersOf dim (λ j. sub binary64 (getD (sOf (shiftedOf a dim) dim dim) (dim - 1 - j) nan) (shiftOf a dim))
+hermitianValues a dim = table dim (λ j. sub binary64 (getD (sOf (shiftedOf a dim) dim dim) (dim - 1 - j) nan) (shiftOf a dim))
 
 -- column j: the column dim - 1 - j of U of the shifted matrix
 unfoldable pub hermitianVectors : List Float → ℕ → List Float

@@ -11,7 +11,7 @@ ghost use Prim.Native.Nat.{_*_, _<_, _≤_};
 ghost use lib.ListN.{length, getD, take};
 ghost use lib.Ieee.{nan, binary64, sub};
 ghost use Rattle.answers.specs.Paper.{paper};
-ghost use Rattle.svd_load.specs.Numbers.{numbersOf};
+ghost use Rattle.tables.specs.Tables.{table};
 ghost use Rattle.svd_load.specs.Loading.{planesOf, planesTo};
 ghost use Rattle.stable_order.specs.Places.{Places, placesIn};
 ghost use Rattle.svd_columns.specs.Columns.{directionsOf};
@@ -149,7 +149,7 @@ fn factor(
 
 // Each value less the shift.
 fn lower(values: &mut [f64], shift: f64)
-    ensures { λ _. ⌜ now (values .exit) ≡ numbersOf (length (now (values .entry))) (λ j. sub binary64 (getD (now (values .entry)) j nan) shift) ⌝ }
+    ensures { λ _. ⌜ now (values .exit) ≡ table (length (now (values .entry))) (λ j. sub binary64 (getD (now (values .entry)) j nan) shift) ⌝ }
 {
     for j in 0..values.len() {
         values[j] = values[j] - shift;

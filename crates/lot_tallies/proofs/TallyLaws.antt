@@ -10,7 +10,7 @@ use lib.Dec.{eqb}
 use lib.ListN.{length, getD, set, length-append, length-set, List·getD-append}
 use lib.Seq.{getD-at, getD-set-same, getD-set-other, ext-getD}
 use borrow.Author.Tests.{eq-eqb, ne-eqb, eqb-true, eqb-false}
-use Rattle.submasks.proofs.SubmaskLaws.{le-or-lt}
+use Rattle.whole_numbers.proofs.WholeLaws.{le-or-lt}
 use Rattle.lot_tallies.specs.Tallies.{Single, one, howMany, countIs, rankIs, lesser, smallest, largest, firstFrom, rankSum, each}
 
 -- ---- a row of numbers

@@ -8,7 +8,7 @@ use lib.ListN.{length, take}
 use lib.Seq.{take-all}
 use Rattle.answers.specs.Paper.{Reply}
 use Rattle.answers.proofs.PaperLaws.{done-new, done-old}
-use Rattle.submasks.proofs.SubmaskLaws.{le-or-lt}
+use Rattle.whole_numbers.proofs.WholeLaws.{le-or-lt}
 use Rattle.cutfile.proofs.Longer.{longest}
 use Rattle.cutfile_result.specs.Result.{fileReply, fileValues}
 use Rattle.cutfile_result.proofs.Theorems.{file-number, file-rank, longer-reply}

@@ -3,7 +3,7 @@ use mathlib.Core.Path.{_≡_, refl, sym, ap, ap₂, _∙_}
 use mathlib.Core.List.{List, [], _∷_, _++_, append-assoc, append-nil}
 use mathlib.Core.Logic.{⊎-elim}
 use Prim.Native.Nat.{ℕ, zero, suc, _+_, _*_, _/_, _%_, _≤_, _<_}
-use native.Mathlib.Nat.{add-zero, mul-zero, eq-or-lt-of-le, suc-mul, mul-le-mul-right, mul-add-div-right, mul-add-mod-self-right, div-eq-of-lt, mod-eq-of-lt, mod-lt, div-add-mod', div-lt-iff-lt-mul}
+use native.Mathlib.Nat.{add-zero, mul-zero, eq-or-lt-of-le, mul-add-div-right, mul-add-mod-self-right, div-eq-of-lt, mod-eq-of-lt, mod-lt, div-add-mod', div-lt-iff-lt-mul}
 use native.Mathlib.Omega.{arith}
 use lib.Ieee.{Float, nan}
 use lib.ListN.{length, getD, set, length-set, length-append, drop-of-length-le}
@@ -15,12 +15,8 @@ use Rattle.complex.proofs.CellLaws.{length-cells, cells-same, cell-of}
 use Rattle.complex.specs.Planes.{planeAt}
 use Rattle.complex.specs.Zeros.{zeroFloat, zeros, zeroed}
 use Rattle.complex.proofs.ZerosLaws.{zeroed-at, length-zeros}
-use Rattle.submasks.proofs.SubmaskLaws.{le-or-lt}
+use Rattle.whole_numbers.proofs.WholeLaws.{le-or-lt, column-fits}
 use Rattle.qr_basis.specs.Matrix.{columnCell, matrixOf}
-
--- a column ends before a later one begins
-pub before : (c i rows : ℕ) → c < i → c * rows + rows ≤ i * rows
-before c i rows h = omega (arith, suc-mul c rows, mul-le-mul-right rows h)
 
 -- every cell was written
 pub written-all : (m : ℕ) (f : ℕ → Complex) (old : List Float) → length old ≡ 2 * m → written m f old ≡ cellsOf m f
@@ -95,11 +91,11 @@ apart rows c s i t h g n =
     let d : s ≡ t → ⊥ = n q in
     record { re-re = λ y. d (omega arith); re-im = λ y. omega arith; im-re = λ y. omega arith })
     (λ (q : c < i).
-    let m = before c i rows q in
+    let m = column-fits c i rows q in
     record { re-re = λ y. omega arith; re-im = λ y. omega arith; im-re = λ y. omega arith })
     (eq-or-lt-of-le e))
     (λ (q : i < c).
-    let m = before i c rows q in
+    let m = column-fits i c rows q in
     record { re-re = λ y. omega arith; re-im = λ y. omega arith; im-re = λ y. omega arith })
     (le-or-lt c i)
 
@@ -170,7 +166,7 @@ matrix-zeros rows cap {q} e =
     ∙ cells-same m (columnCell rows q) (λ x. complexOf zeroFloat zeroFloat)
     (λ x h.
     let pos = some-rows cap rows x h in
-    let c = before (x / rows) cap rows (div-lt-iff-lt-mul pos .1 h) in
+    let c = column-fits (x / rows) cap rows (div-lt-iff-lt-mul pos .1 h) in
     let s = mod-lt x pos in
     ap₂ complexOf
     (none (2 * (x / rows * rows) + x % rows) (omega (arith, c, s)))

@@ -4,17 +4,16 @@ use mathlib.Core.List.{List, _++_}
 use Prim.Native.Nat.{ℕ, zero, suc, _+_, _-_, _*_, _≤_}
 use native.Mathlib.Numerals.{add-one}
 use native.Mathlib.Omega.{arith}
-use lib.Ieee as Ieee
-use lib.Ieee.{Float, binary64, nan}
+use lib.Ieee.{Float, nan}
 use lib.ListN.{length, getD, drop, length-set}
 use lib.Seq.{getD-append-add, getD-drop}
 use Rattle.numbers.specs.Root.{sqrtOf}
 use Rattle.complex.specs.declared.Complex.{Complex}
-use Rattle.complex.specs.Arithmetic.{normSqr, scaled}
+use Rattle.complex.specs.Arithmetic.{scaled}
 use Rattle.complex.specs.Cells.{cellAt, setCell, cellsOf, written}
 use Rattle.complex.proofs.CellLaws.{length-cells}
-use Rattle.complex.specs.Zeros.{zeroFloat}
-use Rattle.qr_column.specs.Columns.{cellFrom, squaresTo, normOf, scaledInto}
+use Rattle.complex.specs.Squares.{squaresTo}
+use Rattle.qr_column.specs.Columns.{cellFrom, normOf, scaledInto}
 
 -- a number past the written cells is as it was
 pub number-kept : (m i : ℕ) (f : ℕ → Complex) (old : List Float) → 2 * m ≤ i → getD (written m f old) i nan ≡ getD old i nan
@@ -36,16 +35,7 @@ column-cell a o t e = e
 
 -- ---- the norm
 
-pub squares-none : (v : List Float) → zeroFloat ≡ squaresTo v 0
-unfolding squaresTo
-squares-none v = refl
-
-pub squares-more : (v : List Float) (k : ℕ) {x n : Float} {z : Complex} → x ≡ squaresTo v k → z ≡ cellAt v k → n ≡ normSqr z
-    → Ieee.add binary64 x n ≡ squaresTo v (k + 1)
-unfolding squaresTo
-squares-more v k e f g = rw (add-one, ← e, g, f)
-
-pub norm-made : (v : List Float) (rows : ℕ) {x y : Float} → x ≡ squaresTo v rows → y ≡ sqrtOf x → y ≡ normOf v rows
+pub norm-made : (v : List Float) (rows : ℕ) {x y : Float} → x ≡ squaresTo (cellAt v) rows → y ≡ sqrtOf x → y ≡ normOf v rows
 unfolding normOf
 norm-made v rows e f = f ∙ ap sqrtOf e
 

@@ -14,10 +14,12 @@ use Rattle.complex.specs.Arithmetic.{complexOf, conjugate, product, difference,
 use Rattle.complex.specs.Cells.{cellAt, setCell, cellsOf}
 use Rattle.complex.proofs.CellLaws.{cells-same, cell-of}
 use Rattle.complex.specs.Planes.{planeAt, setPlane}
+use Rattle.complex.specs.Squares.{squaresTo}
+use Rattle.complex.proofs.SquaresLaws.{squares-more}
 use Rattle.complex.proofs.PlanesLaws.{length-setPlane}
 use Rattle.qr_column.specs.Dot.{dotTerm}
-use Rattle.qr_column.specs.Columns.{cellFrom, columnOf, squaresTo, lessCell, lessened, scaledInto}
-use Rattle.qr_column.proofs.ColumnLaws.{squares-more, scaled-more}
+use Rattle.qr_column.specs.Columns.{cellFrom, columnOf, lessCell, lessened, scaledInto}
+use Rattle.qr_column.proofs.ColumnLaws.{scaled-more}
 use Rattle.qr_column.specs.Woven.{woven}
 
 pub cell-woven : (rows : ℕ) (v : List Float) (t : ℕ) → t < rows → cellAt (woven rows v) t ≡ planeAt v rows t
@@ -102,9 +104,9 @@ pub term-woven : (q : List Float) (o : ℕ) (v : List Float) (rows t : ℕ) {x y
 unfolding dotTerm
 term-woven q o v rows t h e f g i = i ∙ ap₂ product (f ∙ ap conjugate e) (g ∙ sym (cell-woven rows v t h))
 
-pub squares-woven : (v : List Float) (rows t : ℕ) {x n : Float} {z : Complex} → t < rows → x ≡ squaresTo (woven rows v) t → z ≡ planeAt v rows t
-    → n ≡ normSqr z → Ieee.add binary64 x n ≡ squaresTo (woven rows v) (t + 1)
-squares-woven v rows t h e f g = squares-more (woven rows v) t e (f ∙ sym (cell-woven rows v t h)) g
+pub squares-woven : (v : List Float) (rows t : ℕ) {x n : Float} {z : Complex} → t < rows → x ≡ squaresTo (cellAt (woven rows v)) t → z ≡ planeAt v rows t
+    → n ≡ normSqr z → Ieee.add binary64 x n ≡ squaresTo (cellAt (woven rows v)) (t + 1)
+squares-woven v rows t h e f g = squares-more (cellAt (woven rows v)) t e (f ∙ sym (cell-woven rows v t h)) g
 
 pub scaled-woven : (v : List Float) (rows : ℕ) (k : Float) (q : List Float) (o t : ℕ) {p w : List Float} {x z : Complex} → t < rows
     → p ≡ scaledInto (woven rows v) k q o t → x ≡ planeAt v rows t → z ≡ scaled x k → w ≡ setCell p (o + t) z → w ≡ scaledInto (woven rows v) k q o (t + 1)

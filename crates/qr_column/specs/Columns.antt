@@ -2,13 +2,12 @@
 -- Assumes nothing.
 use mathlib.Core.List.{List}
 use Prim.Native.Nat.{ℕ, zero, suc, _+_}
-use lib.Ieee as Ieee
-use lib.Ieee.{Float, binary64}
+use lib.Ieee.{Float}
 use Rattle.numbers.specs.Root.{sqrtOf}
 use Rattle.complex.specs.declared.Complex.{Complex}
-use Rattle.complex.specs.Arithmetic.{product, difference, scaled, normSqr}
+use Rattle.complex.specs.Arithmetic.{product, difference, scaled}
 use Rattle.complex.specs.Cells.{cellAt, setCell, cellsOf}
-use Rattle.complex.specs.Zeros.{zeroFloat}
+use Rattle.complex.specs.Squares.{squaresTo}
 
 -- the cells of a from the cell o on
 unfoldable pub cellFrom : List Float → ℕ → ℕ → Complex
@@ -19,15 +18,10 @@ unfoldable pub columnOf : List Float → ℕ → ℕ → List Float
 unfolding cellFrom
 columnOf a o rows = cellsOf rows (cellFrom a o)
 
--- the squared moduli of the first k rows, added in order. The Rust's sum starts at -0.0; a squared modulus
--- is never -0.0, so +0.0 gives the same bits
-unfoldable pub squaresTo : List Float → ℕ → Float
-squaresTo v zero = zeroFloat
-squaresTo v (suc k) = Ieee.add binary64 (squaresTo v k) (normSqr (cellAt v k))
-
+-- the root of the sum of the squared moduli of the first rows
 unfoldable pub normOf : List Float → ℕ → Float
 unfolding squaresTo
-normOf v rows = sqrtOf (squaresTo v rows)
+normOf v rows = sqrtOf (squaresTo (cellAt v) rows)
 
 -- row t of v less d times row t of the column of q that starts at the cell o
 unfoldable pub lessCell : List Float → List Float → ℕ → Complex → ℕ → Complex

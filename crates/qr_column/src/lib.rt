@@ -5,11 +5,13 @@ use complex::Complex;
 ghost use mathlib.Core.Path.{_≡_};
 ghost use Prim.Native.Nat.{_+_, _*_, _<_, _≤_};
 ghost use lib.ListN.{length};
+ghost use Rattle.complex.specs.Cells.{cellAt};
+ghost use Rattle.complex.specs.Squares.{squaresTo};
 ghost use Rattle.qr_column.specs.Dot.{addFirst, joined, dotTerm, quadsTo, tailTo, dotOf};
 ghost use Rattle.qr_column.specs.DotParts.{realParts, imaginaryParts, sumsOf};
 ghost use Rattle.qr_column.specs.Woven.{woven};
 ghost use Rattle.qr_basis.specs.Matrix.{matrixOf};
-ghost use Rattle.qr_column.specs.Columns.{columnOf, squaresTo, normOf, lessened, scaledInto};
+ghost use Rattle.qr_column.specs.Columns.{columnOf, normOf, lessened, scaledInto};
 
 // The real parts of the four sums of a dot product, or their imaginary parts.
 pub struct Parts {
@@ -163,7 +165,7 @@ pub fn dot(q: &[f64], i: usize, v: &[f64], rows: usize) -> Complex
 // The squared moduli of v's rows, added.
 fn square(v: &[f64], rows: usize) -> f64
     requires { ⌜ length (now v) ≡ 2 * rows ⌝ }
-    ensures { λ r. ⌜ r ≡ squaresTo (woven rows (now (v .entry))) rows ⌝ }
+    ensures { λ r. ⌜ r ≡ squaresTo (cellAt (woven rows (now (v .entry)))) rows ⌝ }
 {
     let mut total = 0.0;
     for t in 0..rows {

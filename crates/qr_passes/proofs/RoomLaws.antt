@@ -1,13 +1,7 @@
 -- Laws of what `specs/Room.antt` defines. Assumes nothing.
 use mathlib.Core.Path.{_≡_, sym, ap, _∙_}
-use Prim.Native.Nat.{ℕ, _+_, _*_, _≤_, _<_}
-use native.Mathlib.Nat.{suc-mul, mul-le-mul-right}
-use native.Mathlib.Omega.{arith}
+use Prim.Native.Nat.{ℕ, _*_}
 use Rattle.qr_passes.specs.Room.{QrRoom}
-
--- line i of n lines of w cells
-pub line-fits : (i n w : ℕ) → i < n → i * w + w ≤ n * w
-line-fits i n w h = omega (arith, suc-mul i w, mul-le-mul-right w h)
 
 -- the same room by another name for the cap, after writes that keep the lengths
 pub room-kept : {rows cols cap cap' la lq lr lv lq' lr' : ℕ} → QrRoom rows cols cap la lq lr lv → cap' ≡ cap → lq' ≡ lq → lr' ≡ lr

@@ -1,47 +1,31 @@
 -- The calls of row offsets and of a traced base at each way out, a turn of the loop that fills, and that only one outcome meets each
 -- contract. Assumes nothing.
 use mathlib.Core.Bool.{not}
-use mathlib.Core.Path.{_≡_, refl, sym, ap, _∙_}
-use mathlib.Core.List.{List, [], _∷_, _++_, append-assoc}
-use Prim.Native.Nat.{ℕ, zero, suc, _+_, _-_, _*_, _^_, _≤_, _<_, min}
-use native.Mathlib.Numerals.{add-one}
+use mathlib.Core.Path.{_≡_, sym, ap, _∙_}
+use mathlib.Core.List.{List}
+use Prim.Native.Nat.{ℕ, _-_, _*_, _^_, _≤_, _<_, min}
 use native.Mathlib.Omega.{arith}
 use borrow.Author.Tests.{ltb-false, ltb-true, not-false}
 use lib.Dec.{ltb}
-use lib.ListN.{length, set, drop, length-append, length-drop}
-use lib.Seq.{set-at, drop-cons}
+use lib.ListN.{length, drop, length-append, length-drop}
 use Rattle.answers.specs.declared.Answer.{Answer}
 use Rattle.answers.specs.Paper.{Reply, paper, done, refuse}
 use Rattle.answers.proofs.PaperLaws.{refuse-done, andThen-done, done-new, done-old}
 use Rattle.qubit_offsets.specs.declared.Traced.{Traced}
 use Rattle.qubits.specs.Lists.{densitySizes, qubitSet, Listed}
 use Rattle.qubits.proofs.NamedLaws.{is-listed}
-use Rattle.qubits.specs.Spread.{table, rowOffset, rowOffsets, tracedBase}
+use Rattle.tables.specs.Tables.{filled}
+use Rattle.tables.proofs.TablesLaws.{length-table}
+use Rattle.qubits.specs.Spread.{rowOffset, rowOffsets, tracedBase}
 use Rattle.qubit_offsets.specs.Calls.{densityRefusal, fronted, offsetsAnswer, RowOffsets, tracedAnswer, TracedBase}
 
 -- ---- the table
 
-pub length-table : (m : ℕ) (f : ℕ → ℕ) → length (table m f) ≡ m
-unfolding table
-length-table zero f = refl
-length-table (suc m) f = rw (length-append (table m f) (f m ∷ [])) (omega (arith, length-table m f))
-
-pub table-none : (f : ℕ → ℕ) (o : List ℕ) → o ≡ fronted (table 0 f) o
-unfolding table
-table-none f o = refl
-
-pub table-more : (m : ℕ) (f : ℕ → ℕ) (o : List ℕ) → m < length o → set (fronted (table m f) o) m (f m) ≡ fronted (table (m + 1) f) o
-unfolding table
-table-more m f o h =
-    let l = length-table m f in
-    let g : length (table m f ++ f m ∷ []) ≡ suc m = length-append (table m f) (f m ∷ []) ∙ omega (arith, l) in
-    rw (add-one, l, g, drop-cons o m 0, set-at (table m f) _ (drop (suc m) o) (f m) m l) (simp append-assoc)
-
-pub table-end : (l o end : List ℕ) (t count : ℕ) → t ≤ count → count ≤ t → count ≡ 2 ^ length l → end ≡ fronted (table t (rowOffset l)) o
-    → end ≡ fronted (rowOffsets l) o
+pub table-end : (l o end : List ℕ) (t count : ℕ) → t ≤ count → count ≤ t → count ≡ 2 ^ length l → end ≡ filled t (rowOffset l) o → end ≡ fronted (rowOffsets l) o
+unfolding filled
 table-end l o end t count a b e c =
     let h : t ≡ 2 ^ length l = omega arith in
-    rw h at c
+    c ∙ rw (h, length-table (2 ^ length l) (rowOffset l))
 
 pub length-fronted : (v o : List ℕ) → length v ≤ length o → length (fronted v o) ≡ length o
 length-fronted v o h = rw (length-append v (drop (length v) o)) (omega (arith, length-drop (length v) o))

@@ -4,17 +4,13 @@ use mathlib.Core.List.{List, [], _∷_, _++_}
 use Prim.Native.Nat.{ℕ, zero, suc, _+_, _*_, _/_, _%_, _^_}
 use lib.Bits.{bitOr}
 use lib.ListN.{length}
+use Rattle.tables.specs.Tables.{table}
 use Rattle.qubits.specs.Lists.{stands}
 
 -- bit i of x lands on the i-th listed qubit; further bits of x are dropped
 unfoldable pub spread : List ℕ → ℕ → ℕ
 spread [] x = 0
 spread (q ∷ l) x = bitOr (x % 2 * 2 ^ q) (spread l (x / 2))
-
--- the m first values of f
-unfoldable pub table : ℕ → (ℕ → ℕ) → List ℕ
-table zero f = []
-table (suc m) f = table m f ++ f m ∷ []
 
 -- q, where the list has it not
 abbrev pub unless : Bool → ℕ → List ℕ

@@ -3,7 +3,7 @@ use mathlib.Core.Path.{_≡_, refl, sym, ap, ap₂, _∙_}
 use mathlib.Core.Bool.{Bool, true, false}
 use mathlib.Core.List.{List}
 use Prim.Native.Nat.{ℕ, zero, suc, _+_, _-_, _*_, _/_, _%_, _≤_, _<_}
-use native.Mathlib.Nat.{suc-mul, mul-comm, mul-le-mul-right, mul-add-div-right, mul-add-mod-self-right, div-eq-of-lt, mod-eq-of-lt}
+use native.Mathlib.Nat.{suc-mul, mul-comm, mul-add-div-right, mul-add-mod-self-right, div-eq-of-lt, mod-eq-of-lt}
 use native.Mathlib.Numerals.{add-one}
 use native.Mathlib.Omega.{arith}
 use lib.Ieee.{Float, nan}
@@ -14,12 +14,9 @@ use Rattle.complex.specs.declared.Complex.{Complex}
 use Rattle.complex.specs.Arithmetic.{complexOf, product, scaled}
 use Rattle.complex.specs.Cells.{cellAt, setCell, written}
 use Rattle.complex.proofs.CellLaws.{written-none, written-more}
+use Rattle.whole_numbers.proofs.WholeLaws.{column-fits}
 use Rattle.complex.specs.Zeros.{zeroFloat}
 use Rattle.site_lines.specs.Sources.{lineCell, strided, stridedScaled, stridedProduct, cellAllowed, cellsFrom, linesFrom, putLine, siteCell, isometryCell, scaledUCell, vtCell, scaledVtCell}
-
--- line i of n lines of w cells
-pub line-fits : (i n w : ℕ) → i < n → i * w + w ≤ n * w
-line-fits i n w h = omega (arith, suc-mul i w, mul-le-mul-right w h)
 
 -- ---- 7
 
@@ -144,7 +141,7 @@ site-more n w f g i old {p} h l e b c =
     c
     ∙ ap (λ (x : List Float). putLine g (i * w) x w) b
     ∙ put-same g (f i) (i * w) (written (i * w) (siteCell w f) old) w e
-    ∙ put-written w f i w old (omega arith) (omega (arith, line-fits i n w h))
+    ∙ put-written w f i w old (omega arith) (omega (arith, column-fits i n w h))
     ∙ ap (λ (x : ℕ). written x (siteCell w f) old) r
 
 pub site-end : (n w : ℕ) (f : ℕ → ℕ → Complex) (old : List Float) (i : ℕ) {p : List Float} → p ≡ written (i * w) (siteCell w f) old → i ≤ n → n ≤ i

@@ -10,7 +10,8 @@ use Rattle.answers.specs.declared.Answer.{Answer}
 use Rattle.answers.specs.Paper.{Reply, paper, ifDone}
 use Rattle.answers.proofs.PaperLaws.{stays, worked-new, worked-old, done-old, end-old, end-worked}
 use Rattle.complex.specs.Zeros.{zeroed}
-use Rattle.svd_load.specs.Numbers.{filled}
+use Rattle.tables.specs.Tables.{filled}
+use Rattle.tables.proofs.TablesLaws.{take-filled}
 use Rattle.sweeps.specs.declared.Sweeps.{Sweeps}
 use Rattle.sweeps.specs.Sweeping.{noSweeps}
 use Rattle.factored.specs.declared.Counted.{Counted}
@@ -23,7 +24,7 @@ use Rattle.values.specs.Sort.{sortedDown}
 use Rattle.weights.specs.Weights.{rootsOf}
 use Rattle.weights.specs.WeightOutcome.{WeightOutcome}
 use Rattle.spectra.specs.Eigenvalues.{eigenvalue, eigenvaluesOf, eigenvaluesSweeps, squareRefusal}
-use Rattle.spectra.proofs.OutcomeLaws.{front-is, past-is, square-small, zeroed-part}
+use Rattle.spectra.proofs.OutcomeLaws.{past-is, square-small, zeroed-part}
 use Rattle.spectra.specs.Density.{densityValues, densityValuesReply, densityValuesAnswer, DensityWorked, DensityValues}
 
 -- there is room for the roots beside the matrix
@@ -46,7 +47,7 @@ pub density-made : (rho : List Float) (n : ℕ) (out work mid : List Float) (r :
     → mid ≡ filled n (eigenvalue rho n) out → sweeps ≡ eigenvaluesSweeps rho n → WeightOutcome n mid r end → work′ ≡ zeroed (2 * (n * n)) work
     → (q .answer ≡ r .answer) × (q .count ≡ r .count) × (q .sweeps ≡ keptSweeps (r .answer) sweeps) → DensityWorked rho n out work q end work′
 density-made rho n out work mid r end work′ q e f o c i =
-    let t : take n mid ≡ eigenvaluesOf rho n = rw e (front-is n (eigenvalue rho n) out) in
+    let t : take n mid ≡ eigenvaluesOf rho n = rw e (take-filled n (eigenvalue rho n) out) in
     let d : drop n mid ≡ drop n out = rw e (past-is n (eigenvalue rho n) out) in
     record {
       answer = rw (i .0) (rw t at (o .answer));

@@ -9,7 +9,7 @@ use borrow.Author.Tests.{lt-ltb, le-ltb, ltb-false, eq-eqb, ne-eqb, eqb-true, no
 use lib.Dec.{eqb, ltb}
 use lib.Ieee.{Float}
 use lib.ListN.{length, take, drop, drop-of-length-le}
-use lib.Seq.{take-at, drop-at, length-take-le}
+use lib.Seq.{drop-at, length-take-le}
 use Rattle.answers.specs.declared.Answer.{Answer}
 use Rattle.answers.specs.declared.Answer.the-variants.{Done, NotFinite}
 use Rattle.answers.specs.Paper.{Reply, paper, done, refuse}
@@ -18,8 +18,8 @@ use Rattle.complex.specs.declared.Complex.{Complex}
 use Rattle.complex.specs.Cells.{cellAt, written, components}
 use Rattle.complex.proofs.CellLaws.{cell-written, components-small}
 use Rattle.complex.specs.Zeros.{zeroed}
-use Rattle.svd_load.specs.Numbers.{numbersOf, filled}
-use Rattle.svd_load.proofs.NumbersLaws.{length-numbers}
+use Rattle.tables.specs.Tables.{table, filled}
+use Rattle.tables.proofs.TablesLaws.{length-table, take-filled}
 use Rattle.svd_load.specs.Loading.{planesOf}
 use Rattle.values.specs.Lists.{allFinite}
 use Rattle.sweeps.specs.declared.Sweeps.{Sweeps}
@@ -28,7 +28,7 @@ use Rattle.factored.specs.declared.Factored.{Factored}
 use Rattle.factored.specs.Factored.{keptSweeps}
 use Rattle.factored.proofs.Laws.{kept-none, kept-by}
 use Rattle.eigen_pair.specs.CellPlanes.{asPlanes}
-use Rattle.eigen_pair.proofs.CellPlanesLaws.{planes-same}
+use Rattle.svd_load.proofs.LoadingLaws.{planes-alike}
 use Rattle.sweeps.specs.Sweeping.{State}
 use Rattle.eigen_sweeps.specs.Sweeping.{eigenState, diagonal, eigenSettled}
 use Rattle.spectra.specs.Eigenvalues.{eigenvalue, eigenvaluesOf, eigenvaluesSweeps, eigenReply, squareRefusal, eigenAnswer}
@@ -121,7 +121,7 @@ reply-worked a n = nine-ended (allFinite (eigenvaluesOf a n)) done (inl refl)
 -- cells that are another matrix's have its planes
 pub loaded : (c : ℕ) (f : ℕ → Complex) (old : List Float) {xs : List Float} → xs ≡ written c f old → asPlanes c xs ≡ planesOf c f
 unfolding asPlanes
-loaded c f old {xs} e = ap (λ (l : List Float). planesOf c (cellAt l)) e ∙ planes-same c (cellAt (written c f old)) f (λ k h. cell-written c k f old h)
+loaded c f old {xs} e = ap (λ (l : List Float). planesOf c (cellAt l)) e ∙ planes-alike c (cellAt (written c f old)) f (λ k h. cell-written c k f old h)
 
 -- the matrix was loaded, swept, and its diagonal written
 pub spectrum-made : (a : List Float) (n : ℕ) (old : List Float) {w1 w2 out : List Float} {s : Sweeps}
@@ -148,18 +148,14 @@ zeroed-part m s e h i =
     let l : length (take m s) ≤ m = omega (arith, length-take-le m s h) in
     rw (i, drop-of-length-le (take m s) l, append-nil)
 
-pub front-is : (n : ℕ) (f : ℕ → Float) (old : List Float) → take n (filled n f old) ≡ numbersOf n f
-unfolding filled
-front-is n f old = take-at (numbersOf n f) (drop n old) n (length-numbers n f)
-
 pub past-is : (n : ℕ) (f : ℕ → Float) (old : List Float) → drop n (filled n f old) ≡ drop n old
 unfolding filled
-past-is n f old = drop-at (numbersOf n f) (drop n old) n (length-numbers n f)
+past-is n f old = drop-at (table n f) (drop n old) n (length-table n f)
 
 module _ (a : List Float) (n : ℕ) (out scratch mid scratch′ : List Float) (sweeps : Sweeps) (written : mid ≡ filled n (eigenvalue a n) out)
     (cleared : scratch′ ≡ zeroed (2 * (n * n)) scratch) (swept : sweeps ≡ eigenvaluesSweeps a n) (b : Bool) (finite : b ≡ allFinite (take n mid)) where
   all-is : b ≡ allFinite (eigenvaluesOf a n)
-  all-is = rw (written, front-is n (eigenvalue a n) out) at finite
+  all-is = rw (written, take-filled n (eigenvalue a n) out) at finite
 
   pub worked-done : b ≡ true → (q : Factored) → (q .answer ≡ Done) × (q .sweeps ≡ keptSweeps Done sweeps) → SpectrumWorked a n out scratch q mid scratch′
   worked-done t q i =

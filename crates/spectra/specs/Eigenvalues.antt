@@ -7,7 +7,7 @@ use lib.Ieee.{Float}
 use lib.ListN.{length}
 use Rattle.answers.specs.Paper.{Reply, done, refuse, andThen}
 use Rattle.complex.specs.Cells.{cellAt, components}
-use Rattle.svd_load.specs.Numbers.{numbersOf}
+use Rattle.tables.specs.Tables.{table}
 use Rattle.svd_load.specs.Loading.{planesOf}
 use Rattle.values.specs.Lists.{allFinite}
 use Rattle.sweeps.specs.declared.Sweeps.{Sweeps}
@@ -18,7 +18,7 @@ unfoldable pub eigenvalue : List Float → ℕ → ℕ → Float
 eigenvalue a n i = diagonal (eigenSettled n (planesOf (n * n) (cellAt a)) .work) n i
 
 abbrev pub eigenvaluesOf : List Float → ℕ → List Float
-eigenvaluesOf a n = numbersOf n (eigenvalue a n)
+eigenvaluesOf a n = table n (eigenvalue a n)
 
 -- how the sweeps went
 unfoldable pub eigenvaluesSweeps : List Float → ℕ → Sweeps

@@ -7,7 +7,7 @@ use Rattle.factored.specs.declared.Factored.{Factored}
 use Rattle.factored.specs.Factored.{keptSweeps}
 use Rattle.answers.specs.Paper.{paper, ifDone, ifWorked, atEnd}
 use Rattle.complex.specs.Zeros.{zeroed}
-use Rattle.svd_load.specs.Numbers.{filled}
+use Rattle.tables.specs.Tables.{filled}
 use Rattle.spectra.specs.Eigenvalues.{eigenvalue, eigenvaluesSweeps, eigenReply, eigenAnswer}
 
 -- the lengths of a call that is not refused

@@ -8,7 +8,7 @@ ghost use Prim.Native.Nat.{_*_, _≤_};
 ghost use lib.ListN.{length};
 ghost use Rattle.answers.specs.Paper.{paper};
 ghost use Rattle.eigen_sweeps.specs.Sweeping.{SquareRoom, diagonal};
-ghost use Rattle.svd_load.specs.Numbers.{filled};
+ghost use Rattle.tables.specs.Tables.{filled};
 ghost use Rattle.svd_load.specs.Loading.{planesOf};
 ghost use Rattle.complex.specs.Cells.{cellAt};
 ghost use Rattle.complex.specs.Zeros.{zeroed};

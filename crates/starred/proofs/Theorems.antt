@@ -9,12 +9,14 @@ use Rattle.complex.specs.Arithmetic.{product, sumOf, difference, conjugate, sca
 use Rattle.complex.specs.Cells.{cellsOf}
 use Rattle.complex.specs.Zeros.{zeros}
 use Rattle.qr_column.specs.Dot.{noSums, addQuad, addFirst, joined, dotTerm, quadsTo, tailTo, dotOf}
-use Rattle.qr_column.specs.Columns.{cellFrom, columnOf, squaresTo, normOf, lessCell, lessened, scaledInto}
+use Rattle.qr_column.specs.Columns.{cellFrom, columnOf, normOf, lessCell, lessened, scaledInto}
 use Rattle.qr_passes.specs.GramSchmidt.{projectedBy, projected, passTo, passes, newBasis, keptColumn, judged, addColumn, qrColumnsTo, basisFor, withBasis, qrFactors}
 use Rattle.site_ranks.specs.Ranks.{firstOrZero, aboveCount, rankOf}
 use Rattle.submasks.specs.Submasks.{submaskAt}
 use Rattle.qubits.specs.Lists.{stands, placesFrom}
-use Rattle.qubits.specs.Spread.{spread, table, otherQubits, maskFrom}
+use Rattle.tables.specs.Tables.{table}
+use Rattle.complex.specs.Squares.{squaresTo}
+use Rattle.qubits.specs.Spread.{spread, otherQubits, maskFrom}
 use Rattle.eigen_pair.specs.Decide.{eigenTangent, leftAlone, eigenDecision}
 use Rattle.numbers.specs.Numbers.{signOf, magnitudeOf, isFinite}
 use Rattle.modulus.specs.Modulus.{leading, over, back, rootOfSquares, scaledBy, scaledModulus, modulusOf}

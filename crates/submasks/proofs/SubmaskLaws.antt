@@ -3,6 +3,7 @@
 -- digits of m and j. Assumes nothing.
 use Prim.Native.Nat.{ℕ, zero, suc, _+_, _-_, _*_, _/_, _%_, _^_, _≤_, _<_, max}
 use lib.Bits.{bitAnd, bitOr, and-step, and-zero-r, and-zero-l, or-disjoint, or-step, or-zero-r, or-shr, or-mod}
+pub use Rattle.whole_numbers.proofs.WholeLaws.{le-or-lt}
 use Rattle.submasks.specs.Submasks.{submaskAt, submaskNumber, nextSubmask, others}
 use mathlib.Core.Path.{_≡_, refl, sym, ap, ap₂, _∙_}
 use mathlib.Core.Logic.{_⊎_, ⊎-elim, inl, inr}
@@ -20,11 +21,6 @@ two : (d : ℕ) → d < 2 → (d ≡ 0) ⊎ (d ≡ 1)
 two zero h = inl refl
 two (suc zero) h = inr refl
 two (suc (suc d)) h = absurd (omega arith)
-
-pub le-or-lt : (a b : ℕ) → (a ≤ b) ⊎ (b < a)
-le-or-lt zero b = inl (omega arith)
-le-or-lt (suc a) zero = inr (omega arith)
-le-or-lt (suc a) (suc b) = ⊎-elim (λ h. inl (omega arith)) (λ h. inr (omega arith)) (le-or-lt a b)
 
 -- a digit is 0 or 1
 pub digit : (x : ℕ) → (x % 2 ≡ 0) ⊎ (x % 2 ≡ 1)

@@ -1,13 +1,13 @@
 -- Laws of the SVD's statements; `svd-jacobi-one`: only one outcome meets the contract. Assumes nothing.
 use mathlib.Core.Path.{_≡_, refl, sym, ap, ap₂, _∙_}
-use mathlib.Core.Bool.{Bool, true, false, not, cond}
+use mathlib.Core.Bool.{Bool, true, false}
 use mathlib.Core.Logic.{inl}
 use mathlib.Core.List.{List, _++_, append-nil}
 use Prim.Native.Nat.{ℕ, zero, suc, _+_, _*_, _≤_, _<_}
-use native.Mathlib.Nat.{mul-comm, mul-le-mul, mul-le-mul-left, mul-le-mul-right}
+use native.Mathlib.Nat.{mul-comm, mul-le-mul}
 use native.Mathlib.Omega.{arith}
-use lib.Dec.{leb, ltb, eqb}
-use borrow.Author.Tests.{lt-ltb, le-ltb, le-leb, lt-leb, ltb-true, ltb-false, leb-true, leb-false, eq-eqb, ne-eqb, eqb-true}
+use lib.Dec.{leb}
+use borrow.Author.Tests.{lt-ltb, le-ltb, leb-true, leb-false}
 use lib.ListN.{length, drop, drop-of-length-le}
 use lib.Ieee.{Float}
 use Rattle.answers.specs.declared.Answer.{Answer}
@@ -24,7 +24,6 @@ use Rattle.values.specs.Lists.{allFinite}
 use Rattle.sweeps.specs.declared.Sweeps.{Sweeps}
 use Rattle.sweeps.specs.Sweeping.{noSweeps}
 use Rattle.svd_thin.specs.Thin.{swept, Thin, Lent}
-use Rattle.svd_thin.proofs.ThinLaws.{side-fits}
 use Rattle.factored.specs.declared.Factored.{Factored}
 use Rattle.factored.specs.Factored.{keptSweeps}
 use Rattle.factored.proofs.Laws.{kept-none, kept-by}

@@ -11,8 +11,8 @@ use lib.Ieee.{Float}
 use Rattle.complex.specs.declared.Complex.{Complex}
 use Rattle.complex.specs.Cells.{cellsOf, setCell, written}
 use Rattle.complex.proofs.CellLaws.{length-cells, cells-same, written-more}
-use Rattle.svd_load.specs.Numbers.{filled}
-use Rattle.svd_load.proofs.NumbersLaws.{filled-more}
+use Rattle.tables.specs.Tables.{filled}
+use Rattle.tables.proofs.TablesLaws.{filled-more}
 use Rattle.svd_columns.specs.Columns.{inColumns}
 
 -- the cell r of the column j

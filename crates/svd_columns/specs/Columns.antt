@@ -2,32 +2,32 @@
 -- norms. Every float operation as the Rust has it. Assumes nothing.
 use mathlib.Core.Bool.{Bool, cond}
 use mathlib.Core.List.{List}
-use Prim.Native.Nat.{ℕ, zero, suc, _+_, _*_, _/_, _%_}
+use Prim.Native.Nat.{ℕ, _+_, _*_, _/_, _%_}
 use lib.ListN.{getD}
 use lib.Ieee as Ieee
 use lib.Ieee.{Float, nan, binary64, ofBits, lt}
 use Rattle.numbers.specs.Root.{sqrtOf}
 use Rattle.complex.specs.declared.Complex.{Complex}
-use Rattle.complex.specs.Arithmetic.{complexOf, conjugate, scaled, normSqr}
+use Rattle.complex.specs.Arithmetic.{complexOf, conjugate, scaled}
 use Rattle.complex.specs.Cells.{cellsOf}
 use Rattle.complex.specs.Planes.{planeAt}
+use Rattle.complex.specs.Squares.{squaresTo}
 use Rattle.complex.specs.Zeros.{zeroFloat}
-use Rattle.svd_load.specs.Numbers.{numbersOf}
+use Rattle.tables.specs.Tables.{table}
 use Rattle.exact_roots.specs.Exact.{allExact}
 use Rattle.numbers.specs.Numbers.{oneFloat}
 
--- the squares of the first k cells from the cell `at` on, summed in order from +0.0
-unfoldable pub squaresTo : List Float → ℕ → ℕ → ℕ → Float
-squaresTo work c at zero = zeroFloat
-squaresTo work c at (suc k) = Ieee.add binary64 (squaresTo work c at k) (normSqr (planeAt work c (at + k)))
+-- the cells from the cell `at` on
+abbrev pub planeFrom : List Float → ℕ → ℕ → ℕ → Complex
+planeFrom work c at k = planeAt work c (at + k)
 
 -- the norm of each of `side` columns of `rows` cells
 unfoldable pub normsOf : List Float → ℕ → ℕ → List Float
-normsOf work rows side = numbersOf side (λ j. sqrtOf (squaresTo work (side * rows) (j * rows) rows))
+normsOf work rows side = table side (λ j. sqrtOf (squaresTo (planeFrom work (side * rows) (j * rows)) rows))
 
 -- whether the root of each of these norms is exact
 unfoldable pub normsExact : List Float → ℕ → ℕ → Bool
-normsExact work rows side = allExact side (λ j. squaresTo work (side * rows) (j * rows) rows)
+normsExact work rows side = allExact side (λ j. squaresTo (planeFrom work (side * rows) (j * rows)) rows)
 
 -- a norm at or below this leaves its column zero. The paper does not give the value: it stands in, and only that it is positive is used
 unfoldable pub normClampMin : Float
@@ -61,4 +61,4 @@ vColumnsOf v order side wide =
 
 -- the values, in order
 unfoldable pub sortedOf : List Float → List ℕ → ℕ → List Float
-sortedOf norms order side = numbersOf side (λ j. getD norms (getD order j 0) nan)
+sortedOf norms order side = table side (λ j. getD norms (getD order j 0) nan)

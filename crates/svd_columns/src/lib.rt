@@ -6,13 +6,14 @@ ghost use Prim.Native.Nat.{_+_, _*_, _<_, _≤_};
 ghost use lib.ListN.{length};
 ghost use Rattle.complex.specs.Cells.{written};
 ghost use Rattle.complex.specs.Planes.{planeAt};
+ghost use Rattle.complex.specs.Squares.{squaresTo};
 ghost use Rattle.stable_order.specs.Places.{placesIn, Places};
-ghost use Rattle.svd_columns.specs.Columns.{squaresTo, normsOf, normsExact, normClampMin, unitLength, directionOf, directionsOf, vCell, vColumnsOf, sortedOf};
+ghost use Rattle.svd_columns.specs.Columns.{planeFrom, normsOf, normsExact, normClampMin, unitLength, directionOf, directionsOf, vCell, vColumnsOf, sortedOf};
 
 // The sum of the squares of a column's cells, from the cell `at` on, row after row from +0.0.
 fn squares(work: &[f64], c: usize, at: usize, rows: usize) -> f64
     requires { ⌜ (at + rows ≤ c) × (length (now work) ≡ 2 * c) ⌝ }
-    ensures { λ r. ⌜ r ≡ squaresTo (now (work .entry)) c at rows ⌝ }
+    ensures { λ r. ⌜ r ≡ squaresTo (planeFrom (now (work .entry)) c at) rows ⌝ }
 {
     let mut sum = 0.0;
     for r in 0..rows {

@@ -1,5 +1,5 @@
 -- Laws of what `specs/Loading.antt` defines. Assumes nothing.
-use mathlib.Core.Path.{_≡_, refl, sym, ap, _∙_}
+use mathlib.Core.Path.{_≡_, refl, sym, ap, ap₂, _∙_}
 use mathlib.Core.List.{List, _++_, append-nil}
 use Prim.Native.Nat.{ℕ, zero, suc, _+_, _*_, _/_, _%_, _≤_, _<_}
 use native.Mathlib.Numerals.{add-one}
@@ -14,8 +14,9 @@ use Rattle.complex.specs.Arithmetic.{conjugate}
 use Rattle.complex.specs.Cells.{cellAt}
 use Rattle.complex.specs.Planes.{setPlane}
 use Rattle.complex.specs.Zeros.{zeroed}
-use Rattle.svd_load.specs.Numbers.{filled}
-use Rattle.svd_load.proofs.NumbersLaws.{length-filled, filled-none, filled-more, filled-all, set-second}
+use Rattle.tables.specs.Tables.{filled}
+use Rattle.tables.proofs.TablesLaws.{table-same, length-filled, filled-none, filled-more, filled-all}
+use Rattle.svd_load.proofs.NumbersLaws.{set-second}
 use Rattle.svd_load.specs.Loading.{planesOf, planesTo, conjugateTransposed, unitTo, unitPlanes}
 
 -- ---- laws
@@ -101,3 +102,10 @@ unit-all n old {xs} {ys} {k} h g e i =
     let l : length old ≤ k = omega arith in
     let z : k ≡ 2 * (n * n) = g ∙ h in
     i ∙ ap (λ (l : List Float). unitTo n l n) (e ∙ rw (drop-of-length-le old l, append-nil, z))
+
+-- cells that are the same give the same planes
+pub planes-alike : (c : ℕ) (f g : ℕ → Complex) → ((i : ℕ) → i < c → f i ≡ g i) → planesOf c f ≡ planesOf c g
+unfolding planesOf
+planes-alike c f g h =
+    ap₂ (λ (p q : List Float). p ++ q) (table-same c (λ i. f i .re) (λ i. g i .re) (λ i l. ap (λ (z : Complex). z .re) (h i l)))
+    (table-same c (λ i. f i .im) (λ i. g i .im) (λ i l. ap (λ (z : Complex). z .im) (h i l)))

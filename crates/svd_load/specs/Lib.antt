@@ -1,3 +1,2 @@
 -- What the contracts of `svd_load` cite.
-pub mod Numbers
 pub mod Loading

@@ -10,11 +10,11 @@ use Rattle.complex.specs.Arithmetic.{conjugate}
 use Rattle.complex.specs.Cells.{cellAt}
 use Rattle.complex.specs.Planes.{setPlane}
 use Rattle.complex.specs.Zeros.{zeros}
-use Rattle.svd_load.specs.Numbers.{numbersOf}
+use Rattle.tables.specs.Tables.{table}
 
 -- c cells, the i-th of them f i, as planes: all real parts, then all imaginary parts
 unfoldable pub planesOf : ℕ → (ℕ → Complex) → List Float
-planesOf c f = numbersOf c (λ i. f i .re) ++ numbersOf c (λ i. f i .im)
+planesOf c f = table c (λ i. f i .re) ++ table c (λ i. f i .im)
 
 -- k cells of c set to f's, from the cell `from` on
 unfoldable pub planesTo : ℕ → (ℕ → Complex) → ℕ → ℕ → List Float → List Float

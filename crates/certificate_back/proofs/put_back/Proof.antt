@@ -15,29 +15,29 @@ slice-aggregate-decode-state c = search needs
 decode-state-requires : tie.Need-decode-state-requires
 decode-state-requires c κs = (c .before .before .before .before .pre .fits, omega (arith, components-fit _ _ _ _ _ _ (c .before .before .before .before .pre)))
 
-power-of-two-requires : tie.Need-power-of-two-requires
-power-of-two-requires c κs = search needs
+bit-requires : tie.Need-bit-requires
+bit-requires c κs = search needs
 
 mul-components : tie.Need-mul-components
 mul-components c = search needs
 
 array-share-prefix-state : tie.Need-array-share-prefix-state
-array-share-prefix-state c = omega (arith, c .power-of-two .ensures, components-fit _ _ _ _ _ _ (c .before .before .before .before .before .before .before .pre))
+array-share-prefix-state c = omega (arith, c .bit .ensures, components-fit _ _ _ _ _ _ (c .before .before .before .before .before .before .before .pre))
 
 slice-aggregate-kept-total : tie.Need-slice-aggregate-kept-total
-slice-aggregate-kept-total c = sym (length-take-le _ _ (omega (arith, c .before .before .before .decode-state .kept .1 .1 .1 .0, c .before .power-of-two .ensures, components-fit _ _ _ _ _ _ (c .before .before .before .before .before .before .before .before .pre))))
+slice-aggregate-kept-total c = sym (length-take-le _ _ (omega (arith, c .before .before .before .decode-state .kept .1 .1 .1 .0, c .before .bit .ensures, components-fit _ _ _ _ _ _ (c .before .before .before .before .before .before .before .before .pre))))
 
 kept-total-requires : tie.Need-kept-total-requires
-kept-total-requires c κs = totalled _ _ _ _ _ _ (c .before .before .before .before .before .before .before .before .pre) _ _ _ (ap (λ (x : ℕ). 2 * x) (c .before .power-of-two .ensures)) (c .before .before .before .decode-state .ensures)
+kept-total-requires c κs = totalled _ _ _ _ _ _ (c .before .before .before .before .before .before .before .before .pre) _ _ _ (ap (λ (x : ℕ). 2 * x) (c .before .bit .ensures)) (c .before .before .before .decode-state .ensures)
 
 bits-of-requires : tie.Need-bits-of-requires
 bits-of-requires c κs = search needs
 
 array-share-prefix-state-2 : tie.Need-array-share-prefix-state-2
-array-share-prefix-state-2 c = omega (arith, c .before .before .before .before .power-of-two .ensures, components-fit _ _ _ _ _ _ (c .before .before .before .before .before .before .before .before .before .before .before .pre))
+array-share-prefix-state-2 c = omega (arith, c .before .before .before .before .bit .ensures, components-fit _ _ _ _ _ _ (c .before .before .before .before .before .before .before .before .before .before .before .pre))
 
 slice-aggregate-put-two : tie.Need-slice-aggregate-put-two
-slice-aggregate-put-two c = sym (length-take-le _ _ (omega (arith, c .before .before .before .before .before .before .before .decode-state .kept .1 .1 .1 .0, c .before .before .before .before .before .power-of-two .ensures, components-fit _ _ _ _ _ _ (c .before .before .before .before .before .before .before .before .before .before .before .before .pre))))
+slice-aggregate-put-two c = sym (length-take-le _ _ (omega (arith, c .before .before .before .before .before .before .before .decode-state .kept .1 .1 .1 .0, c .before .before .before .before .before .bit .ensures, components-fit _ _ _ _ _ _ (c .before .before .before .before .before .before .before .before .before .before .before .before .pre))))
 
 put-two-requires : tie.Need-put-two-requires
 put-two-requires c κs = search needs
@@ -52,7 +52,7 @@ same-length : tie.Need-same-length
 same-length c = search needs
 
 returns : tie.Need-returns
-returns c = back-done _ _ _ _ _ _ (c .before .before .before .before .before .before .before .before .before .before .before .before .before .before .before .before .before .before .before .before .pre) _ _ _ (ap (λ (x : ℕ). 2 * x) (c .before .before .before .before .before .before .before .before .before .before .before .before .before .power-of-two .ensures)) (c .before .before .before .before .before .before .before .before .before .before .before .before .before .before .before .decode-state .ensures) _ _ _ _ _ _ _ _ refl (c .before .before .before .before .before .before .before .before .before .before .before .kept-total .ensures) (c .before .before .before .before .before .before .before .before .before .before .bits-of .ensures) (c .before .before .before .before .before .before .before .put-two .ensures) (c .before .before .put-text .ensures)
+returns c = back-done _ _ _ _ _ _ (c .before .before .before .before .before .before .before .before .before .before .before .before .before .before .before .before .before .before .before .before .pre) _ _ _ (ap (λ (x : ℕ). 2 * x) (c .before .before .before .before .before .before .before .before .before .before .before .before .before .bit .ensures)) (c .before .before .before .before .before .before .before .before .before .before .before .before .before .before .before .decode-state .ensures) _ _ _ _ _ _ _ _ refl (c .before .before .before .before .before .before .before .before .before .before .before .kept-total .ensures) (c .before .before .before .before .before .before .before .before .before .before .bits-of .ensures) (c .before .before .before .before .before .before .before .put-two .ensures) (c .before .before .put-text .ensures)
 
 pub put-back-spec : {M : Type 1} → statement M
 put-back-spec =
@@ -60,7 +60,7 @@ put-back-spec =
     (tie.spec
     slice-aggregate-decode-state
     decode-state-requires
-    power-of-two-requires
+    bit-requires
     mul-components
     array-share-prefix-state
     slice-aggregate-kept-total

@@ -1,12 +1,13 @@
 -- `chain_load::load_column` meets its contract. The invariant: the first r cells of the column are those of the carried rows. Assumes nothing.
-use mathlib.Core.Path.{_≡_, refl, _∙_}
+use mathlib.Core.Path.{_≡_, refl}
 use Prim.Native.Nat.{_+_, _*_, _-_, _≤_, _<_}
 use native.Mathlib.Nat.{mul-comm}
 use native.Mathlib.Omega.{arith}
+use lib.Arith.{digits-lt}
 use lib.ListN.{length}
 use denote.Ref.{now}
 use Rattle.complex.proofs.Loops.{stop}
-use Rattle.svd_load.proofs.NumbersLaws.{column-fits}
+use Rattle.whole_numbers.proofs.WholeLaws.{column-fits}
 use Rattle.svd_load.specs.Loading.{planesTo}
 use Rattle.chain_load.specs.Carried.{acrossAt}
 use Rattle.chain_load.proofs.CarriedLaws.{across-is}
@@ -26,13 +27,11 @@ source : (c : tie.In-loop Inv-loop μ-loop)
     → let a = c .before .before .before .before .args in c .before .loop .r * a .columns + a .col < a .columns * a .rows
 source c =
     let s = c .before .before .before .before in
-    omega (arith, column-fits (c .before .loop .r) (s .args .rows) (s .args .columns) (c .loop-test .taken), mul-comm (s .args .rows) (s .args .columns), s .pre .0)
+    rw (mul-comm (s .args .columns) (s .args .rows)) (digits-lt (c .loop-test .taken) (s .pre .0))
 
 goal : (c : tie.In-loop Inv-loop μ-loop)
     → let a = c .before .before .before .before .args in a .col * a .rows + c .before .loop .r < a .columns * a .rows
-goal c =
-    let s = c .before .before .before .before in
-    omega (arith, column-fits (s .args .col) (s .args .columns) (s .args .rows) (s .pre .0), c .loop-test .taken)
+goal c = digits-lt (c .before .before .before .before .pre .0) (c .loop-test .taken)
 
 mul-c : tie.Need-mul-c Inv-loop μ-loop
 mul-c c = search needs

@@ -13,17 +13,17 @@ slice-aggregate-decode-state c = search needs
 decode-state-requires : tie.Need-decode-state-requires
 decode-state-requires c κs = (c .before .before .pre, omega (arith, small-power (c .before .before .args .n) (c .before .before .pre .n-small)))
 
-power-of-two-requires : tie.Need-power-of-two-requires
-power-of-two-requires c κs = search needs
+bit-requires : tie.Need-bit-requires
+bit-requires c κs = search needs
 
 mul-components : tie.Need-mul-components
 mul-components c = search needs
 
 array-share-prefix-state : tie.Need-array-share-prefix-state
-array-share-prefix-state c = omega (arith, c .power-of-two .ensures, small-power (c .before .before .before .before .before .args .n) (c .before .before .before .before .before .pre .n-small))
+array-share-prefix-state c = omega (arith, c .bit .ensures, small-power (c .before .before .before .before .before .args .n) (c .before .before .before .before .before .pre .n-small))
 
 slice-aggregate-print-chain : tie.Need-slice-aggregate-print-chain
-slice-aggregate-print-chain c = sym (length-take-le _ _ (omega (arith, c .before .before .before .decode-state .kept .1 .1 .1 .0, c .before .power-of-two .ensures, small-power (c .before .before .before .before .before .before .args .n) (c .before .before .before .before .before .before .pre .n-small))))
+slice-aggregate-print-chain c = sym (length-take-le _ _ (omega (arith, c .before .before .before .decode-state .kept .1 .1 .1 .0, c .before .bit .ensures, small-power (c .before .before .before .before .before .before .args .n) (c .before .before .before .before .before .before .pre .n-small))))
 
 print-chain-requires : tie.Need-print-chain-requires
 print-chain-requires c κs = search needs
@@ -37,7 +37,7 @@ of-file-spec =
     (tie.spec
     slice-aggregate-decode-state
     decode-state-requires
-    power-of-two-requires
+    bit-requires
     mul-components
     array-share-prefix-state
     slice-aggregate-print-chain

@@ -9,8 +9,8 @@ use Rattle.cutfile.proofs.file_length.Tie as tie
 amplitude-offset-requires : tie.Need-amplitude-offset-requires
 amplitude-offset-requires c κs = search needs
 
-power-of-two-requires : tie.Need-power-of-two-requires
-power-of-two-requires c κs = search needs
+bit-requires : tie.Need-bit-requires
+bit-requires c κs = search needs
 
 mul-result : tie.Need-mul-result
 mul-result c = omega (arith, small-power (c .before .before .args .n) (c .before .before .pre .0))
@@ -23,4 +23,4 @@ returns c = search needs
 
 pub file-length-spec : {M : Type 1} → statement M
 file-length-spec =
-    tie.close (tie.spec amplitude-offset-requires power-of-two-requires mul-result add-result returns)
+    tie.close (tie.spec amplitude-offset-requires bit-requires mul-result add-result returns)

@@ -17,17 +17,17 @@ slice-aggregate-decode-state c = search needs
 decode-state-requires : tie.Need-decode-state-requires
 decode-state-requires c κs = (c .before .before .before .before .before .before .before .before .pre .0, omega (arith, small-power (c .before .before .before .before .before .before .before .before .args .n) (c .before .before .before .before .before .before .before .before .pre .0 .n-small)))
 
-power-of-two-requires : tie.Need-power-of-two-requires
-power-of-two-requires c κs = search needs
+bit-requires : tie.Need-bit-requires
+bit-requires c κs = search needs
 
 mul-components : tie.Need-mul-components
 mul-components c = search needs
 
 array-share-prefix-state : tie.Need-array-share-prefix-state
-array-share-prefix-state c = omega (arith, c .power-of-two .ensures, small-power (c .before .before .before .before .before .before .before .before .before .before .before .args .n) (c .before .before .before .before .before .before .before .before .before .before .before .pre .0 .n-small))
+array-share-prefix-state c = omega (arith, c .bit .ensures, small-power (c .before .before .before .before .before .before .before .before .before .before .before .args .n) (c .before .before .before .before .before .before .before .before .before .before .before .pre .0 .n-small))
 
 slice-aggregate-values-of : tie.Need-slice-aggregate-values-of
-slice-aggregate-values-of c = sym (length-take-le _ _ (omega (arith, c .before .before .before .decode-state .kept .1 .1 .1 .0, c .before .power-of-two .ensures, small-power (c .before .before .before .before .before .before .before .before .before .before .before .before .args .n) (c .before .before .before .before .before .before .before .before .before .before .before .before .pre .0 .n-small))))
+slice-aggregate-values-of c = sym (length-take-le _ _ (omega (arith, c .before .before .before .decode-state .kept .1 .1 .1 .0, c .before .bit .ensures, small-power (c .before .before .before .before .before .before .before .before .before .before .before .before .args .n) (c .before .before .before .before .before .before .before .before .before .before .before .before .pre .0 .n-small))))
 
 slice-reshare-prefix-values-of : tie.Need-slice-reshare-prefix-values-of
 slice-reshare-prefix-values-of c = search needs
@@ -45,7 +45,7 @@ same-length-2 : tie.Need-same-length-2
 same-length-2 c = search needs
 
 returns : tie.Need-returns
-returns c = file-valued _ _ _ _ _ _ _ _ _ (c .before .before .values-of .result) _ (ap (λ (x : ℕ). 2 * x) (c .before .before .before .before .before .before .power-of-two .ensures)) (c .before .before .before .before .before .before .before .before .before .before .before .before .decode-list .ensures) (c .before .before .before .before .before .before .before .before .decode-state .ensures) (c .before .before .values-of .ensures)
+returns c = file-valued _ _ _ _ _ _ _ _ _ (c .before .before .values-of .result) _ (ap (λ (x : ℕ). 2 * x) (c .before .before .before .before .before .before .bit .ensures)) (c .before .before .before .before .before .before .before .before .before .before .before .before .decode-list .ensures) (c .before .before .before .before .before .before .before .before .decode-state .ensures) (c .before .before .values-of .ensures)
 
 pub of-file-spec : {M : Type 1} → statement M
 of-file-spec =
@@ -54,7 +54,7 @@ of-file-spec =
     decode-list-requires
     slice-aggregate-decode-state
     decode-state-requires
-    power-of-two-requires
+    bit-requires
     mul-components
     array-share-prefix-state
     slice-aggregate-values-of

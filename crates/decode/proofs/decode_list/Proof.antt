@@ -7,8 +7,8 @@ use native.Mathlib.Omega.{arith}
 use lib.ListN.{length, set}
 use denote.Ref.{now}
 use Rattle.cutfile.specs.Layout.{fileEntry}
-use Rattle.decode.specs.Tables.{filled}
-use Rattle.decode.proofs.TablesLaws.{filled-none, length-filled, filled-more}
+use Rattle.tables.specs.Tables.{filled}
+use Rattle.tables.proofs.TablesLaws.{filled-none, length-filled, filled-more}
 use borrow.Author.Needs.{needs}
 use Rattle.decode.proofs.decode_list.Statement.{statement}
 use Rattle.decode.proofs.decode_list.Tie as tie
@@ -29,10 +29,10 @@ index-requires : tie.Need-index-requires Inv-loop μ-loop
 index-requires c κs = search needs
 
 mul-out : tie.Need-mul-out Inv-loop μ-loop
-mul-out c = let l = ap length (c .before .before .before .loop .inv .1) ∙ length-filled (fileEntry (now (c .before .before .before .before .before .before .args .file))) _ _ (omega arith) in omega arith
+mul-out c = let l = ap length (c .before .before .before .loop .inv .1) ∙ length-filled _ (fileEntry (now (c .before .before .before .before .before .before .args .file))) _ (omega arith) in omega arith
 
 slice-write-out : tie.Need-slice-write-out Inv-loop μ-loop
-slice-write-out c = let l = ap length (c .before .before .before .loop .inv .1) ∙ length-filled (fileEntry (now (c .before .before .before .before .before .before .args .file))) _ _ (omega arith) in omega arith
+slice-write-out c = let l = ap length (c .before .before .before .loop .inv .1) ∙ length-filled _ (fileEntry (now (c .before .before .before .before .before .before .args .file))) _ (omega arith) in omega arith
 
 add-i : tie.Need-add-i Inv-loop μ-loop
 add-i c = search needs
@@ -41,7 +41,7 @@ loop-less : tie.Need-loop-less Inv-loop μ-loop
 loop-less c = search needs
 
 loop-again : tie.Need-loop-again Inv-loop μ-loop
-loop-again c = (omega arith, ap₂ (λ (o : List ℕ) (v : ℕ). set o (c .before .before .before .loop .i) v) (c .before .before .before .loop .inv .1) (c .index .ensures ∙ c .before .list-entry .ensures) ∙ filled-more _ 0 _ _ (omega arith))
+loop-again c = (omega arith, ap₂ (λ (o : List ℕ) (v : ℕ). set o (c .before .before .before .loop .i) v) (c .before .before .before .loop .inv .1) (c .index .ensures ∙ c .before .list-entry .ensures) ∙ filled-more _ _ _ (omega arith))
 
 same-length : tie.Need-same-length Inv-loop μ-loop
 same-length c = ap length (c .before .loop .inv .1) ∙ length-filled _ _ _ (omega arith)

@@ -4,13 +4,13 @@ use mathlib.Core.Path.{_≡_, ap, ap₂, _∙_}
 use mathlib.Core.List.{List}
 use Prim.Native.Nat.{ℕ, _≤_, _-_}
 use native.Mathlib.Omega.{arith}
-use lib.Ieee.{Float, nan}
+use lib.Ieee.{Float}
 use lib.ListN.{length, set}
 use denote.Ref.{now}
 use Rattle.cutfile.specs.Layout.{componentAt}
 use Rattle.cutfile.proofs.LayoutLaws.{small-power, of-parts}
-use Rattle.decode.specs.Tables.{filled}
-use Rattle.decode.proofs.TablesLaws.{filled-none, length-filled, filled-more}
+use Rattle.tables.specs.Tables.{filled}
+use Rattle.tables.proofs.TablesLaws.{filled-none, length-filled, filled-more}
 use borrow.Author.Needs.{needs}
 use Rattle.decode.proofs.decode_state.Statement.{statement}
 use Rattle.decode.proofs.decode_state.Tie as tie
@@ -21,8 +21,8 @@ Inv-loop file n k out₀ components j₀ out j = (j ≤ components) × (out ≡ 
 abbrev μ-loop : tie.MeasureT-loop
 μ-loop file n k out₀ components j₀ out j = components - j
 
-power-of-two-requires : tie.Need-power-of-two-requires Inv-loop μ-loop
-power-of-two-requires c κs = omega (arith, c .before .before .pre .0 .n-small)
+bit-requires : tie.Need-bit-requires Inv-loop μ-loop
+bit-requires c κs = omega (arith, c .before .before .pre .0 .n-small)
 
 mul-components : tie.Need-mul-components Inv-loop μ-loop
 mul-components c = omega (arith, small-power _ (c .before .before .before .pre .0 .n-small))
@@ -37,10 +37,10 @@ component-of-requires : tie.Need-component-of-requires Inv-loop μ-loop
 component-of-requires c κs = search needs
 
 mul-out : tie.Need-mul-out Inv-loop μ-loop
-mul-out c = let l = ap length (c .before .before .before .loop .inv .1) ∙ length-filled (componentAt (now (c .before .before .before .before .before .before .before .args .file)) (c .before .before .before .before .before .before .before .args .k)) _ _ (omega arith) in omega arith
+mul-out c = let l = ap length (c .before .before .before .loop .inv .1) ∙ length-filled _ (componentAt (now (c .before .before .before .before .before .before .before .args .file)) (c .before .before .before .before .before .before .before .args .k)) _ (omega arith) in omega arith
 
 slice-write-out : tie.Need-slice-write-out Inv-loop μ-loop
-slice-write-out c = let l = ap length (c .before .before .before .loop .inv .1) ∙ length-filled (componentAt (now (c .before .before .before .before .before .before .before .args .file)) (c .before .before .before .before .before .before .before .args .k)) _ _ (omega arith) in omega arith
+slice-write-out c = let l = ap length (c .before .before .before .loop .inv .1) ∙ length-filled _ (componentAt (now (c .before .before .before .before .before .before .before .args .file)) (c .before .before .before .before .before .before .before .args .k)) _ (omega arith) in omega arith
 
 add-j : tie.Need-add-j Inv-loop μ-loop
 add-j c = search needs
@@ -49,7 +49,7 @@ loop-less : tie.Need-loop-less Inv-loop μ-loop
 loop-less c = search needs
 
 loop-again : tie.Need-loop-again Inv-loop μ-loop
-loop-again c = (omega arith, ap₂ (λ (o : List Float) (v : Float). set o (c .before .before .before .loop .j) v) (c .before .before .before .loop .inv .1) (of-parts _ _ _ _ _ (c .before .amplitude-bits .ensures) (c .component-of .ensures)) ∙ filled-more _ nan _ _ (omega arith))
+loop-again c = (omega arith, ap₂ (λ (o : List Float) (v : Float). set o (c .before .before .before .loop .j) v) (c .before .before .before .loop .inv .1) (of-parts _ _ _ _ _ (c .before .amplitude-bits .ensures) (c .component-of .ensures)) ∙ filled-more _ _ _ (omega arith))
 
 same-length : tie.Need-same-length Inv-loop μ-loop
 same-length c = ap length (c .before .loop .inv .1) ∙ length-filled _ _ _ (omega arith)
@@ -63,7 +63,7 @@ decode-state-spec =
     (tie.spec
     Inv-loop
     μ-loop
-    power-of-two-requires
+    bit-requires
     mul-components
     loop-holds
     amplitude-bits-requires

@@ -5,7 +5,8 @@ use native.Mathlib.Omega.{arith}
 use lib.ListN.{length}
 use Rattle.eigen_pair.specs.CellPlanes.{asPlanes}
 use Rattle.eigen_pair.specs.Turn.{turnLine}
-use Rattle.eigen_pair.proofs.TurnLaws.{line-none, line-more, cell-fits}
+use Rattle.eigen_pair.proofs.TurnLaws.{line-none, line-more}
+use lib.Arith.{digits-lt}
 use borrow.Author.Needs.{needs}
 use Rattle.eigen_pair.proofs.turn_columns.Statement.{statement}
 use Rattle.eigen_pair.proofs.turn_columns.Tie as tie
@@ -18,10 +19,10 @@ abbrev μ-loop : tie.MeasureT-loop
 
 -- the cells of row k stand in the matrix
 at-p : (c : tie.In-loop Inv-loop μ-loop) → let a = c .before .before .before .args in c .before .loop .k * a .n + a .p < a .n * a .n
-at-p c = cell-fits _ _ _ (c .loop-test .taken) (c .before .before .before .pre .1)
+at-p c = digits-lt (c .loop-test .taken) (c .before .before .before .pre .1)
 
 at-q : (c : tie.In-loop Inv-loop μ-loop) → let a = c .before .before .before .args in c .before .loop .k * a .n + a .q < a .n * a .n
-at-q c = cell-fits _ _ _ (c .loop-test .taken) (c .before .before .before .pre .2)
+at-q c = digits-lt (c .loop-test .taken) (c .before .before .before .pre .2)
 
 mul-c : tie.Need-mul-c Inv-loop μ-loop
 mul-c c = omega arith

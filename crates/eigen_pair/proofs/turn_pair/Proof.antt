@@ -1,7 +1,7 @@
 -- `eigen_pair::turn_pair` meets its contract: the columns with the conjugate phase and then the rows. Assumes nothing.
 use Prim.Native.Nat.{_+_, _*_, _≤_}
 use native.Mathlib.Omega.{arith}
-use Rattle.svd_sweeps.proofs.SweepingLaws.{column-fits}
+use Rattle.whole_numbers.proofs.WholeLaws.{column-fits}
 use Rattle.eigen_pair.proofs.TurnLaws.{turned-made}
 use borrow.Author.Needs.{needs}
 use Rattle.eigen_pair.proofs.turn_pair.Statement.{statement}

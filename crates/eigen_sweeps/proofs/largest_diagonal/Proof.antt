@@ -4,7 +4,7 @@ use mathlib.Core.Path.{_≡_, _∙_}
 use mathlib.Core.Logic.{⊎-elim}
 use Prim.Native.Nat.{_*_, _+_, _-_, _≤_, _<_}
 use native.Mathlib.Omega.{arith}
-use Rattle.eigen_pair.proofs.TurnLaws.{cell-fits}
+use lib.Arith.{digits-lt}
 use Rattle.eigen_pair.specs.CellPlanes.{asPlanes}
 use Rattle.eigen_pair.proofs.CellPlanesLaws.{plane-re}
 use Rattle.eigen_sweeps.specs.Sweeping.{largestTo}
@@ -21,7 +21,7 @@ abbrev μ-loop : tie.MeasureT-loop
 
 -- the diagonal entry stands in the matrix
 at : (c : tie.In-loop Inv-loop μ-loop) → let n = c .before .before .args .n in c .before .loop .i * n + c .before .loop .i < n * n
-at c = cell-fits _ _ _ (c .loop-test .taken) (c .loop-test .taken)
+at c = digits-lt (c .loop-test .taken) (c .loop-test .taken)
 
 loop-holds : tie.Need-loop-holds Inv-loop μ-loop
 loop-holds c = (omega arith, largest-none _ _)

@@ -5,7 +5,7 @@ use native.Mathlib.Omega.{arith}
 use Rattle.svd_pair.proofs.Theorems.{verdict-one}
 use denote.Ref.{now}
 use Rattle.eigen_pair.proofs.CellPlanesLaws.{plane-read, plane-re}
-use Rattle.eigen_pair.proofs.TurnLaws.{cell-fits}
+use lib.Arith.{digits-lt}
 use Rattle.eigen_sweeps.proofs.SweepingLaws.{pair-made}
 use borrow.Author.Needs.{needs}
 use Rattle.eigen_sweeps.proofs.pair.Statement.{statement}
@@ -13,13 +13,13 @@ use Rattle.eigen_sweeps.proofs.pair.Tie as tie
 
 -- the three entries stand in the matrix
 pp : (c : tie.Start) → c .args .p * c .args .n + c .args .p < c .args .n * c .args .n
-pp c = cell-fits _ _ _ (c .pre .1) (c .pre .1)
+pp c = digits-lt (c .pre .1) (c .pre .1)
 
 qq : (c : tie.Start) → c .args .q * c .args .n + c .args .q < c .args .n * c .args .n
-qq c = cell-fits _ _ _ (c .pre .2) (c .pre .2)
+qq c = digits-lt (c .pre .2) (c .pre .2)
 
 pq : (c : tie.Start) → c .args .p * c .args .n + c .args .q < c .args .n * c .args .n
-pq c = cell-fits _ _ _ (c .pre .1) (c .pre .2)
+pq c = digits-lt (c .pre .1) (c .pre .2)
 
 mul-at-p : tie.Need-mul-at-p
 mul-at-p c = omega (arith, pp (c .before))

@@ -3,10 +3,11 @@ use mathlib.Core.Path.{_≡_, refl, ap, _∙_}
 use Prim.Native.Nat.{_+_, _*_, _-_, _≤_, _<_}
 use native.Mathlib.Nat.{mul-le-mul}
 use native.Mathlib.Omega.{arith}
+use lib.Arith.{digits-lt}
 use lib.ListN.{length}
 use denote.Ref.{now}
 use Rattle.complex.proofs.Loops.{stop}
-use Rattle.svd_load.proofs.NumbersLaws.{column-fits}
+use Rattle.whole_numbers.proofs.WholeLaws.{column-fits}
 use Rattle.svd_load.specs.Loading.{planesTo}
 use Rattle.svd_load.proofs.LoadingLaws.{planes-none, planes-more}
 use Rattle.hermitian_eigen.specs.Shifted.{shiftedCell, shiftedAt}
@@ -24,9 +25,7 @@ abbrev μ-loop : tie.MeasureT-loop
 -- the cell lies within the matrix
 goal : (c : tie.In-loop Inv-loop μ-loop)
     → let a = c .before .before .before .before .args in a .col * a .dim + c .before .loop .r < a .dim * a .dim
-goal c =
-    let s = c .before .before .before .before in
-    omega (arith, column-fits (s .args .col) (s .args .dim) (s .args .dim) (s .pre .0), c .loop-test .taken)
+goal c = digits-lt (c .before .before .before .before .pre .0) (c .loop-test .taken)
 
 mul-c : tie.Need-mul-c Inv-loop μ-loop
 mul-c c = omega (arith, mul-le-mul (c .before .before .pre .1) (c .before .before .pre .1))

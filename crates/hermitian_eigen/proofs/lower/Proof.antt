@@ -6,8 +6,8 @@ use lib.Ieee.{nan, binary64, sub}
 use Rattle.complex.proofs.Loops.{stop}
 use denote.Ref.{now}
 use native.Mathlib.Omega.{arith}
-use Rattle.svd_load.specs.Numbers.{filled}
-use Rattle.svd_load.proofs.NumbersLaws.{filled-none, filled-all}
+use Rattle.tables.specs.Tables.{filled}
+use Rattle.tables.proofs.TablesLaws.{filled-none, filled-all}
 use Rattle.svd_columns.proofs.Grids.{filled-turn}
 use Rattle.hermitian_eigen.proofs.StepsLaws.{past-filled}
 use borrow.Author.Needs.{needs}

@@ -3,8 +3,9 @@ use mathlib.Core.Path.{_≡_}
 use Prim.Native.Nat.{_-_, _≤_}
 use native.Mathlib.Omega.{arith}
 use Rattle.complex.proofs.Loops.{stop}
-use Rattle.qr_column.specs.Columns.{squaresTo}
-use Rattle.qr_column.proofs.ColumnLaws.{squares-none}
+use Rattle.complex.specs.Cells.{cellAt}
+use Rattle.complex.specs.Squares.{squaresTo}
+use Rattle.complex.proofs.SquaresLaws.{squares-none}
 use Rattle.qr_column.specs.Woven.{woven}
 use Rattle.qr_column.proofs.WovenLaws.{squares-woven}
 use borrow.Author.Needs.{needs}
@@ -12,7 +13,7 @@ use Rattle.qr_column.proofs.square.Statement.{statement}
 use Rattle.qr_column.proofs.square.Tie as tie
 
 abbrev Inv-loop : tie.InvT-loop
-Inv-loop v rows total₀ t₀ total t = (t ≤ rows) × (total ≡ squaresTo (woven rows v) t)
+Inv-loop v rows total₀ t₀ total t = (t ≤ rows) × (total ≡ squaresTo (cellAt (woven rows v)) t)
 
 abbrev μ-loop : tie.MeasureT-loop
 μ-loop v rows total₀ t₀ total t = rows - t

@@ -1,6 +1,6 @@
 -- `qr_factor::add_column` meets its contract: a column worked and then judged is `addColumn`. Assumes nothing.
 use native.Mathlib.Omega.{arith}
-use Rattle.qr_passes.proofs.RoomLaws.{line-fits}
+use Rattle.whole_numbers.proofs.WholeLaws.{column-fits}
 use Rattle.qr_passes.proofs.GramSchmidtLaws.{column-added}
 use native.Mathlib.Nat.{mul-le-mul-right}
 use borrow.Author.Needs.{needs}
@@ -8,7 +8,7 @@ use Rattle.qr_factor.proofs.add_column.Statement.{statement}
 use Rattle.qr_factor.proofs.add_column.Tie as tie
 
 work-column-requires : tie.Need-work-column-requires
-work-column-requires c κs = omega (arith, line-fits (c .before .before .before .before .before .before .before .args .j) (c .before .before .before .before .before .before .before .args .cols) (c .before .before .before .before .before .before .before .args .rows) (c .before .before .before .before .before .before .before .pre .1 .0), mul-le-mul-right (c .before .before .before .before .before .before .before .args .rows) (c .before .before .before .before .before .before .before .pre .1 .1), mul-le-mul-right (c .before .before .before .before .before .before .before .args .cols) (c .before .before .before .before .before .before .before .pre .1 .1))
+work-column-requires c κs = omega (arith, column-fits (c .before .before .before .before .before .before .before .args .j) (c .before .before .before .before .before .before .before .args .cols) (c .before .before .before .before .before .before .before .args .rows) (c .before .before .before .before .before .before .before .pre .1 .0), mul-le-mul-right (c .before .before .before .before .before .before .before .args .rows) (c .before .before .before .before .before .before .before .pre .1 .1), mul-le-mul-right (c .before .before .before .before .before .before .before .args .cols) (c .before .before .before .before .before .before .before .pre .1 .1))
 
 judge-requires : tie.Need-judge-requires
 judge-requires c κs = search needs

@@ -1,6 +1,6 @@
 -- `qr_passes::judge` meets its contract: each way out is one case of `judged`. Assumes nothing.
 use native.Mathlib.Omega.{arith}
-use Rattle.qr_passes.proofs.RoomLaws.{line-fits}
+use Rattle.whole_numbers.proofs.WholeLaws.{column-fits}
 use Rattle.qr_passes.proofs.GramSchmidtLaws.{judge-full, judge-kept, judge-dropped}
 use borrow.Author.Needs.{needs}
 use Rattle.qr_passes.proofs.judge.Statement.{statement}
@@ -10,13 +10,13 @@ returns : tie.Need-returns
 returns c = (judge-full _ _ _ _ _ _ _ _ _ _ (c .if1 .taken), search needs)
 
 mul-keep : tie.Need-mul-keep
-mul-keep c = omega (arith, line-fits (c .before .before .before .before .before .before .before .before .before .args .rank) (c .before .before .before .before .before .before .before .before .before .args .cap) (c .before .before .before .before .before .before .before .before .before .args .cols) (c .before .before .before .before .before .if1 .left))
+mul-keep c = omega (arith, column-fits (c .before .before .before .before .before .before .before .before .before .args .rank) (c .before .before .before .before .before .before .before .before .before .args .cap) (c .before .before .before .before .before .before .before .before .before .args .cols) (c .before .before .before .before .before .if1 .left))
 
 add-keep : tie.Need-add-keep
-add-keep c = omega (arith, line-fits (c .before .before .before .before .before .before .before .before .before .args .rank) (c .before .before .before .before .before .before .before .before .before .args .cap) (c .before .before .before .before .before .before .before .before .before .args .cols) (c .before .before .before .before .before .if1 .left))
+add-keep c = omega (arith, column-fits (c .before .before .before .before .before .before .before .before .before .args .rank) (c .before .before .before .before .before .before .before .before .before .args .cap) (c .before .before .before .before .before .before .before .before .before .args .cols) (c .before .before .before .before .before .if1 .left))
 
 keep-requires : tie.Need-keep-requires
-keep-requires c κs = omega (arith, line-fits (c .before .before .before .before .before .before .before .before .before .args .rank) (c .before .before .before .before .before .before .before .before .before .args .cap) (c .before .before .before .before .before .before .before .before .before .args .rows) (c .before .before .before .before .before .if1 .left), line-fits (c .before .before .before .before .before .before .before .before .before .args .rank) (c .before .before .before .before .before .before .before .before .before .args .cap) (c .before .before .before .before .before .before .before .before .before .args .cols) (c .before .before .before .before .before .if1 .left))
+keep-requires c κs = omega (arith, column-fits (c .before .before .before .before .before .before .before .before .before .args .rank) (c .before .before .before .before .before .before .before .before .before .args .cap) (c .before .before .before .before .before .before .before .before .before .args .rows) (c .before .before .before .before .before .if1 .left), column-fits (c .before .before .before .before .before .before .before .before .before .args .rank) (c .before .before .before .before .before .before .before .before .before .args .cap) (c .before .before .before .before .before .before .before .before .before .args .cols) (c .before .before .before .before .before .if1 .left))
 
 add-result : tie.Need-add-result
 add-result c = omega (arith, c .before .before .before .before .before .before .before .before .before .before .if1 .left, c .before .before .before .before .before .before .before .before .before .before .before .before .before .before)

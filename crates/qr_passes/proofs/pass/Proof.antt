@@ -8,7 +8,7 @@ use Rattle.qr_basis.specs.Matrix.{matrixOf}
 use Rattle.qr_column.specs.Woven.{woven}
 use Rattle.qr_passes.specs.GramSchmidt.{held, passTo}
 use Rattle.qr_passes.proofs.GramSchmidtLaws.{pass-none, pass-more}
-use Rattle.qr_passes.proofs.RoomLaws.{line-fits}
+use Rattle.whole_numbers.proofs.WholeLaws.{column-fits}
 use borrow.Author.Needs.{needs}
 use Rattle.qr_passes.proofs.pass.Statement.{statement}
 use Rattle.qr_passes.proofs.pass.Tie as tie
@@ -23,13 +23,13 @@ loop-holds : tie.Need-loop-holds Inv-loop μ-loop
 loop-holds c = (search needs, refl, refl, pass-none _ _ _ _ _)
 
 mul-project : tie.Need-mul-project Inv-loop μ-loop
-mul-project c = omega (arith, line-fits (c .before .before .before .loop .i) (c .before .before .before .before .before .before .before .args .rank) (c .before .before .before .before .before .before .before .args .cols) (c .before .before .loop-test .taken))
+mul-project c = omega (arith, column-fits (c .before .before .before .loop .i) (c .before .before .before .before .before .before .before .args .rank) (c .before .before .before .before .before .before .before .args .cols) (c .before .before .loop-test .taken))
 
 add-project : tie.Need-add-project Inv-loop μ-loop
-add-project c = omega (arith, line-fits (c .before .before .before .loop .i) (c .before .before .before .before .before .before .before .args .rank) (c .before .before .before .before .before .before .before .args .cols) (c .before .before .loop-test .taken))
+add-project c = omega (arith, column-fits (c .before .before .before .loop .i) (c .before .before .before .before .before .before .before .args .rank) (c .before .before .before .before .before .before .before .args .cols) (c .before .before .loop-test .taken))
 
 project-requires : tie.Need-project-requires Inv-loop μ-loop
-project-requires c κs = omega (arith, line-fits (c .before .before .before .loop .i) (c .before .before .before .before .before .before .before .args .rank) (c .before .before .before .before .before .before .before .args .rows) (c .before .before .loop-test .taken), line-fits (c .before .before .before .loop .i) (c .before .before .before .before .before .before .before .args .rank) (c .before .before .before .before .before .before .before .args .cols) (c .before .before .loop-test .taken))
+project-requires c κs = omega (arith, column-fits (c .before .before .before .loop .i) (c .before .before .before .before .before .before .before .args .rank) (c .before .before .before .before .before .before .before .args .rows) (c .before .before .loop-test .taken), column-fits (c .before .before .before .loop .i) (c .before .before .before .before .before .before .before .args .rank) (c .before .before .before .before .before .before .before .args .cols) (c .before .before .loop-test .taken))
 
 add-i : tie.Need-add-i Inv-loop μ-loop
 add-i c = search needs

@@ -4,22 +4,23 @@ use mathlib.Core.Path.{_≡_, refl}
 use Prim.Native.Nat.{_-_, _≤_}
 use native.Mathlib.Omega.{arith}
 use lib.ListN.{length, length-set}
-use Rattle.qubits.specs.Spread.{table, rowOffset}
-use Rattle.qubit_offsets.specs.Calls.{fronted}
-use Rattle.qubit_offsets.proofs.CallLaws.{table-none, table-more, table-end}
+use Rattle.tables.specs.Tables.{filled}
+use Rattle.tables.proofs.TablesLaws.{filled-none, filled-more}
+use Rattle.qubits.specs.Spread.{rowOffset}
+use Rattle.qubit_offsets.proofs.CallLaws.{table-end}
 use borrow.Author.Needs.{needs}
 use Rattle.qubit_offsets.proofs.fill_offsets.Statement.{statement}
 use Rattle.qubit_offsets.proofs.fill_offsets.Tie as tie
 
 abbrev Inv-loop : tie.InvT-loop
 Inv-loop list n count out₀ t₀ out t =
-    (t ≤ count) × (length out ≡ length out₀) × (out ≡ fronted (table t (rowOffset list)) out₀)
+    (t ≤ count) × (length out ≡ length out₀) × (out ≡ filled t (rowOffset list) out₀)
 
 abbrev μ-loop : tie.MeasureT-loop
 μ-loop list n count out₀ t₀ out t = count - t
 
 loop-holds : tie.Need-loop-holds Inv-loop μ-loop
-loop-holds c = (omega arith, refl, table-none _ _)
+loop-holds c = (omega arith, refl, filled-none _ _)
 
 row-offset-requires : tie.Need-row-offset-requires Inv-loop μ-loop
 row-offset-requires c κs = search needs
@@ -42,7 +43,7 @@ loop-again c =
     let z = c .before .before .before .before .before in (
       omega (arith, c .before .loop-test .taken),
       simp length-set (l .inv .1),
-      rw (l .inv .2, c .row-offset .ensures) (table-more (l .t) (rowOffset (z .args .list .now)) _ (omega (arith, c .before .loop-test .taken, z .pre .1 .1))),
+      rw (l .inv .2, c .row-offset .ensures) (filled-more (l .t) (rowOffset (z .args .list .now)) _ (omega (arith, c .before .loop-test .taken, z .pre .1 .1))),
     )
 
 same-length : tie.Need-same-length Inv-loop μ-loop

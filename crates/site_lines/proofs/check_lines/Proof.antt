@@ -4,7 +4,8 @@ use Prim.Native.Nat.{_-_, _≤_}
 use native.Mathlib.Omega.{arith}
 use Rattle.answers.proofs.Stopped.{refused, passed}
 use Rattle.site_lines.specs.Sources.{linesFrom}
-use Rattle.site_lines.proofs.SourceLaws.{line-fits, lines-begin, lines-next, lines-end}
+use Rattle.whole_numbers.proofs.WholeLaws.{column-fits}
+use Rattle.site_lines.proofs.SourceLaws.{lines-begin, lines-next, lines-end}
 use borrow.Author.Needs.{needs}
 use Rattle.site_lines.proofs.check_lines.Statement.{statement}
 use Rattle.site_lines.proofs.check_lines.Tie as tie
@@ -19,10 +20,10 @@ loop-holds : tie.Need-loop-holds Inv-loop μ-loop
 loop-holds c = (search needs, lines-begin _ _ _ _)
 
 mul-check-cells : tie.Need-mul-check-cells Inv-loop μ-loop
-mul-check-cells c = omega (arith, line-fits (c .before .loop .i) (c .before .before .before .args .chi) (c .before .before .before .args .stride) (c .loop-test .taken))
+mul-check-cells c = omega (arith, column-fits (c .before .loop .i) (c .before .before .before .args .chi) (c .before .before .before .args .stride) (c .loop-test .taken))
 
 check-cells-requires : tie.Need-check-cells-requires Inv-loop μ-loop
-check-cells-requires c κs = omega (arith, line-fits (c .before .loop .i) (c .before .before .before .args .chi) (c .before .before .before .args .stride) (c .loop-test .taken))
+check-cells-requires c κs = omega (arith, column-fits (c .before .loop .i) (c .before .before .before .args .chi) (c .before .before .before .args .stride) (c .loop-test .taken))
 
 enum-told : tie.Need-enum-told Inv-loop μ-loop
 enum-told c = search needs

@@ -5,7 +5,8 @@ use native.Mathlib.Omega.{arith}
 use lib.ListN.{length}
 use Rattle.complex.specs.Cells.{written}
 use Rattle.site_lines.specs.Sources.{siteCell, isometryCell}
-use Rattle.site_lines.proofs.SourceLaws.{line-fits, site-none, site-more, site-end, isometry-cell}
+use Rattle.whole_numbers.proofs.WholeLaws.{column-fits}
+use Rattle.site_lines.proofs.SourceLaws.{site-none, site-more, site-end, isometry-cell}
 use borrow.Author.Needs.{needs}
 use Rattle.site_lines.proofs.fill_isometry.Statement.{statement}
 use Rattle.site_lines.proofs.fill_isometry.Tie as tie
@@ -20,10 +21,10 @@ loop-holds : tie.Need-loop-holds Inv-loop μ-loop
 loop-holds c = (search needs, refl, site-none _ _ _)
 
 mul-copy-line : tie.Need-mul-copy-line Inv-loop μ-loop
-mul-copy-line c = omega (arith, line-fits (c .before .before .loop .row) (c .before .before .before .before .before .args .width) (c .before .before .before .before .before .args .chi) (c .before .loop-test .taken), c .before .before .before .before .before .pre)
+mul-copy-line c = omega (arith, column-fits (c .before .before .loop .row) (c .before .before .before .before .before .args .width) (c .before .before .before .before .before .args .chi) (c .before .loop-test .taken), c .before .before .before .before .before .pre)
 
 copy-line-requires : tie.Need-copy-line-requires Inv-loop μ-loop
-copy-line-requires c κs = (λ t h. omega (arith, line-fits t (c .before .before .before .before .before .args .chi) (c .before .before .before .before .before .args .stride) h, c .before .before .before .before .before .pre, c .before .loop-test .taken), omega (arith, line-fits (c .before .before .loop .row) (c .before .before .before .before .before .args .width) (c .before .before .before .before .before .args .chi) (c .before .loop-test .taken), c .before .before .before .before .before .pre))
+copy-line-requires c κs = (λ t h. omega (arith, column-fits t (c .before .before .before .before .before .args .chi) (c .before .before .before .before .before .args .stride) h, c .before .before .before .before .before .pre, c .before .loop-test .taken), omega (arith, column-fits (c .before .before .loop .row) (c .before .before .before .before .before .args .width) (c .before .before .before .before .before .args .chi) (c .before .loop-test .taken), c .before .before .before .before .before .pre))
 
 add-row : tie.Need-add-row Inv-loop μ-loop
 add-row c = search needs

@@ -5,7 +5,8 @@ use native.Mathlib.Omega.{arith}
 use lib.ListN.{length}
 use Rattle.complex.specs.Cells.{written}
 use Rattle.site_lines.specs.Sources.{siteCell, scaledUCell}
-use Rattle.site_lines.proofs.SourceLaws.{line-fits, site-none, site-more, site-end, scaled-u-cell}
+use Rattle.whole_numbers.proofs.WholeLaws.{column-fits}
+use Rattle.site_lines.proofs.SourceLaws.{site-none, site-more, site-end, scaled-u-cell}
 use borrow.Author.Needs.{needs}
 use Rattle.site_lines.proofs.fill_scaled_u.Statement.{statement}
 use Rattle.site_lines.proofs.fill_scaled_u.Tie as tie
@@ -20,10 +21,10 @@ loop-holds : tie.Need-loop-holds Inv-loop μ-loop
 loop-holds c = (search needs, refl, site-none _ _ _)
 
 mul-scale-line : tie.Need-mul-scale-line Inv-loop μ-loop
-mul-scale-line c = omega (arith, line-fits (c .before .before .loop .row) (c .before .before .before .before .before .before .args .width) (c .before .before .before .before .before .before .args .chi) (c .before .loop-test .taken), c .before .before .before .before .before .before .pre .0)
+mul-scale-line c = omega (arith, column-fits (c .before .before .loop .row) (c .before .before .before .before .before .before .args .width) (c .before .before .before .before .before .before .args .chi) (c .before .loop-test .taken), c .before .before .before .before .before .before .pre .0)
 
 scale-line-requires : tie.Need-scale-line-requires Inv-loop μ-loop
-scale-line-requires c κs = (λ t h. omega (arith, line-fits t (c .before .before .before .before .before .before .args .chi) (c .before .before .before .before .before .before .args .stride) h, c .before .before .before .before .before .before .pre .0, c .before .loop-test .taken), c .before .before .before .before .before .before .pre .1, omega (arith, line-fits (c .before .before .loop .row) (c .before .before .before .before .before .before .args .width) (c .before .before .before .before .before .before .args .chi) (c .before .loop-test .taken), c .before .before .before .before .before .before .pre .0))
+scale-line-requires c κs = (λ t h. omega (arith, column-fits t (c .before .before .before .before .before .before .args .chi) (c .before .before .before .before .before .before .args .stride) h, c .before .before .before .before .before .before .pre .0, c .before .loop-test .taken), c .before .before .before .before .before .before .pre .1, omega (arith, column-fits (c .before .before .loop .row) (c .before .before .before .before .before .before .args .width) (c .before .before .before .before .before .before .args .chi) (c .before .loop-test .taken), c .before .before .before .before .before .before .pre .0))
 
 add-row : tie.Need-add-row Inv-loop μ-loop
 add-row c = search needs

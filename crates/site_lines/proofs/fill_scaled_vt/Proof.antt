@@ -6,7 +6,8 @@ use lib.ListN.{length}
 use Rattle.complex.specs.Cells.{written}
 use native.Mathlib.Nat.{mul-comm}
 use Rattle.site_lines.specs.Sources.{siteCell, scaledVtCell}
-use Rattle.site_lines.proofs.SourceLaws.{line-fits, site-none, site-more, site-end-by-rows, scaled-vt-cell}
+use Rattle.whole_numbers.proofs.WholeLaws.{column-fits}
+use Rattle.site_lines.proofs.SourceLaws.{site-none, site-more, site-end-by-rows, scaled-vt-cell}
 use borrow.Author.Needs.{needs}
 use Rattle.site_lines.proofs.fill_scaled_vt.Statement.{statement}
 use Rattle.site_lines.proofs.fill_scaled_vt.Tie as tie
@@ -27,13 +28,13 @@ shared-slice-read-x : tie.Need-shared-slice-read-x Inv-loop μ-loop
 shared-slice-read-x c = search needs
 
 mul-product-line : tie.Need-mul-product-line Inv-loop μ-loop
-mul-product-line c = omega (arith, line-fits (c .before .before .loop .gamma) (c .before .before .before .before .before .before .args .chi) (c .before .before .before .before .before .before .args .stride) (c .before .loop-test .taken), c .before .before .before .before .before .before .pre .0)
+mul-product-line c = omega (arith, column-fits (c .before .before .loop .gamma) (c .before .before .before .before .before .before .args .chi) (c .before .before .before .before .before .before .args .stride) (c .before .loop-test .taken), c .before .before .before .before .before .before .pre .0)
 
 mul-product-line-2 : tie.Need-mul-product-line-2 Inv-loop μ-loop
-mul-product-line-2 c = omega (arith, line-fits (c .before .before .before .loop .gamma) (c .before .before .before .before .before .before .before .args .chi) (c .before .before .before .before .before .before .before .args .width) (c .before .before .loop-test .taken), mul-comm (c .before .before .before .before .before .before .before .args .width) (c .before .before .before .before .before .before .before .args .chi), c .before .before .before .before .before .before .before .pre .0)
+mul-product-line-2 c = omega (arith, column-fits (c .before .before .before .loop .gamma) (c .before .before .before .before .before .before .before .args .chi) (c .before .before .before .before .before .before .before .args .width) (c .before .before .loop-test .taken), mul-comm (c .before .before .before .before .before .before .before .args .width) (c .before .before .before .before .before .before .before .args .chi), c .before .before .before .before .before .before .before .pre .0)
 
 product-line-requires : tie.Need-product-line-requires Inv-loop μ-loop
-product-line-requires c κs = (omega (arith, line-fits (c .before .before .before .loop .gamma) (c .before .before .before .before .before .before .before .args .chi) (c .before .before .before .before .before .before .before .args .stride) (c .before .before .loop-test .taken), c .before .before .before .before .before .before .before .pre .0), omega (arith, line-fits (c .before .before .before .loop .gamma) (c .before .before .before .before .before .before .before .args .chi) (c .before .before .before .before .before .before .before .args .width) (c .before .before .loop-test .taken), mul-comm (c .before .before .before .before .before .before .before .args .width) (c .before .before .before .before .before .before .before .args .chi), c .before .before .before .before .before .before .before .pre .0))
+product-line-requires c κs = (omega (arith, column-fits (c .before .before .before .loop .gamma) (c .before .before .before .before .before .before .before .args .chi) (c .before .before .before .before .before .before .before .args .stride) (c .before .before .loop-test .taken), c .before .before .before .before .before .before .before .pre .0), omega (arith, column-fits (c .before .before .before .loop .gamma) (c .before .before .before .before .before .before .before .args .chi) (c .before .before .before .before .before .before .before .args .width) (c .before .before .loop-test .taken), mul-comm (c .before .before .before .before .before .before .before .args .width) (c .before .before .before .before .before .before .before .args .chi), c .before .before .before .before .before .before .before .pre .0))
 
 add-gamma : tie.Need-add-gamma Inv-loop μ-loop
 add-gamma c = search needs

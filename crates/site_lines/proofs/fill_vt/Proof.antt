@@ -6,7 +6,8 @@ use lib.ListN.{length}
 use Rattle.complex.specs.Cells.{written}
 use native.Mathlib.Nat.{mul-comm}
 use Rattle.site_lines.specs.Sources.{siteCell, vtCell}
-use Rattle.site_lines.proofs.SourceLaws.{line-fits, site-none, site-more, site-end-by-rows, vt-cell}
+use Rattle.whole_numbers.proofs.WholeLaws.{column-fits}
+use Rattle.site_lines.proofs.SourceLaws.{site-none, site-more, site-end-by-rows, vt-cell}
 use borrow.Author.Needs.{needs}
 use Rattle.site_lines.proofs.fill_vt.Statement.{statement}
 use Rattle.site_lines.proofs.fill_vt.Tie as tie
@@ -21,13 +22,13 @@ loop-holds : tie.Need-loop-holds Inv-loop μ-loop
 loop-holds c = (search needs, refl, site-none _ _ _)
 
 mul-copy-line : tie.Need-mul-copy-line Inv-loop μ-loop
-mul-copy-line c = omega (arith, line-fits (c .before .loop .gamma) (c .before .before .before .before .args .chi) (c .before .before .before .before .args .stride) (c .loop-test .taken), c .before .before .before .before .pre)
+mul-copy-line c = omega (arith, column-fits (c .before .loop .gamma) (c .before .before .before .before .args .chi) (c .before .before .before .before .args .stride) (c .loop-test .taken), c .before .before .before .before .pre)
 
 mul-copy-line-2 : tie.Need-mul-copy-line-2 Inv-loop μ-loop
-mul-copy-line-2 c = omega (arith, line-fits (c .before .before .loop .gamma) (c .before .before .before .before .before .args .chi) (c .before .before .before .before .before .args .width) (c .before .loop-test .taken), mul-comm (c .before .before .before .before .before .args .width) (c .before .before .before .before .before .args .chi), c .before .before .before .before .before .pre)
+mul-copy-line-2 c = omega (arith, column-fits (c .before .before .loop .gamma) (c .before .before .before .before .before .args .chi) (c .before .before .before .before .before .args .width) (c .before .loop-test .taken), mul-comm (c .before .before .before .before .before .args .width) (c .before .before .before .before .before .args .chi), c .before .before .before .before .before .pre)
 
 copy-line-requires : tie.Need-copy-line-requires Inv-loop μ-loop
-copy-line-requires c κs = (λ t h. omega (arith, line-fits (c .before .before .loop .gamma) (c .before .before .before .before .before .args .chi) (c .before .before .before .before .before .args .stride) (c .before .loop-test .taken), c .before .before .before .before .before .pre), omega (arith, line-fits (c .before .before .loop .gamma) (c .before .before .before .before .before .args .chi) (c .before .before .before .before .before .args .width) (c .before .loop-test .taken), mul-comm (c .before .before .before .before .before .args .width) (c .before .before .before .before .before .args .chi), c .before .before .before .before .before .pre))
+copy-line-requires c κs = (λ t h. omega (arith, column-fits (c .before .before .loop .gamma) (c .before .before .before .before .before .args .chi) (c .before .before .before .before .before .args .stride) (c .before .loop-test .taken), c .before .before .before .before .before .pre), omega (arith, column-fits (c .before .before .loop .gamma) (c .before .before .before .before .before .args .chi) (c .before .before .before .before .before .args .width) (c .before .loop-test .taken), mul-comm (c .before .before .before .before .before .args .width) (c .before .before .before .before .before .args .chi), c .before .before .before .before .before .pre))
 
 add-gamma : tie.Need-add-gamma Inv-loop μ-loop
 add-gamma c = search needs

@@ -6,10 +6,10 @@ use denote.Ref.{now}
 use lib.ListN.{length, length-set}
 use Rattle.eigen_pair.specs.CellPlanes.{asPlanes}
 use Rattle.eigen_pair.proofs.CellPlanesLaws.{plane-re}
-use Rattle.eigen_pair.proofs.TurnLaws.{cell-fits}
+use lib.Arith.{digits-lt}
 use Rattle.eigen_sweeps.specs.Sweeping.{diagonal}
-use Rattle.svd_load.specs.Numbers.{filled}
-use Rattle.svd_load.proofs.NumbersLaws.{filled-none, filled-more}
+use Rattle.tables.specs.Tables.{filled}
+use Rattle.tables.proofs.TablesLaws.{filled-none, filled-more}
 use borrow.Author.Needs.{needs}
 use Rattle.spectra.proofs.write_diagonal.Statement.{statement}
 use Rattle.spectra.proofs.write_diagonal.Tie as tie
@@ -22,7 +22,7 @@ abbrev μ-loop : tie.MeasureT-loop
 
 -- the diagonal entry stands in the matrix
 at : (c : tie.In-loop Inv-loop μ-loop) → let n = c .before .before .args .n in c .before .loop .i * n + c .before .loop .i < n * n
-at c = cell-fits _ _ _ (c .loop-test .taken) (c .loop-test .taken)
+at c = digits-lt (c .loop-test .taken) (c .loop-test .taken)
 
 loop-holds : tie.Need-loop-holds Inv-loop μ-loop
 loop-holds c = (omega arith, refl, filled-none _ _)

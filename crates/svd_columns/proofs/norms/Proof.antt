@@ -6,16 +6,18 @@ use lib.ListN.{length, length-set}
 use denote.Ref.{now}
 use Rattle.numbers.specs.Root.{sqrtOf}
 use Rattle.complex.proofs.Loops.{stop}
-use Rattle.svd_load.specs.Numbers.{filled}
-use Rattle.svd_load.proofs.NumbersLaws.{filled-none, filled-all, column-fits}
-use Rattle.svd_columns.specs.Columns.{squaresTo, normsOf}
+use Rattle.tables.specs.Tables.{filled}
+use Rattle.whole_numbers.proofs.WholeLaws.{column-fits}
+use Rattle.tables.proofs.TablesLaws.{filled-none, filled-all}
+use Rattle.complex.specs.Squares.{squaresTo}
+use Rattle.svd_columns.specs.Columns.{planeFrom, normsOf}
 use Rattle.svd_columns.proofs.Grids.{filled-turn}
 use borrow.Author.Needs.{needs}
 use Rattle.svd_columns.proofs.norms.Statement.{statement}
 use Rattle.svd_columns.proofs.norms.Tie as tie
 
 abbrev Inv-loop : tie.InvT-loop
-Inv-loop work rows side s₀ c j₀ s j = (j ≤ side) × (length s ≡ length s₀) × (s ≡ filled j (λ k. sqrtOf (squaresTo work (side * rows) (k * rows) rows)) s₀)
+Inv-loop work rows side s₀ c j₀ s j = (j ≤ side) × (length s ≡ length s₀) × (s ≡ filled j (λ k. sqrtOf (squaresTo (planeFrom work (side * rows) (k * rows)) rows)) s₀)
 
 abbrev μ-loop : tie.MeasureT-loop
 μ-loop work rows side s₀ c j₀ s j = side - j
@@ -60,7 +62,7 @@ same-length c = search needs
 
 returns : tie.Need-returns Inv-loop μ-loop
 unfolding normsOf
-returns c = let a = c .before .before .before .before .args in stop (λ k. filled k (λ i. sqrtOf (squaresTo (now (a .work)) (a .side * a .rows) (i * a .rows) (a .rows))) (now (a .s))) (c .before .loop .inv .2) (search needs) (search needs) ∙ filled-all _ _ _ (c .before .before .before .before .pre .2)
+returns c = let a = c .before .before .before .before .args in stop (λ k. filled k (λ i. sqrtOf (squaresTo (planeFrom (now (a .work)) (a .side * a .rows) (i * a .rows)) (a .rows))) (now (a .s))) (c .before .loop .inv .2) (search needs) (search needs) ∙ filled-all _ _ _ (c .before .before .before .before .pre .2)
 
 pub norms-spec : {M : Type 1} → statement M
 norms-spec =

@@ -9,9 +9,11 @@ use Rattle.numbers.specs.Root.{sqrtOf}
 use Rattle.complex.proofs.Loops.{stop}
 use Rattle.exact_roots.specs.Exact.{exactRoot, allExact}
 use Rattle.exact_roots.proofs.All.{all-none, all-more}
-use Rattle.svd_load.specs.Numbers.{filled}
-use Rattle.svd_load.proofs.NumbersLaws.{filled-none, filled-all, column-fits}
-use Rattle.svd_columns.specs.Columns.{squaresTo, normsOf, normsExact}
+use Rattle.tables.specs.Tables.{filled}
+use Rattle.whole_numbers.proofs.WholeLaws.{column-fits}
+use Rattle.tables.proofs.TablesLaws.{filled-none, filled-all}
+use Rattle.complex.specs.Squares.{squaresTo}
+use Rattle.svd_columns.specs.Columns.{planeFrom, normsOf, normsExact}
 use Rattle.svd_columns.proofs.Grids.{filled-turn}
 use borrow.Author.Needs.{needs}
 use Rattle.svd_columns.proofs.norms_marked.Statement.{statement}
@@ -19,8 +21,8 @@ use Rattle.svd_columns.proofs.norms_marked.Tie as tie
 
 abbrev Inv-loop : tie.InvT-loop
 Inv-loop work rows side s₀ c exact₀ j₀ s exact j =
-    (j ≤ side) × (length s ≡ length s₀) × (s ≡ filled j (λ k. sqrtOf (squaresTo work (side * rows) (k * rows) rows)) s₀)
-    × (exact ≡ allExact j (λ k. squaresTo work (side * rows) (k * rows) rows))
+    (j ≤ side) × (length s ≡ length s₀) × (s ≡ filled j (λ k. sqrtOf (squaresTo (planeFrom work (side * rows) (k * rows)) rows)) s₀)
+    × (exact ≡ allExact j (λ k. squaresTo (planeFrom work (side * rows) (k * rows)) rows))
 
 abbrev μ-loop : tie.MeasureT-loop
 μ-loop work rows side s₀ c exact₀ j₀ s exact j = side - j
@@ -74,7 +76,7 @@ returns : tie.Need-returns Inv-loop μ-loop
 unfolding normsOf normsExact
 returns c =
     let a = c .before .before .before .before .args in
-    let f : ℕ → Float = λ i. squaresTo (now (a .work)) (a .side * a .rows) (i * a .rows) (a .rows) in (
+    let f : ℕ → Float = λ i. squaresTo (planeFrom (now (a .work)) (a .side * a .rows) (i * a .rows)) (a .rows) in (
       stop (λ k. filled k (λ i. sqrtOf (f i)) (now (a .s))) (c .before .loop .inv .2) (search needs) (search needs) ∙ filled-all _ _ _ (c .before .before .before .before .pre .2),
       stop (λ k. allExact k f) (c .before .loop .inv .3) (search needs) (search needs),
     )

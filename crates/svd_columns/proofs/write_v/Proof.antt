@@ -8,7 +8,7 @@ use Rattle.complex.proofs.Loops.{stop}
 use Rattle.complex.specs.Cells.{written}
 use Rattle.complex.specs.Planes.{planeAt}
 use Rattle.stable_order.specs.Places.{placesIn}
-use Rattle.svd_load.proofs.NumbersLaws.{column-fits}
+use Rattle.whole_numbers.proofs.WholeLaws.{column-fits}
 use Rattle.svd_columns.specs.Columns.{vCell, inColumns, vColumnsOf}
 use Rattle.svd_columns.proofs.Grids.{columns-none, columns-more, columns-all}
 use borrow.Author.Needs.{needs}

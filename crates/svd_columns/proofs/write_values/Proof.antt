@@ -7,8 +7,8 @@ use lib.Ieee.{nan}
 use denote.Ref.{now}
 use Rattle.complex.proofs.Loops.{stop}
 use Rattle.stable_order.specs.Places.{placesIn}
-use Rattle.svd_load.specs.Numbers.{filled}
-use Rattle.svd_load.proofs.NumbersLaws.{filled-none, filled-all}
+use Rattle.tables.specs.Tables.{filled}
+use Rattle.tables.proofs.TablesLaws.{filled-none, filled-all}
 use Rattle.svd_columns.specs.Columns.{sortedOf}
 use Rattle.svd_columns.proofs.Grids.{filled-turn}
 use borrow.Author.Needs.{needs}

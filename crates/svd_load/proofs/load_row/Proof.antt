@@ -3,10 +3,11 @@ use mathlib.Core.Path.{_≡_, refl, _∙_}
 use Prim.Native.Nat.{_+_, _*_, _-_, _≤_, _<_}
 use native.Mathlib.Nat.{mul-comm}
 use native.Mathlib.Omega.{arith}
+use lib.Arith.{digits-lt}
 use lib.ListN.{length}
 use denote.Ref.{now}
 use Rattle.complex.proofs.Loops.{stop}
-use Rattle.svd_load.proofs.NumbersLaws.{column-fits}
+use Rattle.whole_numbers.proofs.WholeLaws.{column-fits}
 use Rattle.svd_load.specs.Loading.{conjugateTransposed, planesTo}
 use Rattle.svd_load.proofs.LoadingLaws.{planes-none, planes-more, transposed-at}
 use borrow.Author.Needs.{needs}
@@ -24,13 +25,11 @@ source : (c : tie.In-loop Inv-loop μ-loop)
     → let a = c .before .before .before .before .args in c .before .loop .r * a .m + a .col < a .m * a .n
 source c =
     let s = c .before .before .before .before in
-    omega (arith, column-fits (c .before .loop .r) (s .args .n) (s .args .m) (c .loop-test .taken), mul-comm (s .args .n) (s .args .m), s .pre .0)
+    rw (mul-comm (s .args .m) (s .args .n)) (digits-lt (c .loop-test .taken) (s .pre .0))
 
 goal : (c : tie.In-loop Inv-loop μ-loop)
     → let a = c .before .before .before .before .args in a .col * a .n + c .before .loop .r < a .m * a .n
-goal c =
-    let s = c .before .before .before .before in
-    omega (arith, column-fits (s .args .col) (s .args .m) (s .args .n) (s .pre .0), c .loop-test .taken)
+goal c = digits-lt (c .before .before .before .before .pre .0) (c .loop-test .taken)
 
 mul-c : tie.Need-mul-c Inv-loop μ-loop
 mul-c c = search needs

@@ -5,7 +5,7 @@ use native.Mathlib.Omega.{arith}
 use lib.ListN.{length, length-set}
 use denote.Ref.{now}
 use Rattle.complex.proofs.Loops.{stop}
-use Rattle.svd_load.proofs.NumbersLaws.{column-fits}
+use Rattle.whole_numbers.proofs.WholeLaws.{column-fits}
 use Rattle.svd_load.specs.Loading.{unitTo}
 use Rattle.svd_load.proofs.LoadingLaws.{unit-none, unit-more, unit-all}
 use borrow.Author.Needs.{needs}

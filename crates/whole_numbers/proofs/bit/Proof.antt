@@ -1,9 +1,9 @@
--- `submasks::bit` meets its contract. Assumes nothing.
+-- `whole_numbers::bit` meets its contract. Assumes nothing.
 use borrow.Author.Needs.{needs}
 use lib.Pow.{pow-lt}
 use native.Mathlib.Omega.{arith}
-use Rattle.submasks.proofs.bit.Statement.{statement}
-use Rattle.submasks.proofs.bit.Tie as tie
+use Rattle.whole_numbers.proofs.bit.Statement.{statement}
+use Rattle.whole_numbers.proofs.bit.Tie as tie
 
 shl-result : tie.Need-shl-result
 shl-result c = search needs

@@ -1,0 +1,2 @@
+-- What contracts cite.
+pub mod Tables
