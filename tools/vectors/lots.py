@@ -2,7 +2,7 @@
 """Lots and what must be printed of them, worked out here from 02's text by plain lists. A file's single result is taken from the model of
 cutfiles.py: its number, and how many values it prints.
 
-    lots.py            writes the two tables of lots of crates/file_cases and its stdout from there on, crates/nightbatch/data/lot.bin and stdout
+    lots.py            writes the tables of lots of crates/file_cases and its stdout from there on, crates/nightbatch/data/lot.bin and stdout
     lots.py --check    says whether they are as they would be written
 """
 import importlib.util
@@ -136,18 +136,18 @@ def main():
     tables, out, counts = [b''], 'lots-1.bin\n', {}
     for name, lot in cases():
         row = struct.pack('<I', len(lot)) + lot
-        if len(tables[-1]) + len(row) > 131072:
+        if len(tables[-1]) + len(row) > 81920:
             tables.append(b'')
             out += 'lots-%d.bin\n' % len(tables)
         tables[-1] += row
         out += sheet(lot)
         for file in files_of(lot) or []:
             counts[single(file)[0]] = counts.get(single(file)[0], 0) + 1
-    assert len(tables) == 2
+    assert len(tables) == 3
     night = lot_of([RANKS[3], REFUSED[0], RANKS[8], RANKS[1], REFUSED[7], RANKS[8], RANKS[1], LONG] + REFUSED + [PAPER[:100]])
     before = open(os.path.join(crates, 'file_cases', 'stdout')).read().partition('lots-1.bin\n')[0]
-    made = {'file_cases/data/lots-1.bin': tables[0], 'file_cases/data/lots-2.bin': tables[1], 'file_cases/stdout': (before + out).encode(),
-            'nightbatch/data/lot.bin': night, 'nightbatch/stdout': sheet(night).encode()}
+    made = {'file_cases/data/lots-%d.bin' % (i + 1): table for i, table in enumerate(tables)}
+    made.update({'file_cases/stdout': (before + out).encode(), 'nightbatch/data/lot.bin': night, 'nightbatch/stdout': sheet(night).encode()})
     for name, text in made.items():
         path = os.path.join(crates, name)
         if '--check' not in sys.argv:

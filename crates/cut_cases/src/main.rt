@@ -429,14 +429,6 @@ fn case(text: &[u8], at: usize, kind: u64, plan: &[usize; 30]) -> usize {
     square_case(text, at, kind, plan)
 }
 
-fn clear(plan: &mut [usize]) {
-    let mut i = 0;
-    while i < plan.len() {
-        plan[i] = 0;
-        i += 1;
-    }
-}
-
 fn set(plan: &mut [usize], place: usize, value: usize) {
     if place < plan.len() {
         plan[place] = value;
@@ -447,7 +439,7 @@ fn poke(text: &[u8], at: usize, kind: u64, plan: &mut [usize; 30]) -> usize {
     replay::print_word(0);
     replay::print_word(0);
     if kind == 16 {
-        clear(plan);
+        *plan = [0; 30];
         return at;
     }
     let second = replay::past(text, at);

@@ -1,5 +1,6 @@
 // Runs tables of cut files and of lots through the functions that `cutprint`, `pageprint` and `nightbatch` call, and writes what they write of
-// each, under a line with the table's name. A table is a row of files, each with its length before it in four bytes, little-endian.
+// each, under a line with the table's name. A table is a row of files, each with its length before it in four bytes, little-endian; it has at
+// most 81,920 bytes.
 use answers::Answer;
 ghost use mathlib.Core.Path.{_≡_};
 ghost use Prim.Native.Nat.{_+_, _≤_};
@@ -92,7 +93,7 @@ fn show_all(kind: u64, table: &[u8]) {
 }
 
 fn run(kind: u64, name: &[u8]) {
-    let mut table = [0u8; 131072];
+    let mut table = [0u8; 81920];
     let got = read_table(name, &mut table);
     io::write_all(libc::STDOUT_FILENO, name);
     io::write_all(libc::STDOUT_FILENO, b"\n");
@@ -101,7 +102,9 @@ fn run(kind: u64, name: &[u8]) {
 
 fn main() {
     run(1, b"certificates.bin");
-    run(2, b"pages.bin");
+    run(2, b"pages-1.bin");
+    run(2, b"pages-2.bin");
     run(3, b"lots-1.bin");
     run(3, b"lots-2.bin");
+    run(3, b"lots-3.bin");
 }

@@ -67,22 +67,19 @@ fn word_at(text: &[u8], at: usize) -> u64 {
     replay::next_word(text, at).value
 }
 
-fn put(text: &[u8], at: usize, cells: &mut [u64; 8192], index: &mut [u32; 193]) {
+// A put, or a replace.
+fn put(text: &[u8], at: usize, kind: u64, cells: &mut [u64; 8192], index: &mut [u32; 193]) {
     let second = replay::past(text, at);
     let third = replay::past(text, second);
     let mut room = [0u64; 8300];
     count_up(&mut room, word_at(text, third));
     let data = front(&room, replay::size_at(text, second));
-    replay::print_answer(slabs::put(cells, index, half(word_at(text, at)), data));
-}
-
-fn replace(text: &[u8], at: usize, cells: &mut [u64; 8192], index: &mut [u32; 193]) {
-    let second = replay::past(text, at);
-    let third = replay::past(text, second);
-    let mut room = [0u64; 8300];
-    count_up(&mut room, word_at(text, third));
-    let data = front(&room, replay::size_at(text, second));
-    replay::print_answer(slabs::replace(cells, index, half(word_at(text, at)), data));
+    let site = half(word_at(text, at));
+    if kind == 1 {
+        replay::print_answer(slabs::put(cells, index, site, data));
+    } else {
+        replay::print_answer(slabs::replace(cells, index, site, data));
+    }
 }
 
 fn drop(text: &[u8], at: usize, cells: &mut [u64; 8192], index: &mut [u32; 193]) {
@@ -92,22 +89,6 @@ fn drop(text: &[u8], at: usize, cells: &mut [u64; 8192], index: &mut [u32; 193])
 fn no_answer() {
     replay::print_word(0);
     replay::print_word(0);
-}
-
-fn clear_cells(cells: &mut [u64]) {
-    let mut i = 0;
-    while i < cells.len() {
-        cells[i] = 0;
-        i += 1;
-    }
-}
-
-fn clear_index(index: &mut [u32]) {
-    let mut i = 0;
-    while i < index.len() {
-        index[i] = 0;
-        i += 1;
-    }
 }
 
 fn set_cell(cells: &mut [u64], place: usize, bits: u64) {
@@ -125,8 +106,8 @@ fn set_index(index: &mut [u32], place: usize, value: u32) {
 fn poke(text: &[u8], at: usize, kind: u64, cells: &mut [u64; 8192], index: &mut [u32; 193]) {
     no_answer();
     if kind == 0 {
-        clear_cells(cells);
-        clear_index(index);
+        *cells = [0; 8192];
+        *index = [0; 193];
         return;
     }
     let second = replay::past(text, at);
@@ -141,7 +122,7 @@ fn poke(text: &[u8], at: usize, kind: u64, cells: &mut [u64; 8192], index: &mut 
 
 fn operate(text: &[u8], at: usize, kind: u64, cells: &mut [u64; 8192], index: &mut [u32; 193]) {
     if kind == 1 {
-        put(text, at, cells, index);
+        put(text, at, kind, cells, index);
         return;
     }
     if kind == 2 {
@@ -149,29 +130,24 @@ fn operate(text: &[u8], at: usize, kind: u64, cells: &mut [u64; 8192], index: &m
         return;
     }
     if kind == 3 {
-        replace(text, at, cells, index);
+        put(text, at, kind, cells, index);
         return;
     }
     poke(text, at, kind, cells, index);
 }
 
-// Where the text goes on after an operation.
-fn after(text: &[u8], at: usize, kind: u64) -> usize {
+// How many words an operation has.
+fn words_of(kind: u64) -> usize {
     if kind == 0 {
-        return at;
+        return 0;
     }
-    let second = replay::past(text, at);
     if kind == 2 {
-        return second;
+        return 1;
     }
-    let third = replay::past(text, second);
-    if kind == 1 {
-        return replay::past(text, third);
+    if kind < 4 {
+        return 3;
     }
-    if kind == 3 {
-        return replay::past(text, third);
-    }
-    third
+    2
 }
 
 fn run(text: &[u8]) {
@@ -187,12 +163,12 @@ fn run(text: &[u8]) {
         operate(text, next, kind.value, &mut cells, &mut index);
         print_slab(&cells, &index);
         replay::end_line();
-        at = after(text, next, kind.value);
+        at = replay::skip(text, next, words_of(kind.value));
     }
 }
 
 fn main() {
-    let mut text = [0u8; 262144];
+    let mut text = [0u8; 65536];
     let n = io::read_full(0, &mut text);
     run(&text[..n]);
 }

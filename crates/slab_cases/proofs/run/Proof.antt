@@ -28,8 +28,11 @@ print-slab-requires c κs = search needs
 end-line-requires : tie.Need-end-line-requires Inv-loop μ-loop
 end-line-requires c κs = search needs
 
-after-requires : tie.Need-after-requires Inv-loop μ-loop
-after-requires c κs = search needs
+words-of-requires : tie.Need-words-of-requires Inv-loop μ-loop
+words-of-requires c κs = search needs
+
+skip-requires : tie.Need-skip-requires Inv-loop μ-loop
+skip-requires c κs = search needs
 
 add-counter : tie.Need-add-counter Inv-loop μ-loop
 add-counter c = search needs
@@ -55,7 +58,8 @@ run-spec =
     operate-requires
     print-slab-requires
     end-line-requires
-    after-requires
+    words-of-requires
+    skip-requires
     add-counter
     loop-less
     loop-again
