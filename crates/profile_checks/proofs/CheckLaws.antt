@@ -5,13 +5,12 @@ use mathlib.Core.List.{List, [], _∷_}
 use Prim.Native.Nat.{ℕ, zero, suc, _+_, _-_, _*_, _/_, _^_, _≤_, _<_, min}
 use native.Mathlib.Numerals.{add-one}
 use native.Mathlib.Omega.{arith}
-use borrow.Author.Tests.{eqb-true, ltb-false, not-false}
 use lib.Dec.{eqb, ltb, leb}
 use lib.ListN.{length}
 use lib.Pow.{pow-mono}
 use lib.Ieee.{Float}
 use Rattle.answers.specs.Paper.{Reply, done, refuse, andThen, exactly, room}
-use Rattle.answers.proofs.PaperLaws.{both, refuse-done, andThen-done, refuse-small, after-small}
+use Rattle.answers.proofs.PaperLaws.{both, andThen-done, exactly-done, room-done, refuse-small, after-small}
 use Rattle.complex.specs.Cells.{components}
 use Rattle.complex.proofs.CellLaws.{components-small}
 use Rattle.qubits.specs.Lists.{stands, placesFrom, places, qubitSet, subsystem}
@@ -77,12 +76,6 @@ pub index-are : (n ranks marks scratch : ℕ) {cells side : ℕ} {r4 r5 r6 q1 q2
 unfolding indexLengths
 index-are n ranks marks scratch e f a4 a5 a6 b1 b2 =
     both b2 a4 (both b1 a5 (a6 ∙ ap₂ (λ (x y : ℕ). room 6 scratch (8 * x + 2 * y)) e f))
-
-exactly-done : (slice have need : ℕ) → exactly slice have need .0 ≡ 0 → have ≡ need
-exactly-done slice have need e = eqb-true have need (not-false (eqb have need) (refuse-done (not (eqb have need)) 5 slice done e .0))
-
-room-done : (slice have need : ℕ) → room slice have need .0 ≡ 0 → need ≤ have
-room-done slice have need e = ltb-false have need (refuse-done (ltb have need) 5 slice done e .0)
 
 -- ---- what an accepted call has passed
 

@@ -8,14 +8,16 @@ use native.Mathlib.Nat.{eq-or-lt-of-le}
 use native.Mathlib.Numerals.{add-one}
 use native.Mathlib.Omega.{arith}
 use lib.Dec.{leb, ltb, eqb}
-use lib.ListN.{length, getD, set, take, replicate, length-append, length-set, length-replicate, getD-replicate, List·getD-append}
-use lib.Seq.{sets, take-suc, take-all, length-take-le, getD-at, getD-set-same, getD-set-other, ext-getD}
+use lib.ListN.{length, getD, set, take, replicate, length-set, length-replicate, getD-replicate}
+use lib.Seq.{sets, take-suc, take-all, length-take-le, getD-set-same, getD-set-other, ext-getD}
 use borrow.Author.Tests.{eq-eqb, ne-eqb, leb-true, leb-false, ltb-true, ltb-false}
+use Rattle.tables.specs.Tables.{table}
+use Rattle.tables.proofs.TablesLaws.{length-table, table-at}
 use Rattle.slab_sites.specs.declared.Site.{Site}
 use Rattle.slab_sites.specs.Every.{every}
 use Rattle.slab_sites.specs.Sites.{siteAt, covers, inside, apartFrom, eachApart, held}
 use Rattle.slab_sites.proofs.EveryLaws.{every-none, every-more, every-bad, every-at, some-none, some-more, first-of, second-of}
-use Rattle.slab_cells.specs.Cells.{blank, clean, table, mapOf, marked, markedEntry, pasted, wiped}
+use Rattle.slab_cells.specs.Cells.{blank, clean, mapOf, marked, markedEntry, pasted, wiped}
 
 -- ---- a list with a part replaced
 
@@ -134,32 +136,18 @@ pub entry-marked : (x : Site) (i skip : ℕ) (map : List Bool) {next : List Bool
 unfolding markedEntry
 entry-marked x i skip map n e = rw (ne-eqb i skip n) e
 
-pub length-table : (p : ℕ → Bool) (m : ℕ) → length (table p m) ≡ m
-unfolding table
-length-table p zero = refl
-length-table p (suc m) = length-append (table p m) (p m ∷ []) ∙ omega (arith, length-table p m)
-
-pub table-at : (p : ℕ → Bool) (m c : ℕ) → c < m → getD (table p m) c false ≡ p c
-unfolding table
-table-at p zero c h = absurd (omega arith)
-table-at p (suc m) c h =
-    ⊎-elim
-    (λ (e : c ≡ m). ap (λ (x : ℕ). getD (table p m ++ p m ∷ []) x false) e ∙ getD-at (table p m) (p m) [] false m (length-table p m) ∙ ap p (sym e))
-    (λ (e : c < m). List·getD-append (table p m) (p m ∷ []) false c (omega (arith, length-table p m)) ∙ table-at p m c e)
-    (eq-or-lt-of-le (omega arith))
-
-pub table-ext : (p : ℕ → Bool) (m : ℕ) (l : List Bool) → length l ≡ m → ((c : ℕ) → c < m → getD l c false ≡ p c) → l ≡ table p m
+pub table-ext : (p : ℕ → Bool) (m : ℕ) (l : List Bool) → length l ≡ m → ((c : ℕ) → c < m → getD l c false ≡ p c) → l ≡ table m p
 table-ext p m l e f =
-    ext-getD false l (table p m) (e ∙ sym (length-table p m)) (λ c h. f c (omega arith) ∙ sym (table-at p m c (omega arith)))
+    ext-getD false l (table m p) (e ∙ sym (length-table m p)) (λ c h. f c (omega arith) ∙ sym (table-at false m c p (omega arith)))
 
 module _ (index : List ℕ) (skip : ℕ) where
   pub length-map : (n : ℕ) → length (mapOf index skip n) ≡ 4096
   unfolding mapOf
-  length-map n = length-table (held index skip n) 4096
+  length-map n = length-table 4096 (held index skip n)
 
   pub map-at : (n c : ℕ) → c < 4096 → getD (mapOf index skip n) c false ≡ held index skip n c
   unfolding mapOf
-  map-at n c h = table-at (held index skip n) 4096 c h
+  map-at n c h = table-at false 4096 c (held index skip n) h
 
   held-none : (c : ℕ) → held index skip 0 c ≡ false
   unfolding held

@@ -1,10 +1,11 @@
 -- The cells of a slab, as a list of 8,192 patterns, and which of them are held. Assumes nothing.
 use mathlib.Core.Bool.{Bool, true, false, cond, _&&_, _||_}
-use mathlib.Core.List.{List, [], _∷_, _++_}
+use mathlib.Core.List.{List}
 use Prim.Native.Nat.{ℕ, zero, suc, _+_, _*_}
 use lib.Dec.{eqb}
 use lib.ListN.{getD, set, replicate}
 use lib.Seq.{sets}
+use Rattle.tables.specs.Tables.{table}
 use Rattle.slab_sites.specs.declared.Site.{Site}
 use Rattle.slab_sites.specs.Every.{every}
 use Rattle.slab_sites.specs.Sites.{held}
@@ -17,14 +18,9 @@ blank cells c = eqb (getD cells (2 * c) 0) 0 && eqb (getD cells (2 * c + 1) 0) 0
 unfoldable pub clean : List Bool → List ℕ → Bool
 clean map cells = every (λ c. getD map c false || blank cells c) 4096
 
--- the test at the first m numbers
-unfoldable pub table : (ℕ → Bool) → ℕ → List Bool
-table p zero = []
-table p (suc m) = table p m ++ p m ∷ []
-
 -- which cells the first n sites hold, entry skip not counted
 unfoldable pub mapOf : List ℕ → ℕ → ℕ → List Bool
-mapOf index skip n = table (held index skip n) 4096
+mapOf index skip n = table 4096 (held index skip n)
 
 -- the map with the cells from start on held, count of them
 unfoldable pub marked : ℕ → ℕ → List Bool → List Bool

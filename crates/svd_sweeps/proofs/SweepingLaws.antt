@@ -2,7 +2,6 @@
 use mathlib.Core.Path.{_≡_}
 use mathlib.Core.List.{List, [], _∷_}
 use Prim.Native.Nat.{ℕ, _+_, _*_, _<_, _≤_}
-use native.Mathlib.Nat.{suc-mul, mul-le-mul-right}
 use native.Mathlib.Omega.{arith}
 use lib.Ieee.{Float}
 use lib.ListN.{length}
@@ -22,10 +21,6 @@ use Rattle.sweeps.proofs.Ceiling.{Ceiling, settled-within}
 
 pub v-kept : {n k l : ℕ} → k ≡ l → VRoom n l → VRoom n k
 v-kept e h = rw e h
-
--- the column p of n columns of m cells ends within n * m
-pub column-fits : (p n m : ℕ) → p < n → p * m + m ≤ n * m
-column-fits p n m h = rw (← suc-mul p m) (mul-le-mul-right m h)
 
 -- where there is no V nothing is done to it
 pub v-none : (d : Decision) (c a b m : ℕ) (v : List Float) → length v ≡ 0 → v ≡ applied d c a b m v

@@ -13,7 +13,7 @@ use Rattle.svd_gram.specs.Gram.{gramTo}
 use Rattle.svd_pair.specs.Decisions.{decisionOf}
 use Rattle.svd_pair.specs.Turns.{turnFactors, turnRows, applied}
 use Rattle.svd_pair.proofs.TurnsLaws.{row-other}
-use Rattle.svd_sweeps.proofs.SweepingLaws.{column-fits}
+use Rattle.whole_numbers.proofs.WholeLaws.{column-fits}
 use Rattle.svd_sweeps.specs.Untouched.{decisionAt}
 
 rows-other : (f : Factors) (xs : List Float) (c x a b k : ℕ) → x < c → a + k ≤ c → b + k ≤ c

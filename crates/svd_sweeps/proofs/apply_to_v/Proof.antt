@@ -3,7 +3,8 @@ use Prim.Native.Nat.{_+_, _*_, _≤_}
 use native.Mathlib.Nat.{mul-le-mul, pos-of-ne-zero}
 use native.Mathlib.Omega.{arith}
 use borrow.Author.Needs.{needs}
-use Rattle.svd_sweeps.proofs.SweepingLaws.{column-fits, v-none}
+use Rattle.whole_numbers.proofs.WholeLaws.{column-fits}
+use Rattle.svd_sweeps.proofs.SweepingLaws.{v-none}
 use Rattle.svd_sweeps.proofs.apply_to_v.Statement.{statement}
 use Rattle.svd_sweeps.proofs.apply_to_v.Tie as tie
 

@@ -1,6 +1,7 @@
 -- `svd_sweeps::pair` meets its contract: the decision is that of the definition, since its number and values are, and both matrices and the counts follow it. Assumes nothing.
 use Rattle.svd_pair.proofs.Theorems.{verdict-one}
-use Rattle.svd_sweeps.proofs.SweepingLaws.{column-fits, pair-made}
+use Rattle.whole_numbers.proofs.WholeLaws.{column-fits}
+use Rattle.svd_sweeps.proofs.SweepingLaws.{pair-made}
 use native.Mathlib.Omega.{arith}
 use Prim.Native.Nat.{_+_, _*_, _≤_}
 use borrow.Author.Needs.{needs}
