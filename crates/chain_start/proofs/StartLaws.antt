@@ -16,7 +16,7 @@ use lib.Ieee.{Float, nan, inf, fin, down, binary64, ofBits}
 use borrow.Author.Tests.{le-leb, leb-true, eqb-true, eqb-false}
 use Rattle.answers.specs.Paper.{done}
 use Rattle.complex.specs.declared.Complex.{Complex}
-use Rattle.svd_columns.proofs.Grids.{written-turn, columns-all}
+use Rattle.svd_columns.proofs.Grids.{written-step, columns-all}
 use Rattle.numbers.specs.Numbers.{allowedFor, allowed}
 use Rattle.complex.specs.Cells.{cellAt, setCell, cellsOf, written}
 use Rattle.chain_start.specs.Start.{componentsFor, stateZero, reversed, cellReversed, carriedFirst, TurnedTo, BlockRoom}
@@ -213,7 +213,7 @@ pub laid-more : (s : List Float) (n k : ℕ) (old : List Float) {u u' : List Flo
     → u ≡ written k (cellReversed s n) old → from ≡ reversed n k → z ≡ cellAt s from → u' ≡ setCell u k z
     → u' ≡ written (k + 1) (cellReversed s n) old
 unfolding cellReversed
-laid-more s n k old e h i f g j = written-turn (λ y. cellAt s (reversed n y)) old k (omega arith) i (g ∙ ap (cellAt s) f) j
+laid-more s n k old e h i f g j = written-step (λ y. cellAt s (reversed n y)) old k (omega arith) i (g ∙ ap (cellAt s) f) j
 
 -- one cell more of a block that starts at y times `count`
 pub block-more : (s : List Float) (low high y x count : ℕ) (old : List Float) {u u' : List Float} {from : ℕ} {z : Complex} → count ≡ 2 ^ low

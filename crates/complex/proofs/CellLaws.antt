@@ -29,7 +29,7 @@ pub length-written : (m : ℕ) (f : ℕ → Complex) (old : List Float) → 2 * 
 unfolding written
 length-written m f old h = length-append (cellsOf m f) (drop (2 * m) old) ∙ omega (arith, length-cells m f, length-drop (2 * m) old)
 
--- a turn of a loop that fills the cells in order
+-- a step of a loop that fills the cells in order
 pub written-more : (m : ℕ) (f : ℕ → Complex) (old : List Float) → 2 * m + 1 < length old
     → setCell (written m f old) m (f m) ≡ written (m + 1) f old
 unfolding written cellsOf

@@ -1,4 +1,4 @@
--- Laws of the work matrix of a cut: a turn of each of the two loops that gather it, and that it is the SVD's work matrix of the cut
+-- Laws of the work matrix of a cut: a step of each of the two loops that gather it, and that it is the SVD's work matrix of the cut
 -- matrix. Assumes nothing.
 use mathlib.Core.Path.{_≡_, refl, sym, ap, ap₂, _∙_}
 use mathlib.Core.Bool.{Bool, true, false}
@@ -60,10 +60,10 @@ module _ (n inner count bits at : ℕ) (b : Bool) (s o : List Float) (p : Column
     pub cell-in : (at + j < cells) × (cells + (at + j) < length work)
     cell-in = (omega (arith, p .last), omega (arith, p .last, p .room, i .long))
 
-    pub column-turn : (end : List Float) (z : Complex) (next : ℕ) → z ≡ shown b (cellAt s (bitOr inner-bits bits)) → end ≡ setPlane work cells (at + j) z
+    pub column-step : (end : List Float) (z : Complex) (next : ℕ) → z ≡ shown b (cellAt s (bitOr inner-bits bits)) → end ≡ setPlane work cells (at + j) z
         → next ≡ nextSubmask inner-bits inner → Column n inner count bits at b s o end (j + 1) next
     unfolding columnCell
-    column-turn end z next ez ee en =
+    column-step end z next ez ee en =
         let e : at + j - at ≡ j = omega arith in
         record {
           more = omega arith;
@@ -114,10 +114,10 @@ module _ (n inner outer count columns : ℕ) (b : Bool) (s o : List Float) (p : 
         let m : (at + j) % count ≡ j = ap (λ (x : ℕ). (x + j) % count) (i .number) ∙ digits-mod c k in
         rw (e, d, m, i .bits-is)
 
-    pub columns-turn : (end : List Float) (next : ℕ) → length end ≡ length work
+    pub columns-step : (end : List Float) (next : ℕ) → length end ≡ length work
         → end ≡ planesTo (2 ^ n) (columnCell n inner bits at b s) at count work → next ≡ nextSubmask bits outer
         → Columns n inner outer count columns b s o end (c + 1) (at + count) next
-    columns-turn end next el ee en = record {
+    columns-step end next el ee en = record {
       more = omega arith;
       bits-is = bits-more n outer c (p .small) (p .column-lt) (i .bits-is) en;
       number = column-next n inner outer count columns s o p work c at bits h (i .bits-is) (i .number) (i .long);

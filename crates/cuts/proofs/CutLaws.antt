@@ -1,4 +1,4 @@
--- Laws of the cut matrix: a turn of each of the two loops that gather it, the contract at each way out, and that only one outcome meets
+-- Laws of the cut matrix: a step of each of the two loops that gather it, the contract at each way out, and that only one outcome meets
 -- it. Assumes nothing.
 use mathlib.Core.Bool.{not}
 use mathlib.Core.Path.{_≡_, refl, sym, ap, ap₂, _∙_}
@@ -100,9 +100,9 @@ module _ (n row rows bits at : ℕ) (s o : List Float) (p : ColumnReady n row ro
     pub cell-in : 2 * (at + j) + 1 < length out
     cell-in = omega (arith, p .last, p .room, i .long)
 
-    pub column-turn : (end : List Float) (z : Complex) (next : ℕ) → z ≡ cellAt s (bitOr row-bits bits) → end ≡ setCell out (at + j) z
+    pub column-step : (end : List Float) (z : Complex) (next : ℕ) → z ≡ cellAt s (bitOr row-bits bits) → end ≡ setCell out (at + j) z
         → next ≡ nextSubmask row-bits row → Column n row rows bits at s o end (j + 1) next
-    column-turn end z next ez ee en = record {
+    column-step end z next ez ee en = record {
       more = omega arith;
       row-is = bits-more n row j (p .small) (p .row-lt) (i .row-is) en;
       long = rw ee (simp length-set (i .long));
@@ -142,10 +142,10 @@ module _ (n row column rows columns : ℕ) (s o : List Float) (p : CutReady n ro
     pub column-ready : ColumnReady n row rows bits at s out
     column-ready = column-there n row column rows columns s o p out c at bits h (i .bits-is) (i .number) (i .long)
 
-    pub columns-turn : (end : List Float) (next : ℕ) → length end ≡ length out
+    pub columns-step : (end : List Float) (next : ℕ) → length end ≡ length out
         → end ≡ setCells at (λ (j : ℕ). cellAt s (bitOr (submaskAt n row j) bits)) rows out → next ≡ nextSubmask bits column
         → Columns n row column rows columns s o end (c + 1) (at + rows) next
-    columns-turn end next el ee en = record {
+    columns-step end next el ee en = record {
       more = omega arith;
       bits-is = bits-more n column c (p .small) (p .column-lt) (i .bits-is) en;
       number = column-next n row column rows columns s o p out c at bits h (i .bits-is) (i .number) (i .long);

@@ -26,7 +26,7 @@ use Rattle.qubit_offsets.specs.Calls.{densityRefusal}
 use Rattle.qubit_offsets.proofs.CallLaws.{density-listed}
 use Rattle.density_entries.specs.Squares.{Square, entryAt, mirrored}
 use Rattle.density_entries.specs.Entries.{lowerEntry, densityCell}
-use Rattle.density_entries.specs.Filled.{EntriesReady, LowerTurns, tableEntry}
+use Rattle.density_entries.specs.Filled.{EntriesReady, LowerSteps, tableEntry}
 use Rattle.density_entries.specs.OffsetLoop.{OffsetSteps}
 use Rattle.density_entries.proofs.EntryLaws.{table-entry, mirrored-density}
 use Rattle.densities.specs.Density.{densityLengths, densityRest, densityAnswer, densityList, Density, DensityListed, DensityOver, DensityAccepted}
@@ -97,7 +97,7 @@ module _ (s : List Float) (n : ℕ) (l : List ℕ) (o : List Float) (p : Density
   -- the lower half filled and mirrored
   pub density-end : (dim rest groups : ℕ) (old table : List ℕ) (mid end : List Float) → dim ≡ 2 ^ length l → OffsetSteps l dim old table dim
       → rest ≡ others n (named l) → groups ≡ 2 ^ (n - length l)
-      → LowerTurns dim (tableEntry n s rest groups table) o mid (dim / 2) → end ≡ mirrored mid dim → end ≡ densityList n l s o
+      → LowerSteps dim (tableEntry n s rest groups table) o mid (dim / 2) → end ≡ mirrored mid dim → end ≡ densityList n l s o
   density-end dim rest groups old table mid end e t em eg i ee =
       let ev : dim % 2 ≡ 0 = rw e (even-power (length l) (p .some)) in
       let rows : (r c : ℕ) → r < dim → c ≤ r → entryAt mid dim r c ≡ lowerEntry n l s r c

@@ -79,10 +79,10 @@ index-small l j t h =
     let g : length (drop j l) ≤ 6 = omega (arith, length-drop j l) in
     omega (arith, index-lt (drop j l) t, side-small (length (drop j l)) g)
 
--- a turn of the loop that runs down the positions
-pub index-turn : (l : List ℕ) (j t index : ℕ) → 0 < j → j ≤ length l → index ≡ blockIndex (drop j l) t
+-- a step of the loop that runs down the positions
+pub index-step : (l : List ℕ) (j t index : ℕ) → 0 < j → j ≤ length l → index ≡ blockIndex (drop j l) t
     → t / 2 ^ getD l (j - 1) 0 % 2 + 2 * index ≡ blockIndex (drop (j - 1) l) t
-index-turn l j t index h g e =
+index-step l j t index h g e =
     let k = j - 1 in
     let s : j ≡ suc k = omega arith in
     ap (λ (x : ℕ). t / 2 ^ getD l k 0 % 2 + 2 * x) (e ∙ ap (λ (x : ℕ). blockIndex (drop x l) t) s) ∙ index-more l k t (omega arith)
@@ -112,7 +112,7 @@ factored-square s dim l f side p = record { small = p .small; room = omega (arit
 -- ---- the loops over the entries
 
 -- above row t every entry is multiplied, and the others are as they were
-pub record AllTurns (dim : ℕ) (g : ℕ → ℕ → Complex) (s end : List Float) (t : ℕ) : Type 0 where
+pub record AllSteps (dim : ℕ) (g : ℕ → ℕ → Complex) (s end : List Float) (t : ℕ) : Type 0 where
   pub within : t ≤ dim
   pub long : length end ≡ length s
   pub surplus : drop (2 * (dim * dim)) end ≡ drop (2 * (dim * dim)) s
@@ -123,9 +123,9 @@ pub row-begin : (dim t : ℕ) (g : ℕ → Complex) (s : List Float) → FactorS
 row-begin dim t g s =
     record { within = omega arith; long = refl; surplus = refl; reached = λ c h. absurd (omega arith); kept = λ r c a b n. refl }
 
-pub row-turn : (dim t : ℕ) (g : ℕ → Complex) (s now end : List Float) (u : ℕ) (z : Complex) → Square dim s → t < dim → FactorSteps dim t g s now u → u < dim
+pub row-step : (dim t : ℕ) (g : ℕ → Complex) (s now end : List Float) (u : ℕ) (z : Complex) → Square dim s → t < dim → FactorSteps dim t g s now u → u < dim
     → z ≡ product (entryAt now dim t u) (g u) → end ≡ setCell now (t * dim + u) z → FactorSteps dim t g s end (u + 1)
-row-turn dim t g s now end u z p ht i hu ez ee =
+row-step dim t g s now end u z p ht i hu ez ee =
     let inside = cell-in dim s t u p ht hu in
     let zs : z ≡ product (entryAt s dim t u) (g u) = ez ∙ ap (λ (x : Complex). product x (g u)) (i .kept t u ht hu (λ e h. omega arith)) in
     record {
@@ -147,13 +147,13 @@ row-turn dim t g s now end u z p ht i hu ez ee =
 pub row-end : (dim t : ℕ) (g : ℕ → Complex) (s end : List Float) (u : ℕ) → FactorSteps dim t g s end u → dim ≤ u → FactorSteps dim t g s end dim
 row-end dim t g s end u i h = let e : u ≡ dim = omega (arith, i .within) in subst (λ (x : ℕ). FactorSteps dim t g s end x) e i
 
-pub all-begin : (dim : ℕ) (g : ℕ → ℕ → Complex) (s : List Float) → AllTurns dim g s s 0
+pub all-begin : (dim : ℕ) (g : ℕ → ℕ → Complex) (s : List Float) → AllSteps dim g s s 0
 all-begin dim g s =
     record { within = omega arith; long = refl; surplus = refl; reached = λ r c h k. absurd (omega arith); kept = λ r c a b h. refl }
 
-pub all-turn : (dim : ℕ) (g : ℕ → ℕ → Complex) (s now end : List Float) (t : ℕ) → AllTurns dim g s now t → t < dim → FactorSteps dim t (g t) now end dim
-    → AllTurns dim g s end (t + 1)
-all-turn dim g s now end t i h j = record {
+pub all-step : (dim : ℕ) (g : ℕ → ℕ → Complex) (s now end : List Float) (t : ℕ) → AllSteps dim g s now t → t < dim → FactorSteps dim t (g t) now end dim
+    → AllSteps dim g s end (t + 1)
+all-step dim g s now end t i h j = record {
   within = omega arith;
   long = j .long ∙ i .long;
   surplus = j .surplus ∙ i .surplus;
@@ -168,7 +168,7 @@ all-turn dim g s now end t i h j = record {
 }
 
 pub all-end : (s : List Float) (dim : ℕ) (l : List ℕ) (f : List Float) (side : ℕ) (end : List Float) (t : ℕ) → length s ≡ 2 * (dim * dim)
-    → AllTurns dim (factorEntry l f side) s end t → dim ≤ t → end ≡ multiplied s dim l f side
+    → AllSteps dim (factorEntry l f side) s end t → dim ≤ t → end ≡ multiplied s dim l f side
 all-end s dim l f side end t room i h =
     table-end (dim * dim) (rowMajor dim (multipliedEntry s dim l f side)) s end (omega (arith, i .long)) (i .surplus)
     (λ k q.

@@ -16,8 +16,8 @@ use Rattle.density_entries.specs.Squares.{Square, entryAt}
 use Rattle.density_entries.proofs.MirroredLaws.{cell-in, same-row, same-column}
 use Rattle.density_entries.specs.Pairs.{setPair, RowIs}
 use Rattle.density_entries.proofs.PairsLaws.{length-setPair, past-pair, row-more, entry-kept}
-use Rattle.density_entries.specs.Filled.{LowerTurns}
-use Rattle.density_diagonal.specs.LeftRows.{LeftTurns}
+use Rattle.density_entries.specs.Filled.{LowerSteps}
+use Rattle.density_diagonal.specs.LeftRows.{LeftSteps}
 use Rattle.density_diagonal.specs.CornerRows.{cornerSet, cornerFilled}
 
 -- the two writes that set them
@@ -40,8 +40,8 @@ corner-filled f dim t old end last p q z ee el ez ep eq =
     (ez ∙ ap₂ complexOf (ap (λ (k : Complex). k .re) ep) (ap (λ (k : Complex). k .re) eq))
 
 -- a cell above the diagonal is none of the lower half's
-above-kept : (dim : ℕ) (f : ℕ → ℕ → Complex) (old now : List Float) (t r c : ℕ) (z : Complex) → r < c → c < dim → LowerTurns dim f old now t
-    → LowerTurns dim f old (setCell now (r * dim + c) z) t
+above-kept : (dim : ℕ) (f : ℕ → ℕ → Complex) (old now : List Float) (t r c : ℕ) (z : Complex) → r < c → c < dim → LowerSteps dim f old now t
+    → LowerSteps dim f old (setCell now (r * dim + c) z) t
 above-kept dim f old now t r c z h hc i = record {
   within = i .within;
   long = length-setCell now (r * dim + c) z ∙ i .long;
@@ -52,7 +52,7 @@ above-kept dim f old now t r c z h hc i = record {
 }
 
 module _ (dim : ℕ) (f : ℕ → ℕ → Complex) (old now mid : List Float) (t : ℕ) (p : Square dim old) (h : 2 * t + 1 < dim)
-    (i : LowerTurns dim f old now t) (j : LeftTurns dim t f now mid t) where
+    (i : LowerSteps dim f old now t) (j : LeftSteps dim t f now mid t) where
   abbrev one : List Float
   one = setCell mid (2 * t * dim + 2 * t) (f (2 * t) (2 * t))
 
@@ -88,7 +88,7 @@ module _ (dim : ℕ) (f : ℕ → ℕ → Complex) (old now mid : List Float) (t
       (λ (q : c < 2 * t). cell-other mid (2 * t * dim + 2 * t) (2 * t * dim + c) (f (2 * t) (2 * t)) (λ e. omega arith) ∙ j .upper .at c q)
       (eq-or-lt-of-le g)
 
-  whole : LowerTurns dim f old end (t + 1)
+  whole : LowerSteps dim f old end (t + 1)
   whole = record {
     within = omega arith;
     long = length-setPair one dim (2 * t + 1) (2 * t) (f (2 * t + 1) (2 * t)) (f (2 * t + 1) (2 * t + 1)) ∙ length-setCell mid (2 * t * dim + 2 * t) (f (2 * t) (2 * t)) ∙ j .long ∙ i .long;
@@ -106,8 +106,8 @@ module _ (dim : ℕ) (f : ℕ → ℕ → Complex) (old now mid : List Float) (t
   }
 
   -- TWO MORE ROWS
-  pub corner-lower : (last : List Float) → last ≡ cornerFilled f dim t mid → LowerTurns dim f old last (t + 1)
+  pub corner-lower : (last : List Float) → last ≡ cornerFilled f dim t mid → LowerSteps dim f old last (t + 1)
   unfolding cornerSet cornerFilled
   corner-lower last e =
-      subst (λ (x : List Float). LowerTurns dim f old x (t + 1)) (sym e)
+      subst (λ (x : List Float). LowerSteps dim f old x (t + 1)) (sym e)
       (above-kept dim f old end (t + 1) (2 * t) (2 * t + 1) (complexOf (f (2 * t) (2 * t) .re) (f (2 * t + 1) (2 * t + 1) .re)) (omega arith) h whole)

@@ -14,8 +14,8 @@ abbrev pub cornerOf : Float → Complex → Float → Corner
 cornerOf p z q = record { first = p; between = z; last = q }
 
 -- one more term to each
-unfoldable pub cornerTurn : Corner → Complex → Complex → Corner
-cornerTurn k a0 a1 = cornerOf (add binary64 (k .first) (normSqr a0)) (added (k .between) a1 a0) (add binary64 (k .last) (normSqr a1))
+unfoldable pub cornerStep : Corner → Complex → Complex → Corner
+cornerStep k a0 a1 = cornerOf (add binary64 (k .first) (normSqr a0)) (added (k .between) a1 a0) (add binary64 (k .last) (normSqr a1))
 
 -- the three entries over the first m submasks
 pub record CornerSums (n : ℕ) (s : List Float) (mask m a0 a1 : ℕ) (k : Corner) : Type 0 where

@@ -19,7 +19,7 @@ acrossSet s dim r c b =
     dim (c + 1) r (complexOf (b .second .re) (b .third .re)) (complexOf (b .second .im) (b .third .im))
 
 -- the rows 2t and 2t + 1 are f's left of column 2u, and the rows above them are as they were up to the diagonal
-pub record LeftTurns (dim t : ℕ) (f : ℕ → ℕ → Complex) (s end : List Float) (u : ℕ) : Type 0 where
+pub record LeftSteps (dim t : ℕ) (f : ℕ → ℕ → Complex) (s end : List Float) (u : ℕ) : Type 0 where
   pub within : u ≤ t
   pub long : length end ≡ length s
   pub surplus : drop (2 * (dim * dim)) end ≡ drop (2 * (dim * dim)) s

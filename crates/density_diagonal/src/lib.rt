@@ -8,9 +8,9 @@ ghost use Prim.Native.Nat.{_+_, _*_, _/_, _<_, _≤_};
 ghost use Rattle.components.specs.Every.{everyAllowed};
 ghost use Rattle.density_entries.specs.Squares.{Square};
 ghost use Rattle.density_entries.specs.Blocks.{Reach};
-ghost use Rattle.density_entries.specs.Filled.{tableEntry, EntriesReady, LowerTurns};
-ghost use Rattle.density_diagonal.specs.Corners.{cornerTurn, CornerSums};
-ghost use Rattle.density_diagonal.specs.LeftRows.{acrossSet, LeftTurns};
+ghost use Rattle.density_entries.specs.Filled.{tableEntry, EntriesReady, LowerSteps};
+ghost use Rattle.density_diagonal.specs.Corners.{cornerStep, CornerSums};
+ghost use Rattle.density_diagonal.specs.LeftRows.{acrossSet, LeftSteps};
 ghost use Rattle.density_diagonal.specs.CornerRows.{cornerFilled};
 
 // A diagonal block: the real parts of its two entries on the diagonal, and the entry below them.
@@ -21,8 +21,8 @@ pub struct Corner {
 }
 
 impl Corner {
-    fn turn(self, a0: Complex, a1: Complex) -> Corner
-        ensures { λ r. ⌜ r ≡ cornerTurn self a0 a1 ⌝ }
+    fn step(self, a0: Complex, a1: Complex) -> Corner
+        ensures { λ r. ⌜ r ≡ cornerStep self a0 a1 ⌝ }
     {
         let between = self.between;
         Corner {
@@ -49,7 +49,7 @@ fn corner_sums(state: &[f64], n: usize, mask: usize, groups: usize, a0: usize, a
     while e < groups {
         let x0 = complex::read_cell(state, a0 | base);
         let x1 = complex::read_cell(state, a1 | base);
-        corner = corner.turn(x0, x1);
+        corner = corner.step(x0, x1);
         base = submasks::next_submask(base, mask);
         e += 1;
     }
@@ -116,7 +116,7 @@ fn fill_left(
 )
     requires { ⌜ EntriesReady n (now state) mask (now offsets) dim ⌝ }
     requires { ⌜ Square dim (now out) × (2 * t + 1 < dim) ⌝ }
-    ensures { λ _. ⌜ LeftTurns dim t (tableEntry n (now (state .entry)) mask groups (now (offsets .entry))) (now (out .entry)) (now (out .exit)) t ⌝ }
+    ensures { λ _. ⌜ LeftSteps dim t (tableEntry n (now (state .entry)) mask groups (now (offsets .entry))) (now (out .entry)) (now (out .exit)) t ⌝ }
 {
     let r = 2 * t;
     let below = r + 1;
@@ -155,7 +155,7 @@ fn fill_blocks(
 )
     requires { ⌜ EntriesReady n (now state) mask (now offsets) dim × (everyAllowed (now state) ≡ true) ⌝ }
     requires { ⌜ Square dim (now out) ⌝ }
-    ensures { λ _. ⌜ LowerTurns dim (tableEntry n (now (state .entry)) mask groups (now (offsets .entry))) (now (out .entry)) (now (out .exit)) (dim / 2) ⌝ }
+    ensures { λ _. ⌜ LowerSteps dim (tableEntry n (now (state .entry)) mask groups (now (offsets .entry))) (now (out .entry)) (now (out .exit)) (dim / 2) ⌝ }
 {
     let half = dim / 2;
     let mut t: usize = 0;
@@ -179,7 +179,7 @@ pub fn fill_lower(
 )
     requires { ⌜ EntriesReady n (now state) mask (now offsets) dim × (everyAllowed (now state) ≡ true) ⌝ }
     requires { ⌜ Square dim (now out) × (groups * dim ≤ 4096) ⌝ }
-    ensures { λ _. ⌜ LowerTurns dim (tableEntry n (now (state .entry)) mask groups (now (offsets .entry))) (now (out .entry)) (now (out .exit)) (dim / 2) ⌝ }
+    ensures { λ _. ⌜ LowerSteps dim (tableEntry n (now (state .entry)) mask groups (now (offsets .entry))) (now (out .entry)) (now (out .exit)) (dim / 2) ⌝ }
 {
     if n < 10 {
         fill_blocks(state, n, mask, groups, offsets, dim, out);

@@ -44,9 +44,9 @@ lower-by-submasks n l s t u p =
 pub offset-begin : (l : List ℕ) (dim : ℕ) (old : List ℕ) → OffsetSteps l dim old old 0
 offset-begin l dim old = record { within = omega arith; long = refl; are = λ k h. absurd (omega arith) }
 
-pub offset-turn : (l : List ℕ) (dim : ℕ) (old now : List ℕ) (t x : ℕ) → OffsetSteps l dim old now t → t < dim → dim ≤ length old → x ≡ rowOffset l t
+pub offset-step : (l : List ℕ) (dim : ℕ) (old now : List ℕ) (t x : ℕ) → OffsetSteps l dim old now t → t < dim → dim ≤ length old → x ≡ rowOffset l t
     → OffsetSteps l dim old (set now t x) (t + 1)
-offset-turn l dim old now t x i h room e = record {
+offset-step l dim old now t x i h room e = record {
   within = omega arith;
   long = length-set now t x ∙ i .long;
   are = λ k g.

@@ -13,7 +13,7 @@ use Rattle.density_entries.specs.Blocks.{Reach}
 use Rattle.density_entries.specs.Squares.{Square, entryAt}
 use Rattle.density_entries.specs.Pairs.{setPair, RowIs}
 use Rattle.density_entries.proofs.PairsLaws.{length-setPair, past-pair, row-more, row-kept, entry-kept}
-use Rattle.density_entries.specs.Filled.{EntriesReady, PairTurns, LowerTurns}
+use Rattle.density_entries.specs.Filled.{EntriesReady, PairSteps, LowerSteps}
 
 -- four offsets of the table
 pub ready-reach : (n : ℕ) (s : List Float) (mask : ℕ) (offsets : List ℕ) (dim r c : ℕ) → EntriesReady n s mask offsets dim → r + 1 < dim → c + 1 < dim
@@ -28,7 +28,7 @@ ready-reach n s mask offsets dim r c p hr hc = record {
   b1-lt = p .below (c + 1) hc;
 }
 
-pub pair-begin : (dim t : ℕ) (f : ℕ → ℕ → Complex) (s : List Float) → PairTurns dim t f s s 0
+pub pair-begin : (dim t : ℕ) (f : ℕ → ℕ → Complex) (s : List Float) → PairSteps dim t f s s 0
 pair-begin dim t f s = record {
   within = omega arith;
   long = refl;
@@ -39,11 +39,11 @@ pair-begin dim t f s = record {
 }
 
 module _ (dim t : ℕ) (f : ℕ → ℕ → Complex) (s now end : List Float) (u : ℕ) (b : Block) (p : Square dim s) (ht : 2 * t + 1 < dim) where
-  pub pair-turn : PairTurns dim t f s now u → u < t + 1
+  pub pair-step : PairSteps dim t f s now u → u < t + 1
       → b .first ≡ f (2 * t) (2 * u) → b .second ≡ f (2 * t) (2 * u + 1) → b .third ≡ f (2 * t + 1) (2 * u) → b .fourth ≡ f (2 * t + 1) (2 * u + 1)
       → end ≡ setPair (setPair now dim (2 * t) (2 * u) (b .first) (b .second)) dim (2 * t + 1) (2 * u) (b .third) (b .fourth)
-      → PairTurns dim t f s end (u + 1)
-  pair-turn i h e1 e2 e3 e4 ee =
+      → PairSteps dim t f s end (u + 1)
+  pair-step i h e1 e2 e3 e4 ee =
       let mid = setPair now dim (2 * t) (2 * u) (b .first) (b .second) in
       let last = setPair mid dim (2 * t + 1) (2 * u) (b .third) (b .fourth) in
       let hc : 2 * u + 1 < dim = omega arith in
@@ -57,7 +57,7 @@ module _ (dim t : ℕ) (f : ℕ → ℕ → Complex) (s now end : List Float) (u
       let low : RowIs last dim (2 * t + 1) (2 * u + 2) (f (2 * t + 1))
       = row-more mid dim (2 * t + 1) (2 * u) (b .third) (b .fourth) pm ht hc (f (2 * t + 1)) e3 e4
       (row-kept now dim (2 * t) (2 * u) (b .first) (b .second) (2 * t + 1) (2 * u) (f (2 * t + 1)) hc (omega arith) (λ e. omega arith) (i .lower)) in
-      let whole : PairTurns dim t f s last (u + 1)
+      let whole : PairSteps dim t f s last (u + 1)
       = record {
         within = omega arith;
         long = length-setPair mid dim (2 * t + 1) (2 * u) (b .third) (b .fourth) ∙ lm ∙ i .long;
@@ -69,11 +69,11 @@ module _ (dim t : ℕ) (f : ℕ → ℕ → Complex) (s now end : List Float) (u
             entry-kept mid dim (2 * t + 1) (2 * u) (b .third) (b .fourth) r c hc g (λ e. omega arith)
             ∙ entry-kept now dim (2 * t) (2 * u) (b .first) (b .second) r c hc g (λ e. omega arith) ∙ i .kept r c hr g;
       } in
-      subst (λ (x : List Float). PairTurns dim t f s x (u + 1)) (sym ee) whole
+      subst (λ (x : List Float). PairSteps dim t f s x (u + 1)) (sym ee) whole
 
--- a loop's last turn
-pub pair-end : (dim t : ℕ) (f : ℕ → ℕ → Complex) (s end : List Float) (u stop : ℕ) → PairTurns dim t f s end u → stop ≤ u → stop ≤ t + 1
-    → PairTurns dim t f s end stop
+-- a loop's last step
+pub pair-end : (dim t : ℕ) (f : ℕ → ℕ → Complex) (s end : List Float) (u stop : ℕ) → PairSteps dim t f s end u → stop ≤ u → stop ≤ t + 1
+    → PairSteps dim t f s end stop
 pair-end dim t f s end u stop i h g = record {
   within = g;
   long = i .long;
@@ -83,12 +83,12 @@ pair-end dim t f s end u stop i h g = record {
   kept = i .kept;
 }
 
-pub lower-begin : (dim : ℕ) (f : ℕ → ℕ → Complex) (s : List Float) → LowerTurns dim f s s 0
+pub lower-begin : (dim : ℕ) (f : ℕ → ℕ → Complex) (s : List Float) → LowerSteps dim f s s 0
 lower-begin dim f s = record { within = omega arith; long = refl; surplus = refl; rows = λ r c h g. absurd (omega arith) }
 
-pub lower-turn : (dim : ℕ) (f : ℕ → ℕ → Complex) (s now end : List Float) (t : ℕ) → LowerTurns dim f s now t → 2 * t + 1 < dim
-    → PairTurns dim t f now end (t + 1) → LowerTurns dim f s end (t + 1)
-lower-turn dim f s now end t i h j = record {
+pub lower-step : (dim : ℕ) (f : ℕ → ℕ → Complex) (s now end : List Float) (t : ℕ) → LowerSteps dim f s now t → 2 * t + 1 < dim
+    → PairSteps dim t f now end (t + 1) → LowerSteps dim f s end (t + 1)
+lower-step dim f s now end t i h j = record {
   within = omega arith;
   long = j .long ∙ i .long;
   surplus = j .surplus ∙ i .surplus;
@@ -103,6 +103,6 @@ lower-turn dim f s now end t i h j = record {
       (eq-or-lt-of-le (omega arith));
 }
 
-pub lower-end : (dim : ℕ) (f : ℕ → ℕ → Complex) (s end : List Float) (t : ℕ) → dim % 2 ≡ 0 → LowerTurns dim f s end t → dim / 2 ≤ t
-    → LowerTurns dim f s end (dim / 2)
-lower-end dim f s end t ev i h = let e : t ≡ dim / 2 = omega (arith, i .within) in subst (λ (x : ℕ). LowerTurns dim f s end x) e i
+pub lower-end : (dim : ℕ) (f : ℕ → ℕ → Complex) (s end : List Float) (t : ℕ) → dim % 2 ≡ 0 → LowerSteps dim f s end t → dim / 2 ≤ t
+    → LowerSteps dim f s end (dim / 2)
+lower-end dim f s end t ev i h = let e : t ≡ dim / 2 = omega (arith, i .within) in subst (λ (x : ℕ). LowerSteps dim f s end x) e i

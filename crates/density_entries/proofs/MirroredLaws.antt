@@ -17,7 +17,7 @@ use Rattle.complex.specs.Cells.{cellAt, setCell, cellsOf, written}
 use Rattle.complex.proofs.Loops.{cond-yes, cond-no}
 use Rattle.density_entries.proofs.CellChanges.{length-setCell, cell-same, cell-other, past-cells, whole}
 use Rattle.density_entries.specs.Squares.{Square, entryAt, mirrorCell, mirroredEntry}
-use Rattle.density_entries.specs.Mirrored.{ColumnTurns}
+use Rattle.density_entries.specs.Mirrored.{ColumnSteps}
 
 pub square-small : (dim : ℕ) → dim ≤ 64 → dim * dim ≤ 4096
 square-small dim h = mul-le-mul h h
@@ -44,12 +44,12 @@ pub record MirrorSteps (dim : ℕ) (s end : List Float) (t : ℕ) : Type 0 where
   pub mirrored : (r c : ℕ) → r < c → c < t → entryAt end dim r c ≡ conjugate (entryAt s dim c r)
   pub kept : (r c : ℕ) → r < dim → c < dim → (r < c → c < t → ⊥) → entryAt end dim r c ≡ entryAt s dim r c
 
-pub column-begin : (dim t : ℕ) (s : List Float) → ColumnTurns dim t s s 0
+pub column-begin : (dim t : ℕ) (s : List Float) → ColumnSteps dim t s s 0
 column-begin dim t s = record { within = omega arith; long = refl; surplus = refl; mirrored = λ r h. absurd (omega arith); kept = λ r c a b n. refl }
 
-pub column-turn : (dim t : ℕ) (s now end : List Float) (u : ℕ) (z : Complex) → Square dim s → t < dim → ColumnTurns dim t s now u → u < t
-    → z ≡ conjugate (entryAt now dim t u) → end ≡ setCell now (u * dim + t) z → ColumnTurns dim t s end (u + 1)
-column-turn dim t s now end u z p ht i hu ez ee =
+pub column-step : (dim t : ℕ) (s now end : List Float) (u : ℕ) (z : Complex) → Square dim s → t < dim → ColumnSteps dim t s now u → u < t
+    → z ≡ conjugate (entryAt now dim t u) → end ≡ setCell now (u * dim + t) z → ColumnSteps dim t s end (u + 1)
+column-step dim t s now end u z p ht i hu ez ee =
     let inside = cell-in dim s u t p (omega arith) ht in
     let zs : z ≡ conjugate (entryAt s dim t u) = ez ∙ ap conjugate (i .kept t u ht (omega arith) (λ e h. omega arith)) in
     record {
@@ -69,9 +69,9 @@ column-turn dim t s now end u z p ht i hu ez ee =
           ∙ i .kept r c hr hc (λ e h. n e (omega arith));
     }
 
--- a loop's last turn
-pub column-end : (dim t : ℕ) (s end : List Float) (u : ℕ) → ColumnTurns dim t s end u → t ≤ u → ColumnTurns dim t s end t
-column-end dim t s end u i h = let e : u ≡ t = omega (arith, i .within) in subst (λ (x : ℕ). ColumnTurns dim t s end x) e i
+-- a loop's last step
+pub column-end : (dim t : ℕ) (s end : List Float) (u : ℕ) → ColumnSteps dim t s end u → t ≤ u → ColumnSteps dim t s end t
+column-end dim t s end u i h = let e : u ≡ t = omega (arith, i .within) in subst (λ (x : ℕ). ColumnSteps dim t s end x) e i
 
 pub row-end : (dim : ℕ) (s end : List Float) (t : ℕ) → MirrorSteps dim s end t → dim ≤ t → MirrorSteps dim s end dim
 row-end dim s end t i h = let e : t ≡ dim = omega (arith, i .within) in subst (λ (x : ℕ). MirrorSteps dim s end x) e i
@@ -79,8 +79,8 @@ row-end dim s end t i h = let e : t ≡ dim = omega (arith, i .within) in subst 
 pub row-begin : (dim : ℕ) (s : List Float) → MirrorSteps dim s s 0
 row-begin dim s = record { within = omega arith; long = refl; surplus = refl; mirrored = λ r c g h. absurd (omega arith); kept = λ r c a b n. refl }
 
-pub row-turn : (dim : ℕ) (s now end : List Float) (t : ℕ) → MirrorSteps dim s now t → t < dim → ColumnTurns dim t now end t → MirrorSteps dim s end (t + 1)
-row-turn dim s now end t i ht j = record {
+pub row-step : (dim : ℕ) (s now end : List Float) (t : ℕ) → MirrorSteps dim s now t → t < dim → ColumnSteps dim t now end t → MirrorSteps dim s end (t + 1)
+row-step dim s now end t i ht j = record {
   within = omega arith;
   long = j .long ∙ i .long;
   surplus = j .surplus ∙ i .surplus;

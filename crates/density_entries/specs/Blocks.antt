@@ -17,8 +17,8 @@ abbrev pub added : Complex → Complex → Complex → Complex
 added s a b = sumOf s (product a (conjugate b))
 
 -- one more term to each of the four
-unfoldable pub blockTurn : Block → Complex → Complex → Complex → Complex → Block
-blockTurn k a0 a1 b0 b1 = blockOf (added (k .first) a0 b0) (added (k .second) a0 b1) (added (k .third) a1 b0) (added (k .fourth) a1 b1)
+unfoldable pub blockStep : Block → Complex → Complex → Complex → Complex → Block
+blockStep k a0 a1 b0 b1 = blockOf (added (k .first) a0 b0) (added (k .second) a0 b1) (added (k .third) a1 b0) (added (k .fourth) a1 b1)
 
 -- the four sums over the first m submasks
 unfoldable pub blockSums : ℕ → List Float → ℕ → ℕ → ℕ → ℕ → ℕ → ℕ → Block

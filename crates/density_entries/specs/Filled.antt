@@ -1,4 +1,4 @@
--- The loops that fill the lower half by blocks: what each knows at its head, and one turn of each. Assumes nothing.
+-- The loops that fill the lower half by blocks: what each knows at its head, and one step of each. Assumes nothing.
 use mathlib.Core.Path.{_≡_}
 use mathlib.Core.List.{List}
 use Prim.Native.Nat.{ℕ, _+_, _*_, _%_, _≤_, _<_, _^_}
@@ -23,7 +23,7 @@ pub record EntriesReady (n : ℕ) (s : List Float) (mask : ℕ) (offsets : List 
   pub below : (t : ℕ) → t < dim → getD offsets t 0 < 2 ^ n
 
 -- the rows 2t and 2t + 1 are f's left of column 2u, and the rows above them are as they were
-pub record PairTurns (dim t : ℕ) (f : ℕ → ℕ → Complex) (s end : List Float) (u : ℕ) : Type 0 where
+pub record PairSteps (dim t : ℕ) (f : ℕ → ℕ → Complex) (s end : List Float) (u : ℕ) : Type 0 where
   pub within : u ≤ t + 1
   pub long : length end ≡ length s
   pub surplus : drop (2 * (dim * dim)) end ≡ drop (2 * (dim * dim)) s
@@ -32,7 +32,7 @@ pub record PairTurns (dim t : ℕ) (f : ℕ → ℕ → Complex) (s end : List F
   pub kept : (r c : ℕ) → r < 2 * t → c < dim → entryAt end dim r c ≡ entryAt s dim r c
 
 -- the rows above 2t are f's up to the diagonal
-pub record LowerTurns (dim : ℕ) (f : ℕ → ℕ → Complex) (s end : List Float) (t : ℕ) : Type 0 where
+pub record LowerSteps (dim : ℕ) (f : ℕ → ℕ → Complex) (s end : List Float) (t : ℕ) : Type 0 where
   pub within : 2 * t ≤ dim
   pub long : length end ≡ length s
   pub surplus : drop (2 * (dim * dim)) end ≡ drop (2 * (dim * dim)) s

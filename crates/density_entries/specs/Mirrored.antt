@@ -1,4 +1,4 @@
--- The mirror's loops: what each knows at its head, and one turn of each. Assumes nothing.
+-- The mirror's loops: what each knows at its head, and one step of each. Assumes nothing.
 use mathlib.Core.Path.{_≡_}
 use mathlib.Core.List.{List}
 use Prim.Native.Nat.{ℕ, _*_, _≤_, _<_}
@@ -8,7 +8,7 @@ use Rattle.complex.specs.Arithmetic.{conjugate}
 use Rattle.density_entries.specs.Squares.{entryAt}
 
 -- above row u the column t is the conjugate of the row t, and every other cell is as it was
-pub record ColumnTurns (dim t : ℕ) (s end : List Float) (u : ℕ) : Type 0 where
+pub record ColumnSteps (dim t : ℕ) (s end : List Float) (u : ℕ) : Type 0 where
   pub within : u ≤ t
   pub long : length end ≡ length s
   pub surplus : drop (2 * (dim * dim)) end ≡ drop (2 * (dim * dim)) s

@@ -5,11 +5,11 @@ ghost use Prim.Native.Nat.{_+_, _*_, _/_, _<_, _≤_};
 ghost use lib.ListN.{length};
 ghost use Rattle.qubits.specs.Lists.{Listed};
 ghost use Rattle.density_entries.specs.Squares.{mirrored, Square};
-ghost use Rattle.density_entries.specs.Blocks.{blockTurn, blockSums, Reach};
+ghost use Rattle.density_entries.specs.Blocks.{blockStep, blockSums, Reach};
 ghost use Rattle.density_entries.specs.Pairs.{setPair};
-ghost use Rattle.density_entries.specs.Filled.{tableEntry, EntriesReady, PairTurns, LowerTurns};
+ghost use Rattle.density_entries.specs.Filled.{tableEntry, EntriesReady, PairSteps, LowerSteps};
 ghost use Rattle.density_entries.specs.OffsetLoop.{OffsetSteps};
-ghost use Rattle.density_entries.specs.Mirrored.{ColumnTurns};
+ghost use Rattle.density_entries.specs.Mirrored.{ColumnSteps};
 
 // Four entries, two rows by two columns, row after row.
 pub struct Block {
@@ -20,8 +20,8 @@ pub struct Block {
 }
 
 impl Block {
-    fn turn(self, a0: Complex, a1: Complex, b0: Complex, b1: Complex) -> Block
-        ensures { λ r. ⌜ r ≡ blockTurn self a0 a1 b0 b1 ⌝ }
+    fn step(self, a0: Complex, a1: Complex, b0: Complex, b1: Complex) -> Block
+        ensures { λ r. ⌜ r ≡ blockStep self a0 a1 b0 b1 ⌝ }
     {
         let p = self.first;
         let q = self.second;
@@ -64,7 +64,7 @@ pub fn block_sums(
         let x1 = complex::read_cell(state, a1 | base);
         let y0 = complex::read_cell(state, b0 | base);
         let y1 = complex::read_cell(state, b1 | base);
-        block = block.turn(x0, x1, y0, y1);
+        block = block.step(x0, x1, y0, y1);
         base = submasks::next_submask(base, mask);
         e += 1;
     }
@@ -94,7 +94,7 @@ fn fill_row_pair(
 )
     requires { ⌜ EntriesReady n (now state) mask (now offsets) dim ⌝ }
     requires { ⌜ Square dim (now out) × (2 * t + 1 < dim) ⌝ }
-    ensures { λ _. ⌜ PairTurns dim t (tableEntry n (now (state .entry)) mask groups (now (offsets .entry))) (now (out .entry)) (now (out .exit)) (t + 1) ⌝ }
+    ensures { λ _. ⌜ PairSteps dim t (tableEntry n (now (state .entry)) mask groups (now (offsets .entry))) (now (out .entry)) (now (out .exit)) (t + 1) ⌝ }
 {
     let r = 2 * t;
     let below = r + 1;
@@ -124,7 +124,7 @@ pub fn fill_lower(
 )
     requires { ⌜ EntriesReady n (now state) mask (now offsets) dim ⌝ }
     requires { ⌜ Square dim (now out) ⌝ }
-    ensures { λ _. ⌜ LowerTurns dim (tableEntry n (now (state .entry)) mask groups (now (offsets .entry))) (now (out .entry)) (now (out .exit)) (dim / 2) ⌝ }
+    ensures { λ _. ⌜ LowerSteps dim (tableEntry n (now (state .entry)) mask groups (now (offsets .entry))) (now (out .entry)) (now (out .exit)) (dim / 2) ⌝ }
 {
     let half = dim / 2;
     let mut t: usize = 0;
@@ -150,7 +150,7 @@ pub fn fill_offsets(list: &[usize], n: usize, dim: usize, offsets: &mut [usize])
 // The column t above the diagonal becomes the conjugate of the row t before it.
 fn mirror_column(rho: &mut [f64], dim: usize, t: usize)
     requires { ⌜ Square dim (now rho) × (t < dim) ⌝ }
-    ensures { λ _. ⌜ ColumnTurns dim t (now (rho .entry)) (now (rho .exit)) t ⌝ }
+    ensures { λ _. ⌜ ColumnSteps dim t (now (rho .entry)) (now (rho .exit)) t ⌝ }
 {
     let mut u: usize = 0;
     while u < t {

@@ -1,4 +1,4 @@
--- Laws of the density from the cut matrix: the cell of a setting and a traced index as a union of two submasks, a turn of each loop, the
+-- Laws of the density from the cut matrix: the cell of a setting and a traced index as a union of two submasks, a step of each loop, the
 -- stages, and the contract at each way out. Assumes nothing.
 use mathlib.Core.Bool.{not}
 use mathlib.Core.Path.{_≡_, refl, sym, ap, ap₂, _∙_}
@@ -29,7 +29,7 @@ use Rattle.complex.proofs.CellLaws.{cells-same}
 use Rattle.density_entries.specs.Squares.{Square, entryAt, mirrorCell, mirrored, mirroredEntry, rowMajor}
 use Rattle.density_entries.proofs.MirroredLaws.{row-of, column-of}
 use Rattle.density_entries.specs.Entries.{entrySum}
-use Rattle.density_entries.specs.Filled.{EntriesReady, LowerTurns, tableEntry}
+use Rattle.density_entries.specs.Filled.{EntriesReady, LowerSteps, tableEntry}
 use Rattle.density_entries.proofs.EntryLaws.{mirrored-same}
 use Rattle.densities.proofs.DensityLaws.{positive, side-small, even-power}
 use Rattle.cut_sides.specs.declared.Sides.{Sides}
@@ -196,9 +196,9 @@ module _ (l : List ℕ) (n scale dim : ℕ) (old : List ℕ) where
   pub numbers-begin : Numbers l n scale dim old old 0
   numbers-begin = record { within = omega arith; long = refl; are = λ k h. absurd (omega arith) }
 
-  pub numbers-turn : (now : List ℕ) (t x : ℕ) → Numbers l n scale dim old now t → t < dim → dim ≤ length old → x ≡ numberOf n l t * scale
+  pub numbers-step : (now : List ℕ) (t x : ℕ) → Numbers l n scale dim old now t → t < dim → dim ≤ length old → x ≡ numberOf n l t * scale
       → Numbers l n scale dim old (set now t x) (t + 1)
-  numbers-turn now t x i h room e = record {
+  numbers-step now t x i h room e = record {
     within = omega arith;
     long = length-set now t x ∙ i .long;
     are = λ k g.
@@ -241,7 +241,7 @@ module _ (m : List Float) (n : ℕ) (l : List ℕ) (o : List Float) (p : Recount
   }
 
   pub recount-end : (dim groups : ℕ) (old table : List ℕ) (mid end : List Float) → dim ≡ 2 ^ length l → Numbers l n (z .scale) dim old table dim
-      → groups ≡ 2 ^ (n - length l) → LowerTurns dim (tableEntry n m (z .mask) groups table) o mid (dim / 2) → end ≡ mirrored mid dim
+      → groups ≡ 2 ^ (n - length l) → LowerSteps dim (tableEntry n m (z .mask) groups table) o mid (dim / 2) → end ≡ mirrored mid dim
       → end ≡ recounted n l m o
   recount-end dim groups old table mid end e t eg i ee =
       let ev : dim % 2 ≡ 0 = rw e (even-power (length l) (p .some)) in

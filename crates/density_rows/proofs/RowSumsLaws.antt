@@ -18,9 +18,9 @@ use Rattle.density_entries.specs.Entries.{total}
 use Rattle.density_entries.proofs.CellChanges.{length-setCell, cell-same, cell-other, past-cells}
 use Rattle.density_entries.specs.Squares.{Square, entryAt}
 use Rattle.density_entries.proofs.MirroredLaws.{cell-in, same-row}
-use Rattle.density_entries.specs.Filled.{tableEntry, PairTurns, LowerTurns}
+use Rattle.density_entries.specs.Filled.{tableEntry, PairSteps, LowerSteps}
 use Rattle.density_rows.specs.Gathered.{amplitudeOf, Gathered}
-use Rattle.density_rows.specs.TwoRows.{TermTurns, Added}
+use Rattle.density_rows.specs.TwoRows.{TermSteps, Added}
 use Rattle.density_rows.proofs.TwoRowsLaws.{added-same}
 use Rattle.density_rows.specs.RowSums.{planeEntry, ZeroSums, SumsAre, PairSums, RowSumSteps}
 
@@ -69,8 +69,8 @@ module _ (planes : List Float) (dim r m : ℕ) where
     at = λ k g. t .more k g ∙ added-same (i .at k g) ea refl ∙ total-more e (λ d. product (planeAt planes 4096 (d * dim + row)) (conjugate (planeAt planes 4096 (d * dim + k))));
   }
 
-  pub sums-turn : (now end : List Float) (e : ℕ) → PairSums planes dim r m now e → TermTurns planes (e * dim) r now end m → PairSums planes dim r m end (e + 1)
-  sums-turn now end e i t =
+  pub sums-step : (now end : List Float) (e : ℕ) → PairSums planes dim r m now e → TermSteps planes (e * dim) r now end m → PairSums planes dim r m end (e + 1)
+  sums-step now end e i t =
       let next : e * dim + r + 1 ≡ e * dim + (r + 1) = omega arith in
       record {
         long = t .long ∙ i .long;
@@ -87,9 +87,9 @@ module _ (sums : List Float) (w dim r : ℕ) (old : List Float) where
   pub row-begin : RowSumSteps sums w dim r old old 0
   row-begin = record { long = refl; surplus = refl; row = record { at = λ c h. absurd (omega arith) }; kept = λ r′ c h n. refl }
 
-  pub row-turn : (now end : List Float) (u m : ℕ) (z : Complex) → Square dim old → r < dim → m ≤ dim → RowSumSteps sums w dim r old now u → u < m
+  pub row-step : (now end : List Float) (u m : ℕ) (z : Complex) → Square dim old → r < dim → m ≤ dim → RowSumSteps sums w dim r old now u → u < m
       → z ≡ planeAt sums 128 (w + u) → end ≡ setCell now (r * dim + u) z → RowSumSteps sums w dim r old end (u + 1)
-  row-turn now end u m z p hr hm i h ez ee =
+  row-step now end u m z p hr hm i h ez ee =
       let hu : u < dim = omega arith in
       record {
         long = ap length ee ∙ length-setCell now (r * dim + u) z ∙ i .long;
@@ -115,7 +115,7 @@ module _ (sums : List Float) (w dim r : ℕ) (old : List Float) where
 -- both rows
 pub pair-written : (planes : List Float) (groups dim t : ℕ) (sums old mid end : List Float) → 2 * t + 1 < dim → PairSums planes dim (2 * t) (2 * t + 2) sums groups
     → RowSumSteps sums 0 dim (2 * t) old mid (2 * t + 2) → RowSumSteps sums 64 dim (2 * t + 1) mid end (2 * t + 2)
-    → PairTurns dim t (planeEntry planes dim groups) old end (t + 1)
+    → PairSteps dim t (planeEntry planes dim groups) old end (t + 1)
 pair-written planes groups dim t sums old mid end h s a b = record {
   within = omega arith;
   long = b .long ∙ a .long;
@@ -129,7 +129,7 @@ pair-written planes groups dim t sums old mid end h s a b = record {
 
 -- the lower half from the planes is the lower half from the state
 pub lower-from-planes : (n : ℕ) (s : List Float) (mask : ℕ) (offsets : List ℕ) (dim m : ℕ) (planes old end : List Float) (t : ℕ)
-    → Gathered (amplitudeOf n s mask offsets) dim planes m → LowerTurns dim (planeEntry planes dim m) old end t → LowerTurns dim (tableEntry n s mask m offsets) old end t
+    → Gathered (amplitudeOf n s mask offsets) dim planes m → LowerSteps dim (planeEntry planes dim m) old end t → LowerSteps dim (tableEntry n s mask m offsets) old end t
 lower-from-planes n s mask offsets dim m planes old end t g i = record {
   within = i .within;
   long = i .long;

@@ -12,7 +12,7 @@ use Rattle.complex.specs.Planes.{planeAt, setPlane}
 use Rattle.complex.proofs.PlanesLaws.{length-setPlane}
 use Rattle.density_entries.specs.Blocks.{added}
 use Rattle.density_rows.proofs.PlaneChanges.{plane-same, plane-other}
-use Rattle.density_rows.specs.TwoRows.{Added, TermTurns}
+use Rattle.density_rows.specs.TwoRows.{Added, TermSteps}
 
 pub added-same : {s s′ a a′ b b′ : Complex} → s ≡ s′ → a ≡ a′ → b ≡ b′ → added s a b ≡ added s′ a′ b′
 added-same {s} {s′} {a} {a′} {b} {b′} e f g = ap₂ (λ (x y : Complex). added x y b) e f ∙ ap (added s′ a′) g
@@ -41,18 +41,18 @@ added-kept a b w old now u i z p hi h hw n = record {
 }
 
 module _ (planes : List Float) (at r : ℕ) (old : List Float) where
-  pub term-begin : TermTurns planes at r old old 0
+  pub term-begin : TermSteps planes at r old old 0
   term-begin = record {
     long = refl;
     upper = record { more = λ k h. absurd (omega arith); left = λ k g h. refl };
     lower = record { more = λ k h. absurd (omega arith); left = λ k g h. refl };
   }
 
-  pub term-turn : (now end : List Float) (u : ℕ) (x y : Complex) → length old ≡ 256 → TermTurns planes at r old now u → u < 64
+  pub term-step : (now end : List Float) (u : ℕ) (x y : Complex) → length old ≡ 256 → TermSteps planes at r old now u → u < 64
       → x ≡ added (planeAt now 128 u) (planeAt planes 4096 (at + r)) (planeAt planes 4096 (at + u))
       → y ≡ added (planeAt now 128 (64 + u)) (planeAt planes 4096 (at + r + 1)) (planeAt planes 4096 (at + u))
-      → end ≡ setPlane (setPlane now 128 u x) 128 (64 + u) y → TermTurns planes at r old end (u + 1)
-  term-turn now end u x y l i h ex ey ee =
+      → end ≡ setPlane (setPlane now 128 u x) 128 (64 + u) y → TermSteps planes at r old end (u + 1)
+  term-step now end u x y l i h ex ey ee =
       let a0 = planeAt planes 4096 (at + r) in
       let a1 = planeAt planes 4096 (at + r + 1) in
       let b : ℕ → Complex = λ k. planeAt planes 4096 (at + k) in
@@ -62,7 +62,7 @@ module _ (planes : List Float) (at r : ℕ) (old : List Float) where
       let zero : 0 + u ≡ u = omega arith in
       let ou : planeAt now 128 u ≡ planeAt old 128 u
       = ap (planeAt now 128) (sym zero) ∙ i .upper .left u (omega arith) h ∙ ap (planeAt old 128) zero in
-      let whole : TermTurns planes at r old (setPlane mid 128 (64 + u) y) (u + 1)
+      let whole : TermSteps planes at r old (setPlane mid 128 (64 + u) y) (u + 1)
       = record {
         long = length-setPlane mid 128 (64 + u) y ∙ lm ∙ sym l;
         upper = added-kept a0 b 0 old mid (u + 1) (64 + u) y
@@ -72,7 +72,7 @@ module _ (planes : List Float) (at r : ℕ) (old : List Float) where
             (added-kept a1 b 64 old now u u x (i .lower) (omega arith) (omega arith) (omega arith) (λ k g e. omega arith))
             refl h (omega arith) lm (ey ∙ ap (λ (s : Complex). added s a1 (b u)) (i .lower .left u (omega arith) h));
       } in
-      subst (λ (s : List Float). TermTurns planes at r old s (u + 1)) (sym ee) whole
+      subst (λ (s : List Float). TermSteps planes at r old s (u + 1)) (sym ee) whole
 
-  pub term-end : (end : List Float) (u m : ℕ) → TermTurns planes at r old end u → u ≤ m → m ≤ u → TermTurns planes at r old end m
-  term-end end u m i g h = let e : u ≡ m = omega arith in subst (λ (x : ℕ). TermTurns planes at r old end x) e i
+  pub term-end : (end : List Float) (u m : ℕ) → TermSteps planes at r old end u → u ≤ m → m ≤ u → TermSteps planes at r old end m
+  term-end end u m i g h = let e : u ≡ m = omega arith in subst (λ (x : ℕ). TermSteps planes at r old end x) e i

@@ -19,7 +19,7 @@ abbrev pub reach : ℕ → List Float → ℕ → ℕ → Type 0
 reach n s a base = 2 * bitOr a base + 1 < length s
 
 -- the cells at to at + t are the amplitudes of the base, and those before them are as they were
-pub record OneTurns (s : List Float) (offsets : List ℕ) (base at : ℕ) (old end : List Float) (t : ℕ) : Type 0 where
+pub record OneSteps (s : List Float) (offsets : List ℕ) (base at : ℕ) (old end : List Float) (t : ℕ) : Type 0 where
   pub long : length end ≡ length old
   pub are : (k : ℕ) → k < t → planeAt end 4096 (at + k) ≡ cellAt s (bitOr (getD offsets k 0) base)
   pub kept : (j : ℕ) → j < at → planeAt end 4096 j ≡ planeAt old 4096 j

@@ -14,7 +14,7 @@ pub record Added (a : Complex) (b : ℕ → Complex) (w : ℕ) (old end : List F
   pub left : (k : ℕ) → u ≤ k → k < 64 → planeAt end 128 (w + k) ≡ planeAt old 128 (w + k)
 
 -- both rows of a term whose amplitudes stand from at on
-pub record TermTurns (planes : List Float) (at r : ℕ) (old end : List Float) (u : ℕ) : Type 0 where
+pub record TermSteps (planes : List Float) (at r : ℕ) (old end : List Float) (u : ℕ) : Type 0 where
   pub long : length end ≡ length old
   pub upper : Added (planeAt planes 4096 (at + r)) (λ k. planeAt planes 4096 (at + k)) 0 old end u
   pub lower : Added (planeAt planes 4096 (at + r + 1)) (λ k. planeAt planes 4096 (at + k)) 64 old end u

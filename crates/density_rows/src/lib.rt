@@ -4,9 +4,9 @@ ghost use Prim.Native.Nat.{_+_, _*_, _/_, _%_, _<_, _≤_};
 ghost use lib.ListN.{length, getD};
 ghost use Rattle.complex.specs.Planes.{planeAt};
 ghost use Rattle.density_entries.specs.Squares.{Square};
-ghost use Rattle.density_entries.specs.Filled.{tableEntry, EntriesReady, PairTurns, LowerTurns};
-ghost use Rattle.density_rows.specs.Gathered.{amplitudeOf, reach, OneTurns, Gathered};
-ghost use Rattle.density_rows.specs.TwoRows.{TermTurns};
+ghost use Rattle.density_entries.specs.Filled.{tableEntry, EntriesReady, PairSteps, LowerSteps};
+ghost use Rattle.density_rows.specs.Gathered.{amplitudeOf, reach, OneSteps, Gathered};
+ghost use Rattle.density_rows.specs.TwoRows.{TermSteps};
 ghost use Rattle.density_rows.specs.RowSums.{planeEntry, ZeroSums, PairSums, RowSumSteps};
 
 // The amplitudes of the traced index whose base is base: row t's becomes the cell at + t of the planes.
@@ -21,7 +21,7 @@ fn gather_one(
 )
     requires { ⌜ (dim ≤ length (now offsets)) × ((t : _) → t < dim → reach n (now state) (getD (now offsets) t 0) base) ⌝ }
     requires { ⌜ (at + dim ≤ 4096) × (length (now planes) ≡ 8192) ⌝ }
-    ensures { λ _. ⌜ OneTurns (now (state .entry)) (now (offsets .entry)) base at (now (planes .entry)) (now (planes .exit)) dim ⌝ }
+    ensures { λ _. ⌜ OneSteps (now (state .entry)) (now (offsets .entry)) base at (now (planes .entry)) (now (planes .exit)) dim ⌝ }
 {
     let mut t: usize = 0;
     while t < dim {
@@ -59,7 +59,7 @@ fn gather(
 fn add_terms(planes: &[f64], at: usize, r: usize, m: usize, sums: &mut [f64])
     requires { ⌜ (length (now planes) ≡ 8192) × (length (now sums) ≡ 256) ⌝ }
     requires { ⌜ (at + m ≤ 4096) × (r + 1 < m) × (m ≤ 64) ⌝ }
-    ensures { λ _. ⌜ TermTurns (now (planes .entry)) at r (now (sums .entry)) (now (sums .exit)) m ⌝ }
+    ensures { λ _. ⌜ TermSteps (now (planes .entry)) at r (now (sums .entry)) (now (sums .exit)) m ⌝ }
 {
     let here = at + r;
     let a0 = complex::read_plane(planes, 4096, here);
@@ -107,7 +107,7 @@ fn write_row(sums: &[f64], w: usize, dim: usize, r: usize, m: usize, out: &mut [
 fn fill_pair(planes: &[f64], groups: usize, dim: usize, t: usize, out: &mut [f64])
     requires { ⌜ (length (now planes) ≡ 8192) × (groups * dim ≤ 4096) ⌝ }
     requires { ⌜ Square dim (now out) × (2 * t + 1 < dim) ⌝ }
-    ensures { λ _. ⌜ PairTurns dim t (planeEntry (now (planes .entry)) dim groups) (now (out .entry)) (now (out .exit)) (t + 1) ⌝ }
+    ensures { λ _. ⌜ PairSteps dim t (planeEntry (now (planes .entry)) dim groups) (now (out .entry)) (now (out .exit)) (t + 1) ⌝ }
 {
     let r = 2 * t;
     let below = r + 1;
@@ -122,7 +122,7 @@ fn fill_pair(planes: &[f64], groups: usize, dim: usize, t: usize, out: &mut [f64
 fn fill_rows(planes: &[f64], groups: usize, dim: usize, out: &mut [f64])
     requires { ⌜ (length (now planes) ≡ 8192) × (groups * dim ≤ 4096) ⌝ }
     requires { ⌜ Square dim (now out) × (dim % 2 ≡ 0) ⌝ }
-    ensures { λ _. ⌜ LowerTurns dim (planeEntry (now (planes .entry)) dim groups) (now (out .entry)) (now (out .exit)) (dim / 2) ⌝ }
+    ensures { λ _. ⌜ LowerSteps dim (planeEntry (now (planes .entry)) dim groups) (now (out .entry)) (now (out .exit)) (dim / 2) ⌝ }
 {
     let half = dim / 2;
     let mut t: usize = 0;
@@ -144,7 +144,7 @@ pub fn fill_lower(
 )
     requires { ⌜ EntriesReady n (now state) mask (now offsets) dim ⌝ }
     requires { ⌜ Square dim (now out) × (groups * dim ≤ 4096) ⌝ }
-    ensures { λ _. ⌜ LowerTurns dim (tableEntry n (now (state .entry)) mask groups (now (offsets .entry))) (now (out .entry)) (now (out .exit)) (dim / 2) ⌝ }
+    ensures { λ _. ⌜ LowerSteps dim (tableEntry n (now (state .entry)) mask groups (now (offsets .entry))) (now (out .entry)) (now (out .exit)) (dim / 2) ⌝ }
 {
     let mut planes = [0.0f64; 8192];
     gather(state, n, mask, groups, offsets, dim, &mut planes);

@@ -21,7 +21,7 @@ use Rattle.complex.specs.Zeros.{zeroFloat}
 use Rattle.density_entries.specs.Squares.{entryAt}
 use Rattle.density_trace.specs.Trace.{traceTo, traceOf, reciprocal, scaledCell, finiteCells, scalingAnswer}
 
--- a turn of the trace's loop
+-- a step of the trace's loop
 pub trace-more : (s : List Float) (dim t : ℕ) → Ieee.add binary64 (traceTo s dim t) (entryAt s dim t t .re) ≡ traceTo s dim (t + 1)
 unfolding traceTo
 trace-more s dim t = rw (add-one t)
@@ -30,7 +30,7 @@ pub trace-none : (s : List Float) (dim : ℕ) → Ieee.neg (Ieee.ofBits binary64
 unfolding traceTo
 trace-none s dim = refl
 
--- a turn of the finite test, and its two ways out
+-- a step of the finite test, and its two ways out
 module _ (f : ℕ → Complex) where
   pub finite-none : finiteCells 0 f ≡ true
   unfolding finiteCells
@@ -74,10 +74,10 @@ number-past m i f old h =
 cell-past : (m : ℕ) (f : ℕ → Complex) (old : List Float) → cellAt (written m f old) m ≡ cellAt old m
 cell-past m f old = ap₂ complexOf (number-past m (2 * m) f old (omega arith)) (number-past m (2 * m + 1) f old (omega arith))
 
--- a turn of the scaling
-pub scale-turn : (s now : List Float) (x : Float) (k : ℕ) (z : Complex) → now ≡ written k (scaledCell s x) s → 2 * k + 1 < length s → z ≡ scaled (cellAt now k) x
+-- a step of the scaling
+pub scale-step : (s now : List Float) (x : Float) (k : ℕ) (z : Complex) → now ≡ written k (scaledCell s x) s → 2 * k + 1 < length s → z ≡ scaled (cellAt now k) x
     → setCell now k z ≡ written (k + 1) (scaledCell s x) s
-scale-turn s now x k z en h ez =
+scale-step s now x k z en h ez =
     ap₂ (λ (l : List Float) (w : Complex). setCell l k w) en
     (ez ∙ ap (λ (w : Complex). scaled w x) (ap (λ (l : List Float). cellAt l k) en ∙ cell-past k (scaledCell s x) s))
     ∙ written-more k (scaledCell s x) s h

@@ -1,4 +1,4 @@
--- Laws of the digest: the product modulo 2^64 in parts, and a turn of the loop. Assumes nothing.
+-- Laws of the digest: the product modulo 2^64 in parts, and a step of the loop. Assumes nothing.
 use mathlib.Core.Path.{_≡_, refl, sym, ap, ap₂, _∙_}
 use mathlib.Core.List.{List, [], _∷_}
 use Prim.Native.Nat.{ℕ, _+_, _*_, _/_, _%_, _^_, _≤_, _<_}

@@ -22,10 +22,10 @@ unfolding items
 items-none at l d = puts-none at d
 
 -- a turn: r is past the items that were put, and the next one is put there
-pub items-turn : (at m r s : ℕ) (l old mid new : List ℕ) → at + 21 * length l ≤ length old → m < length l → Puts at (items m l) old r mid → Puts r (itemText blank (getD l m 0)) mid s new
+pub items-step : (at m r s : ℕ) (l old mid new : List ℕ) → at + 21 * length l ≤ length old → m < length l → Puts at (items m l) old r mid → Puts r (itemText blank (getD l m 0)) mid s new
     → Puts at (items (m + 1) l) old s new
 unfolding items
-items-turn at m r s l old mid new room h p q = rw add-one (puts-then at r s (items m l) _ old mid new (omega (arith, length-items m l)) p q)
+items-step at m r s l old mid new room h p q = rw add-one (puts-then at r s (items m l) _ old mid new (omega (arith, length-items m l)) p q)
 
 pub length-value : (m b : ℕ) → length (valueLine m b) ≤ 44
 unfolding valueLine
@@ -49,10 +49,10 @@ pub values-none : (at : ℕ) (l : List Float) (d : List ℕ) → Puts at (valueL
 unfolding valueLines
 values-none at l d = puts-none at d
 
-pub values-turn : (at m r s b : ℕ) (l : List Float) (old mid new : List ℕ) → at + 64 * m ≤ length old → b ≡ toBits binary64 (getD l m nan) → Puts at (valueLines m l) old r mid → Puts r (valueLine m b) mid s new
+pub values-step : (at m r s b : ℕ) (l : List Float) (old mid new : List ℕ) → at + 64 * m ≤ length old → b ≡ toBits binary64 (getD l m nan) → Puts at (valueLines m l) old r mid → Puts r (valueLine m b) mid s new
     → Puts at (valueLines (m + 1) l) old s new
 unfolding valueLines
-values-turn at m r s b l old mid new room e p q =
+values-step at m r s b l old mid new room e p q =
     rw add-one (puts-then at r s (valueLines m l) _ old mid new (omega (arith, length-values m l)) p (puts-as r s _ _ mid new (ap (valueLine m) e) q))
 
 -- inside the loops: the room, and what is left of it

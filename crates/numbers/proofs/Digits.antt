@@ -26,7 +26,7 @@ square-twice s = let e : s * 2 * (s * 2) ≡ s * 2 * s * 2 = sym (mul-assoc (s *
 pub square-twice-next : (s : ℕ) → (s * 2 + 1) * (s * 2 + 1) ≡ 4 * (s * s) + 4 * s + 1
 square-twice-next s = omega (arith, square-next (s * 2), square-twice s)
 
--- Where the loop stands after i turns: s is the root, rounded down, of the upper 2 i digits of n * 2 ^ 10, a number of 64 digits that zeros follow; r is what is left over; w has the digits to come.
+-- Where the loop stands after i steps: s is the root, rounded down, of the upper 2 i digits of n * 2 ^ 10, a number of 64 digits that zeros follow; r is what is left over; w has the digits to come.
 pub record Taken (n w s r i : ℕ) : Type 0 where
   pub turns : i ≤ 53
   pub split : (s * s + r) * 2 ^ 64 + w ≡ n * 2 ^ 10 * 4 ^ i

@@ -1,4 +1,4 @@
--- Laws of a matrix's lines: how long they are, and a turn of the loop. Assumes nothing.
+-- Laws of a matrix's lines: how long they are, and a step of the loop. Assumes nothing.
 use mathlib.Core.Path.{_≡_, ap, ap₂, _∙_}
 use mathlib.Core.Bool.{Bool, true, false, cond}
 use mathlib.Core.List.{List, [], _++_}
@@ -87,10 +87,10 @@ module _ (w : List ℕ) (dim : ℕ) (s : List Float) (at : ℕ) (old : List ℕ)
       let l = length-cells w dim s (is .short) (is .some) (is .small) m h in
       (length-puts at r (cellLines w dim m s) old out (omega (arith, is .fits)) p, omega (arith, p .next))
 
-  pub cells-turn : (m r t a b : ℕ) (z : Complex) (mid new : List ℕ) → m < dim * dim → z ≡ cellAt s m → a ≡ toBits binary64 (z .re) → b ≡ toBits binary64 (z .im)
+  pub cells-step : (m r t a b : ℕ) (z : Complex) (mid new : List ℕ) → m < dim * dim → z ≡ cellAt s m → a ≡ toBits binary64 (z .re) → b ≡ toBits binary64 (z .im)
       → Puts at (cellLines w dim m s) old r mid → Puts r (cellLine w (m / dim) (m % dim) a b) mid t new → Puts at (cellLines w dim (m + 1) s) old t new
   unfolding cellLines
-  cells-turn m r t a b z mid new h e f g p q =
+  cells-step m r t a b z mid new h e f g p q =
       let l = length-cells w dim s (is .short) (is .some) (is .small) m (omega arith) in
       rw add-one
       (puts-then at r t (cellLines w dim m s) _ old mid new (omega (arith, is .fits)) p

@@ -1,4 +1,4 @@
--- Laws of the check: a turn of the comparing loop, the ways out of each stage, and that the two densities are the same. Assumes nothing.
+-- Laws of the check: a step of the comparing loop, the ways out of each stage, and that the two densities are the same. Assumes nothing.
 use mathlib.Core.Bool.{Bool, true, false, _&&_, true≢false}
 use mathlib.Core.Path.{_≡_, refl, sym, ap, ap₂, _∙_}
 use mathlib.Core.List.{List, [], _∷_}
@@ -83,8 +83,8 @@ module _ (a b : List Float) (i : ℕ) (h : i < length a) (g : i < length b) wher
   unfolding sameFloats
   same-next = ap₂ sameFloats (drop-cons a i nan h) (drop-cons b i nan g)
 
-  pub same-turn : toBits binary64 (getD a i nan) ≡ toBits binary64 (getD b i nan) → sameFloats (drop i a) (drop i b) ≡ sameFloats (drop (i + 1) a) (drop (i + 1) b)
-  same-turn e =
+  pub same-step : toBits binary64 (getD a i nan) ≡ toBits binary64 (getD b i nan) → sameFloats (drop i a) (drop i b) ≡ sameFloats (drop (i + 1) a) (drop (i + 1) b)
+  same-step e =
       same-next ∙ ap (λ (t : Bool). t && sameFloats (drop (suc i) a) (drop (suc i) b)) (eq-eqb _ _ e)
       ∙ ap (λ (k : ℕ). sameFloats (drop k a) (drop k b)) (sym (add-one i))
 

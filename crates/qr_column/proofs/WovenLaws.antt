@@ -44,7 +44,7 @@ plane-other v rows t i z h g n =
     (getD-set-other a (rows + t) i (z .im) nan (λ e. omega arith) ∙ getD-set-other v t i (z .re) nan n)
     (getD-set-other a (rows + t) (rows + i) (z .im) nan (λ e. n (omega arith)) ∙ getD-set-other v t (rows + i) (z .re) nan (λ e. omega arith))
 
--- ---- the loop that fills the column with the cells of f: what it holds, and what a turn and the end make of it
+-- ---- the loop that fills the column with the cells of f: what it holds, and what a step and the end make of it
 
 pub record Filled (f : ℕ → Complex) (rows : ℕ) (old v : List Float) (t : ℕ) : Type 0 where
   pub within : t ≤ rows
@@ -55,9 +55,9 @@ pub record Filled (f : ℕ → Complex) (rows : ℕ) (old v : List Float) (t : �
 pub fill-begin : (f : ℕ → Complex) (rows : ℕ) (old : List Float) → Filled f rows old old 0
 fill-begin f rows old = record { within = omega arith; size = refl; cells = λ i h. absurd (omega arith); rest = λ i h g. refl }
 
-pub fill-turn : (f : ℕ → Complex) (rows : ℕ) (old : List Float) {v w : List Float} (t : ℕ) {z : Complex} → Filled f rows old v t
+pub fill-step : (f : ℕ → Complex) (rows : ℕ) (old : List Float) {v w : List Float} (t : ℕ) {z : Complex} → Filled f rows old v t
     → length old ≡ 2 * rows → t < rows → z ≡ f t → w ≡ setPlane v rows t z → Filled f rows old w (t + 1)
-fill-turn f rows old {v} {w} t {z} s l h e g =
+fill-step f rows old {v} {w} t {z} s l h e g =
     let at : (i : ℕ) → planeAt w rows i ≡ planeAt (setPlane v rows t z) rows i = λ i. ap (λ (x : List Float). planeAt x rows i) g in
     record {
       within = omega arith;

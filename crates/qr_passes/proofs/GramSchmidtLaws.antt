@@ -78,16 +78,16 @@ module _ (q : List Float) (rank rows cols j n k : ℕ) (previous : Float) (s : H
       let m : suc (n - (k + 1)) ≡ n - k = omega arith in
       ap (λ (x : ℕ). passes q rank rows cols j x previous s) m ∙ i
 
-  pub turn-stop : {t : Held} {x : Float} → k < n → t ≡ passTo q rows cols j s rank → x ≡ normOf (t .v) rows
+  pub step-stop : {t : Held} {x : Float} → k < n → t ≡ passTo q rows cols j s rank → x ≡ normOf (t .v) rows
       → Ieee.lt (Ieee.mul binary64 retain previous) x ≡ true → passed t x ≡ e
-  turn-stop h f g l = passes-stop q rank rows cols j (n - (k + 1)) previous s f g l ∙ next h
+  step-stop h f g l = passes-stop q rank rows cols j (n - (k + 1)) previous s f g l ∙ next h
 
-  pub turn-go : {t : Held} {x : Float} → k < n → t ≡ passTo q rows cols j s rank → x ≡ normOf (t .v) rows
+  pub step-go : {t : Held} {x : Float} → k < n → t ≡ passTo q rows cols j s rank → x ≡ normOf (t .v) rows
       → Ieee.lt (Ieee.mul binary64 retain previous) x ≡ false → passes q rank rows cols j (n - (k + 1)) x t ≡ e
-  turn-go h f g l = passes-go q rank rows cols j (n - (k + 1)) previous s f g l ∙ next h
+  step-go h f g l = passes-go q rank rows cols j (n - (k + 1)) previous s f g l ∙ next h
 
-  pub turn-spent : n ≤ k → passed s previous ≡ e
-  turn-spent h =
+  pub step-spent : n ≤ k → passed s previous ≡ e
+  step-spent h =
       let m : 0 ≡ n - k = omega arith in
       passes-end q rank rows cols j previous s ∙ ap (λ (x : ℕ). passes q rank rows cols j x previous s) m ∙ i
 

@@ -1,4 +1,4 @@
--- The calls of row offsets and of a traced base at each way out, a turn of the loop that fills, and that only one outcome meets each
+-- The calls of row offsets and of a traced base at each way out, a step of the loop that fills, and that only one outcome meets each
 -- contract. Assumes nothing.
 use mathlib.Core.Bool.{not}
 use mathlib.Core.Path.{_≡_, sym, ap, _∙_}

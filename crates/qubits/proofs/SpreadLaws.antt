@@ -29,9 +29,9 @@ unfolding spread
 spread-cons q l x = refl
 
 -- what is left of the list, and of x
-pub spread-turn : (l : List ℕ) (i off x : ℕ) → i < length l
+pub spread-step : (l : List ℕ) (i off x : ℕ) → i < length l
     → bitOr off (spread (drop i l) (x / 2 ^ i)) ≡ bitOr (bitOr off (x / 2 ^ i % 2 * 2 ^ getD l i 0)) (spread (drop (i + 1) l) (x / 2 ^ (i + 1)))
-spread-turn l i off x h =
+spread-step l i off x h =
     rw (drop-cons l i 0, add-one, spread-cons (getD l i 0) (drop (suc i) l) (x / 2 ^ i), or-assoc, shr-shr x i 1, add-one)
 
 pub offset-begin : (l : List ℕ) (x : ℕ) → spread l x ≡ bitOr 0 (spread l (x / 1))
@@ -128,8 +128,8 @@ module _ (n : ℕ) (l : List ℕ) (e : ℕ) where
   unfolding otherQubits spread
   insert-begin = record { more = omega arith; base-is = omega arith }
 
-  pub insert-turn : (base q : ℕ) → Inserted n l e base q → q < n → stands q l ≡ true → Inserted n l e (insertZeroBit base q) (q + 1)
-  insert-turn base q i h t = record {
+  pub insert-step : (base q : ℕ) → Inserted n l e base q → q < n → stands q l ≡ true → Inserted n l e (insertZeroBit base q) (q + 1)
+  insert-step base q i h t = record {
     more = omega arith;
     base-is = rw (i .base-is, other-named q l t, add-one) (insert-zero (e / 2 ^ length (otherQubits q l)) (spread (otherQubits q l) e) q (other-lt q l e));
   }

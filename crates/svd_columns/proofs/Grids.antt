@@ -66,10 +66,10 @@ columns-all c f old h =
     rw (drop-of-length-le old e, append-nil)
 
 -- a turn of a loop that fills a column, and of one that fills numbers
-pub written-turn : (f : ℕ → Complex) (old : List Float) (k : ℕ) {ys zs : List Float} {z : Complex}
+pub written-step : (f : ℕ → Complex) (old : List Float) (k : ℕ) {ys zs : List Float} {z : Complex}
     → 2 * k + 1 < length old → ys ≡ written k f old → z ≡ f k → zs ≡ setCell ys k z → zs ≡ written (k + 1) f old
-written-turn f old k {ys} {zs} {z} h e g i = i ∙ ap₂ (λ (l : List Float) (x : Complex). setCell l k x) e g ∙ written-more k f old h
+written-step f old k {ys} {zs} {z} h e g i = i ∙ ap₂ (λ (l : List Float) (x : Complex). setCell l k x) e g ∙ written-more k f old h
 
-pub filled-turn : (f : ℕ → Float) (old : List Float) (k : ℕ) {ys : List Float} {x : Float}
+pub filled-step : (f : ℕ → Float) (old : List Float) (k : ℕ) {ys : List Float} {x : Float}
     → k < length old → ys ≡ filled k f old → x ≡ f k → set ys k x ≡ filled (k + 1) f old
-filled-turn f old k {ys} {x} h e g = ap₂ (λ (l : List Float) (y : Float). set l k y) e g ∙ filled-more k f old h
+filled-step f old k {ys} {x} h e g = ap₂ (λ (l : List Float) (y : Float). set l k y) e g ∙ filled-more k f old h

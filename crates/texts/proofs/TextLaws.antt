@@ -45,14 +45,14 @@ put-next at t d g h =
     let r : at + length t ≤ length d = omega arith in
     put-one (at + length t) g (put at t d) (omega (arith, length-put at t d r)) ∙ put-put at t d r (g ∷ [])
 
--- the loop that copies a text: what it begins with, a turn, its length, and its end
+-- the loop that copies a text: what it begins with, a step, its length, and its end
 pub put-none : (at : ℕ) (d : List ℕ) → d ≡ put at [] d
 unfolding put
 put-none at d = paste-zero d at []
 
-pub text-turn : (at i : ℕ) (t d out : List ℕ) → at + length t ≤ length d → i < length t → out ≡ put at (take i t) d
+pub text-step : (at i : ℕ) (t d out : List ℕ) → at + length t ≤ length d → i < length t → out ≡ put at (take i t) d
     → set out (at + i) (getD t i 0) ≡ put at (take (i + 1) t) d
-text-turn at i t d out room h e =
+text-step at i t d out room h e =
     let l : length (take i t) ≡ i = length-take-le i t (omega arith) in
     ap (λ (o : List ℕ). set o (at + i) (getD t i 0)) e
     ∙ ap (λ (n : ℕ). set (put at (take i t) d) (at + n) (getD t i 0)) (sym l)
@@ -143,9 +143,9 @@ pub hex-none : (at b : ℕ) (d : List ℕ) → d ≡ put at (hex 0 b) d
 unfolding hex
 hex-none at b d = put-none at d
 
-pub hex-turn : (at m b g : ℕ) (d out : List ℕ) → at + 16 ≤ length d → m < 16 → out ≡ put at (hex m b) d → g ≡ digit (b / 2 ^ (60 - 4 * m) % 16)
+pub hex-step : (at m b g : ℕ) (d out : List ℕ) → at + 16 ≤ length d → m < 16 → out ≡ put at (hex m b) d → g ≡ digit (b / 2 ^ (60 - 4 * m) % 16)
     → set out (at + m) g ≡ put at (hex (m + 1) b) d
-hex-turn at m b g d out room h e p =
+hex-step at m b g d out room h e p =
     let l = length-hex m b in
     ap (λ (o : List ℕ). set o (at + m) g) e
     ∙ ap (λ (n : ℕ). set (put at (hex m b) d) (at + n) g) (sym l)

@@ -71,7 +71,7 @@ pub squares-more : (t : Float) (l : List Float) (i : ℕ) → i < length l
 unfolding squaresFrom
 squares-more t l i h = rw (add-one, drop-cons l i nan)
 
--- a turn of the loop: the place i is scaled, and those past it are left
+-- a step of the loop: the place i is scaled, and those past it are left
 pub scaled-more : (k : Float) (l : List Float) (i : ℕ) → i < length l
     → let m = set l i (mul binary64 (getD l i nan) k) in
     take (i + 1) m ++ scaledBy k (drop (i + 1) m) ≡ take i l ++ scaledBy k (drop i l)

@@ -49,7 +49,7 @@ roots-past : (f : Float) (l : List Float) (i : ℕ) → i < length l → lt f (g
 unfolding rootsAbove
 roots-past f l i h t = rw (add-one, drop-cons l i nan, t)
 
--- a turn of the loop: what stands in the first n places, and what is left, give the same roots
+-- a step of the loop: what stands in the first n places, and what is left, give the same roots
 pub roots-put : (f : Float) (l out : List Float) (i n : ℕ) {x : Float} → i < length l → n < length out → lt f (getD l i nan) ≡ true
     → x ≡ sqrtOf (getD l i nan) → take n out ++ rootsAbove f (drop i l) ≡ rootsAbove f l
     → take (n + 1) (set out n x) ++ rootsAbove f (drop (i + 1) l) ≡ rootsAbove f l

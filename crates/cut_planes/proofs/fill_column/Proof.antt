@@ -1,11 +1,11 @@
--- `cut_planes::fill_column` meets its contract. The loop's invariant and turn are those of `CutPlanesLaws`; here they meet the code.
+-- `cut_planes::fill_column` meets its contract. The loop's invariant and step are those of `CutPlanesLaws`; here they meet the code.
 -- Assumes nothing.
 use mathlib.Core.Path.{_∙_, ap}
 use Prim.Native.Nat.{_-_}
 use native.Mathlib.Omega.{arith}
 use Rattle.qubits.proofs.NamedLaws.{pow-small}
 use Rattle.cut_planes.specs.CutPlanes.{shown}
-use Rattle.cut_planes.proofs.CutPlanesLaws.{Column, column-begin, source-in, cell-in, column-turn, column-end}
+use Rattle.cut_planes.proofs.CutPlanesLaws.{Column, column-begin, source-in, cell-in, column-step, column-end}
 use borrow.Author.Needs.{needs}
 use Rattle.cut_planes.proofs.fill_column.Statement.{statement}
 use Rattle.cut_planes.proofs.fill_column.Tie as tie
@@ -45,7 +45,7 @@ loop-less c = search needs
 
 loop-again : tie.Need-loop-again Inv-loop μ-loop
 loop-again c =
-    column-turn _ _ _ _ _ _ _ _ (c .before .before .before .before .before .before .before .before .before .before .before .before .pre) _ (c .before .before .before .before .before .before .before .before .before .bit .ensures) _ _ _ (c .before .before .before .before .before .before .before .before .loop .inv) (c .before .before .before .before .before .before .before .loop-test .taken) _ _ _
+    column-step _ _ _ _ _ _ _ _ (c .before .before .before .before .before .before .before .before .before .before .before .before .pre) _ (c .before .before .before .before .before .before .before .before .before .bit .ensures) _ _ _ (c .before .before .before .before .before .before .before .before .loop .inv) (c .before .before .before .before .before .before .before .loop-test .taken) _ _ _
     (c .before .before .before .before .show .ensures ∙ ap (shown (c .before .before .before .before .before .before .before .before .before .before .before .before .args .conjugated)) (c .before .before .before .before .before .before .read-cell .ensures))
     (c .before .before .before .write-plane .ensures) (c .next-submask .ensures)
 

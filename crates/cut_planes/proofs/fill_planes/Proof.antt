@@ -1,9 +1,9 @@
--- `cut_planes::fill_planes` meets its contract. The loop's invariant and turn are those of `CutPlanesLaws`; here they meet the code.
+-- `cut_planes::fill_planes` meets its contract. The loop's invariant and step are those of `CutPlanesLaws`; here they meet the code.
 -- Assumes nothing.
 use Prim.Native.Nat.{_-_}
 use native.Mathlib.Omega.{arith}
 use Rattle.qubits.proofs.NamedLaws.{pow-small}
-use Rattle.cut_planes.proofs.CutPlanesLaws.{Columns, columns-begin, column-ready, columns-turn, columns-end}
+use Rattle.cut_planes.proofs.CutPlanesLaws.{Columns, columns-begin, column-ready, columns-step, columns-end}
 use borrow.Author.Needs.{needs}
 use Rattle.cut_planes.proofs.fill_planes.Statement.{statement}
 use Rattle.cut_planes.proofs.fill_planes.Tie as tie
@@ -36,7 +36,7 @@ loop-less c = search needs
 
 loop-again : tie.Need-loop-again Inv-loop μ-loop
 loop-again c =
-    columns-turn _ _ _ _ _ _ _ _ (c .before .before .before .before .before .before .before .before .before .pre .0) _ _ _ _ (c .before .before .before .before .before .before .loop .inv) (c .before .before .before .before .before .loop-test .taken) _ _ (c .before .before .before .fill-column .kept .1 .1 .1 .1 .1 .1 .1 .0)
+    columns-step _ _ _ _ _ _ _ _ (c .before .before .before .before .before .before .before .before .before .pre .0) _ _ _ _ (c .before .before .before .before .before .before .loop .inv) (c .before .before .before .before .before .loop-test .taken) _ _ (c .before .before .before .fill-column .kept .1 .1 .1 .1 .1 .1 .1 .0)
     (c .before .before .before .fill-column .ensures) (c .next-submask .ensures)
 
 same-length : tie.Need-same-length Inv-loop μ-loop

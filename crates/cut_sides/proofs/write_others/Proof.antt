@@ -1,4 +1,4 @@
--- `cut_sides::write_others` meets its contract. The loop's invariant and turns are those of `SideLaws`; here they meet the code.
+-- `cut_sides::write_others` meets its contract. The loop's invariant and steps are those of `SideLaws`; here they meet the code.
 -- Assumes nothing.
 use mathlib.Core.Path.{sym, _∙_}
 use mathlib.Core.Logic.{⊎-elim}

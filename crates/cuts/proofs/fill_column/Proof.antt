@@ -1,9 +1,9 @@
--- `cuts::fill_column` meets its contract. The loop's invariant and turn are those of `CutLaws`; here they meet the code.
+-- `cuts::fill_column` meets its contract. The loop's invariant and step are those of `CutLaws`; here they meet the code.
 -- Assumes nothing.
 use Prim.Native.Nat.{_-_}
 use native.Mathlib.Omega.{arith}
 use Rattle.qubits.proofs.NamedLaws.{pow-small}
-use Rattle.cuts.proofs.CutLaws.{Column, column-begin, source-in, cell-in, column-turn, column-end}
+use Rattle.cuts.proofs.CutLaws.{Column, column-begin, source-in, cell-in, column-step, column-end}
 use borrow.Author.Needs.{needs}
 use Rattle.cuts.proofs.fill_column.Statement.{statement}
 use Rattle.cuts.proofs.fill_column.Tie as tie
@@ -38,7 +38,7 @@ loop-less c = search needs
 loop-again : tie.Need-loop-again Inv-loop μ-loop
 loop-again c =
     let z = c .before .before .before .before .before .before .before .before .before .before in
-    column-turn _ _ _ _ _ _ _ (z .pre) _ _ _ (c .before .before .before .before .before .before .before .loop .inv) (c .before .before .before .before .before .before .loop-test .taken) _ _ _
+    column-step _ _ _ _ _ _ _ (z .pre) _ _ _ (c .before .before .before .before .before .before .before .loop .inv) (c .before .before .before .before .before .before .loop-test .taken) _ _ _
     (c .before .before .before .before .before .read-cell .ensures) (c .before .before .before .write-cell .ensures) (c .next-submask .ensures)
 
 same-length : tie.Need-same-length Inv-loop μ-loop

@@ -1,9 +1,9 @@
--- `cuts::fill_cut` meets its contract. The loop's invariant and turn are those of `CutLaws`; here they meet the code.
+-- `cuts::fill_cut` meets its contract. The loop's invariant and step are those of `CutLaws`; here they meet the code.
 -- Assumes nothing.
 use Prim.Native.Nat.{_-_}
 use native.Mathlib.Omega.{arith}
 use Rattle.qubits.proofs.NamedLaws.{pow-small}
-use Rattle.cuts.proofs.CutLaws.{Columns, columns-begin, column-ready, columns-turn, columns-end}
+use Rattle.cuts.proofs.CutLaws.{Columns, columns-begin, column-ready, columns-step, columns-end}
 use borrow.Author.Needs.{needs}
 use Rattle.cuts.proofs.fill_cut.Statement.{statement}
 use Rattle.cuts.proofs.fill_cut.Tie as tie
@@ -37,7 +37,7 @@ loop-less c = search needs
 loop-again : tie.Need-loop-again Inv-loop μ-loop
 loop-again c =
     let z = c .before .before .before .before .before .before .before .before .before .pre in
-    columns-turn _ _ _ _ _ _ _ z _ _ _ _ (c .before .before .before .before .before .before .loop .inv) (c .before .before .before .before .before .loop-test .taken) _ _ (c .before .before .before .fill-column .kept .1 .1 .1 .1 .1 .1 .0)
+    columns-step _ _ _ _ _ _ _ z _ _ _ _ (c .before .before .before .before .before .before .loop .inv) (c .before .before .before .before .before .loop-test .taken) _ _ (c .before .before .before .fill-column .kept .1 .1 .1 .1 .1 .1 .0)
     (c .before .before .before .fill-column .ensures) (c .next-submask .ensures)
 
 same-length : tie.Need-same-length Inv-loop μ-loop

@@ -5,7 +5,7 @@ use native.Mathlib.Omega.{arith}
 use lib.ListN.{length, drop}
 use denote.Ref.{now}
 use Rattle.density_block.specs.Factor.{blockIndex}
-use Rattle.density_block.proofs.FactorLaws.{index-end, index-small, index-turn, index-all}
+use Rattle.density_block.proofs.FactorLaws.{index-end, index-small, index-step, index-all}
 use borrow.Author.Needs.{needs}
 use Rattle.density_block.proofs.block_index.Statement.{statement}
 use Rattle.density_block.proofs.block_index.Tie as tie
@@ -41,7 +41,7 @@ loop-less : tie.Need-loop-less Inv-loop μ-loop
 loop-less c = search needs
 
 loop-again : tie.Need-loop-again Inv-loop μ-loop
-loop-again c = (omega (arith, c .before .before .loop .inv .0), index-turn (now (c .before .before .before .args .positions)) (c .before .before .loop .j) (c .before .before .before .args .t) (c .before .before .loop .index) (c .before .loop-test .taken) (c .before .before .loop .inv .0) (c .before .before .loop .inv .1))
+loop-again c = (omega (arith, c .before .before .loop .inv .0), index-step (now (c .before .before .before .args .positions)) (c .before .before .loop .j) (c .before .before .before .args .t) (c .before .before .loop .index) (c .before .loop-test .taken) (c .before .before .loop .inv .0) (c .before .before .loop .inv .1))
 
 returns : tie.Need-returns Inv-loop μ-loop
 returns c = index-all (now (c .before .before .args .positions)) (c .before .loop .j) (c .before .before .args .t) _ (c .loop-test .left) (c .before .loop .inv .1)

@@ -1,4 +1,4 @@
--- `density_block::multiply_row` meets its contract. The loop's invariant and its turn are those of `FactorLaws`. Assumes nothing.
+-- `density_block::multiply_row` meets its contract. The loop's invariant and its step are those of `FactorLaws`. Assumes nothing.
 use mathlib.Core.Path.{ap, ap₂, _∙_}
 use Prim.Native.Nat.{ℕ, _+_, _*_, _-_}
 use native.Mathlib.Omega.{arith}
@@ -7,7 +7,7 @@ use Rattle.complex.specs.Arithmetic.{product}
 use Rattle.complex.specs.Cells.{cellAt}
 use Rattle.density_entries.proofs.MirroredLaws.{index-small, cell-in}
 use Rattle.density_block.specs.Factor.{factorEntry}
-use Rattle.density_block.proofs.FactorLaws.{factor-in, factor-small, factored-square, row-begin, row-turn, row-end}
+use Rattle.density_block.proofs.FactorLaws.{factor-in, factor-small, factored-square, row-begin, row-step, row-end}
 use Rattle.density_block.specs.FactorLoops.{FactorSteps}
 use borrow.Author.Needs.{needs}
 use Rattle.density_block.proofs.multiply_row.Statement.{statement}
@@ -59,7 +59,7 @@ loop-less : tie.Need-loop-less Inv-loop μ-loop
 loop-less c = search needs
 
 loop-again : tie.Need-loop-again Inv-loop μ-loop
-loop-again c = let z = c .before .before .before .before .before .before .before .before .before .before .before .before .before .before .before in row-turn _ _ _ _ _ _ _ _ (factored-square _ _ _ _ _ (z .pre .0)) (z .pre .1) (c .before .before .before .before .before .before .before .before .before .before .loop .inv) (c .before .before .before .before .before .before .before .before .before .loop-test .taken) (c .before .before .before .mul .ensures ∙ ap₂ product (c .before .before .before .before .before .read-cell2 .ensures) (c .before .before .before .before .before .before .before .read-cell .ensures ∙ ap₂ (λ (a b : ℕ). cellAt (now (z .args .factor)) (a * z .args .side + b)) (c .before .before .before .before .before .before .before .before .before .before .before .block-index .ensures) (c .before .before .before .before .before .before .before .before .block-index2 .ensures))) (c .before .before .write-cell .ensures)
+loop-again c = let z = c .before .before .before .before .before .before .before .before .before .before .before .before .before .before .before in row-step _ _ _ _ _ _ _ _ (factored-square _ _ _ _ _ (z .pre .0)) (z .pre .1) (c .before .before .before .before .before .before .before .before .before .before .loop .inv) (c .before .before .before .before .before .before .before .before .before .loop-test .taken) (c .before .before .before .mul .ensures ∙ ap₂ product (c .before .before .before .before .before .read-cell2 .ensures) (c .before .before .before .before .before .before .before .read-cell .ensures ∙ ap₂ (λ (a b : ℕ). cellAt (now (z .args .factor)) (a * z .args .side + b)) (c .before .before .before .before .before .before .before .before .before .before .before .block-index .ensures) (c .before .before .before .before .before .before .before .before .block-index2 .ensures))) (c .before .before .write-cell .ensures)
 
 same-length : tie.Need-same-length Inv-loop μ-loop
 same-length c = c .before .loop .inv .long

@@ -1,16 +1,16 @@
--- `density_block::multiply_rows` meets its contract. The loop's invariant and its turn are those of `FactorLaws`. Assumes nothing.
+-- `density_block::multiply_rows` meets its contract. The loop's invariant and its step are those of `FactorLaws`. Assumes nothing.
 use denote.Ref.{now}
 use Prim.Native.Nat.{_-_}
 use native.Mathlib.Omega.{arith}
 use mathlib.Core.Path.{_∙_}
 use Rattle.density_block.specs.Factor.{factorEntry}
-use Rattle.density_block.proofs.FactorLaws.{AllTurns, all-begin, all-turn, all-end}
+use Rattle.density_block.proofs.FactorLaws.{AllSteps, all-begin, all-step, all-end}
 use borrow.Author.Needs.{needs}
 use Rattle.density_block.proofs.multiply_rows.Statement.{statement}
 use Rattle.density_block.proofs.multiply_rows.Tie as tie
 
 abbrev Inv-loop : tie.InvT-loop
-Inv-loop rho₀ dim positions factor side t₀ rho t = AllTurns dim (factorEntry positions factor side) rho₀ rho t
+Inv-loop rho₀ dim positions factor side t₀ rho t = AllSteps dim (factorEntry positions factor side) rho₀ rho t
 
 abbrev μ-loop : tie.MeasureT-loop
 μ-loop rho₀ dim positions factor side t₀ rho t = dim - t
@@ -28,7 +28,7 @@ loop-less : tie.Need-loop-less Inv-loop μ-loop
 loop-less c = search needs
 
 loop-again : tie.Need-loop-again Inv-loop μ-loop
-loop-again c = all-turn _ _ _ _ _ _ (c .before .before .before .before .before .loop .inv) (c .before .before .before .before .loop-test .taken) (c .before .before .multiply-row .ensures)
+loop-again c = all-step _ _ _ _ _ _ (c .before .before .before .before .before .loop .inv) (c .before .before .before .before .loop-test .taken) (c .before .before .multiply-row .ensures)
 
 same-length : tie.Need-same-length Inv-loop μ-loop
 same-length c = c .before .loop .inv .long

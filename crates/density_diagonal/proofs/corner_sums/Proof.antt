@@ -1,15 +1,15 @@
--- `density_diagonal::corner_sums` meets its contract. The loop's invariant and its turn are those of `Corners`. Assumes nothing.
+-- `density_diagonal::corner_sums` meets its contract. The loop's invariant and its step are those of `Corners`. Assumes nothing.
 use mathlib.Core.Path.{refl, _∙_}
 use Prim.Native.Nat.{_+_, _-_}
 use native.Mathlib.Omega.{arith}
 use Rattle.density_entries.proofs.BlocksLaws.{reached}
-use Rattle.density_diagonal.proofs.CornersLaws.{CornerTurns, corner-begin, corner-turn, corner-end, turned-same}
+use Rattle.density_diagonal.proofs.CornersLaws.{CornerSteps, corner-begin, corner-step, corner-end, step-alike}
 use borrow.Author.Needs.{needs}
 use Rattle.density_diagonal.proofs.corner_sums.Statement.{statement}
 use Rattle.density_diagonal.proofs.corner_sums.Tie as tie
 
 abbrev Inv-loop : tie.InvT-loop
-Inv-loop state n mask groups a0 a1 corner₀ base₀ e₀ corner base e = CornerTurns n state mask groups a0 a1 corner base e
+Inv-loop state n mask groups a0 a1 corner₀ base₀ e₀ corner base e = CornerSteps n state mask groups a0 a1 corner base e
 
 abbrev μ-loop : tie.MeasureT-loop
 μ-loop state n mask groups a0 a1 corner₀ base₀ e₀ corner base e = groups + 1 - e
@@ -26,8 +26,8 @@ read-cell-requires c κs = reached _ _ _ _ _ _ _ _ _ _ (c .before .before .befor
 read-cell-requires-2 : tie.Need-read-cell-requires-2 Inv-loop μ-loop
 read-cell-requires-2 c κs = reached _ _ _ _ _ _ _ _ _ _ (c .before .before .before .before .before .pre .0) (c .before .before .loop .inv .base-is) (c .before .before .before .before .before .pre .0 .a1-lt)
 
-turn-requires : tie.Need-turn-requires Inv-loop μ-loop
-turn-requires c κs = search needs
+step-requires : tie.Need-step-requires Inv-loop μ-loop
+step-requires c κs = search needs
 
 next-submask-requires : tie.Need-next-submask-requires Inv-loop μ-loop
 next-submask-requires c κs = search needs
@@ -39,7 +39,7 @@ loop-less : tie.Need-loop-less Inv-loop μ-loop
 loop-less c = search needs
 
 loop-again : tie.Need-loop-again Inv-loop μ-loop
-loop-again c = corner-turn _ _ _ _ _ _ _ _ _ _ _ (c .before .before .before .before .before .before .before .before .pre .0) (c .before .before .before .before .before .before .before .before .pre .1) (c .before .before .before .before .before .loop .inv) (omega arith) (c .before .turn .ensures ∙ turned-same _ (c .before .before .before .read-cell .ensures) (c .before .before .read-cell2 .ensures)) (c .next-submask .ensures)
+loop-again c = corner-step _ _ _ _ _ _ _ _ _ _ _ (c .before .before .before .before .before .before .before .before .pre .0) (c .before .before .before .before .before .before .before .before .pre .1) (c .before .before .before .before .before .loop .inv) (omega arith) (c .before .step .ensures ∙ step-alike _ (c .before .before .before .read-cell .ensures) (c .before .before .read-cell2 .ensures)) (c .next-submask .ensures)
 
 returns : tie.Need-returns Inv-loop μ-loop
 returns c = corner-end _ _ _ _ _ _ _ _ _ (c .before .loop .inv) (omega arith)
@@ -54,7 +54,7 @@ corner-sums-spec =
     loop-holds
     read-cell-requires
     read-cell-requires-2
-    turn-requires
+    step-requires
     next-submask-requires
     add-e
     loop-less

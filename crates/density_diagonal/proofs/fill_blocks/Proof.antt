@@ -1,7 +1,7 @@
--- `density_diagonal::fill_blocks` meets its contract. The loop's invariant is that of `Filled`, its turn that of `CornerRows`. Assumes nothing.
+-- `density_diagonal::fill_blocks` meets its contract. The loop's invariant is that of `Filled`, its step that of `CornerRows`. Assumes nothing.
 use Prim.Native.Nat.{_-_}
 use native.Mathlib.Omega.{arith}
-use Rattle.density_entries.specs.Filled.{tableEntry, LowerTurns}
+use Rattle.density_entries.specs.Filled.{tableEntry, LowerSteps}
 use Rattle.density_entries.proofs.FilledLaws.{lower-begin, lower-end}
 use Rattle.density_diagonal.proofs.CornerRowsLaws.{corner-lower}
 use borrow.Author.Needs.{needs}
@@ -9,7 +9,7 @@ use Rattle.density_diagonal.proofs.fill_blocks.Statement.{statement}
 use Rattle.density_diagonal.proofs.fill_blocks.Tie as tie
 
 abbrev Inv-loop : tie.InvT-loop
-Inv-loop state n mask groups offsets dim out₀ half t₀ out t = LowerTurns dim (tableEntry n state mask groups offsets) out₀ out t
+Inv-loop state n mask groups offsets dim out₀ half t₀ out t = LowerSteps dim (tableEntry n state mask groups offsets) out₀ out t
 
 abbrev μ-loop : tie.MeasureT-loop
 μ-loop state n mask groups offsets dim out₀ half t₀ out t = half - t

@@ -1,4 +1,4 @@
--- `density_diagonal::fill_left` meets its contract. The loop's invariant and its turn are those of `LeftRows`. Assumes nothing.
+-- `density_diagonal::fill_left` meets its contract. The loop's invariant and its step are those of `LeftRows`. Assumes nothing.
 use mathlib.Core.Path.{_∙_, ap}
 use mathlib.Core.List.{List}
 use lib.Ieee.{Float}
@@ -9,14 +9,14 @@ use Rattle.density_entries.specs.Blocks.{blockSums}
 use Rattle.density_entries.specs.Pairs.{setPair}
 use Rattle.density_entries.specs.Filled.{tableEntry}
 use Rattle.density_entries.proofs.FilledLaws.{ready-reach}
-use Rattle.density_diagonal.specs.LeftRows.{LeftTurns}
-use Rattle.density_diagonal.proofs.LeftRowsLaws.{left-begin, left-turn, left-end}
+use Rattle.density_diagonal.specs.LeftRows.{LeftSteps}
+use Rattle.density_diagonal.proofs.LeftRowsLaws.{left-begin, left-step, left-end}
 use borrow.Author.Needs.{needs}
 use Rattle.density_diagonal.proofs.fill_left.Statement.{statement}
 use Rattle.density_diagonal.proofs.fill_left.Tie as tie
 
 abbrev Inv-loop : tie.InvT-loop
-Inv-loop state n mask groups offsets dim t out₀ r below a0 a1 u₀ out u = LeftTurns dim t (tableEntry n state mask groups offsets) out₀ out u
+Inv-loop state n mask groups offsets dim t out₀ r below a0 a1 u₀ out u = LeftSteps dim t (tableEntry n state mask groups offsets) out₀ out u
 
 abbrev μ-loop : tie.MeasureT-loop
 μ-loop state n mask groups offsets dim t out₀ r below a0 a1 u₀ out u = t - u
@@ -85,7 +85,7 @@ loop-again c =
     let l = c .before .before .before .before .before .before .before .before .before .before .before .before .before .before .before .before in
     let k = c .before .before .before .before .before .before .before .before .before .before .before .before .block-sums .result in
     let e = c .before .before .before .before .before .before .before .before .before .before .before .before .block-sums .ensures in
-    left-turn _ _ _ _ _ _ _ _ k (record { small = z .pre .1 .0 .small; room = omega (arith, z .pre .1 .0 .room, l .loop .inv .long) }) (z .pre .1 .1) (l .loop .inv) (c .before .before .before .before .before .before .before .before .before .before .before .before .before .before .before .loop-test .taken)
+    left-step _ _ _ _ _ _ _ _ k (record { small = z .pre .1 .0 .small; room = omega (arith, z .pre .1 .0 .room, l .loop .inv .long) }) (z .pre .1 .1) (l .loop .inv) (c .before .before .before .before .before .before .before .before .before .before .before .before .before .before .before .loop-test .taken)
     (ap (λ (b : Block). b .first) e) (ap (λ (b : Block). b .second) e) (ap (λ (b : Block). b .third) e) (ap (λ (b : Block). b .fourth) e)
     (c .before .before .before .before .before .before .write-pair2 .ensures ∙ ap (λ (x : List Float). setPair x (z .args .dim) (2 * z .args .t + 1) (2 * l .loop .u) (k .third) (k .fourth)) (c .before .before .before .before .before .before .before .before .before .before .write-pair .ensures))
     (c .before .before .write-across .ensures)

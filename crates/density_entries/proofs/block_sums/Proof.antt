@@ -1,14 +1,14 @@
--- `density_entries::block_sums` meets its contract. The loop's invariant and its turn are those of `Blocks`. Assumes nothing.
+-- `density_entries::block_sums` meets its contract. The loop's invariant and its step are those of `Blocks`. Assumes nothing.
 use native.Mathlib.Omega.{arith}
 use mathlib.Core.Path.{refl, _∙_}
 use Prim.Native.Nat.{_+_, _-_}
-use Rattle.density_entries.proofs.BlocksLaws.{SumTurns, sums-begin, sums-turn, sums-end, reached, turn-same}
+use Rattle.density_entries.proofs.BlocksLaws.{SumSteps, sums-begin, sums-step, sums-end, reached, step-same}
 use borrow.Author.Needs.{needs}
 use Rattle.density_entries.proofs.block_sums.Statement.{statement}
 use Rattle.density_entries.proofs.block_sums.Tie as tie
 
 abbrev Inv-loop : tie.InvT-loop
-Inv-loop state n mask groups a0 a1 b0 b1 block₀ base₀ e₀ block base e = SumTurns n state mask groups a0 a1 b0 b1 block base e
+Inv-loop state n mask groups a0 a1 b0 b1 block₀ base₀ e₀ block base e = SumSteps n state mask groups a0 a1 b0 b1 block base e
 
 abbrev μ-loop : tie.MeasureT-loop
 μ-loop state n mask groups a0 a1 b0 b1 block₀ base₀ e₀ block base e = groups + 1 - e
@@ -31,8 +31,8 @@ read-cell-requires-3 c κs = let z = c .before .before .before .before .before .
 read-cell-requires-4 : tie.Need-read-cell-requires-4 Inv-loop μ-loop
 read-cell-requires-4 c κs = let z = c .before .before .before .before .before .before .before in reached _ _ _ _ _ _ _ _ _ _ (z .pre) (c .before .before .before .before .loop .inv .base-is) (z .pre .b1-lt)
 
-turn-requires : tie.Need-turn-requires Inv-loop μ-loop
-turn-requires c κs = search needs
+step-requires : tie.Need-step-requires Inv-loop μ-loop
+step-requires c κs = search needs
 
 next-submask-requires : tie.Need-next-submask-requires Inv-loop μ-loop
 next-submask-requires c κs = search needs
@@ -44,7 +44,7 @@ loop-less : tie.Need-loop-less Inv-loop μ-loop
 loop-less c = search needs
 
 loop-again : tie.Need-loop-again Inv-loop μ-loop
-loop-again c = sums-turn _ _ _ _ _ _ _ _ _ _ _ _ _ (c .before .before .before .before .before .before .before .before .before .before .pre) (c .before .before .before .before .before .before .before .loop .inv) (omega arith) (c .before .turn .ensures ∙ turn-same _ (c .before .before .before .before .before .read-cell .ensures) (c .before .before .before .before .read-cell2 .ensures) (c .before .before .before .read-cell3 .ensures) (c .before .before .read-cell4 .ensures)) (c .next-submask .ensures)
+loop-again c = sums-step _ _ _ _ _ _ _ _ _ _ _ _ _ (c .before .before .before .before .before .before .before .before .before .before .pre) (c .before .before .before .before .before .before .before .loop .inv) (omega arith) (c .before .step .ensures ∙ step-same _ (c .before .before .before .before .before .read-cell .ensures) (c .before .before .before .before .read-cell2 .ensures) (c .before .before .before .read-cell3 .ensures) (c .before .before .read-cell4 .ensures)) (c .next-submask .ensures)
 
 returns : tie.Need-returns Inv-loop μ-loop
 returns c = sums-end _ _ _ _ _ _ _ _ _ _ _ (c .before .loop .inv) (omega arith)
@@ -61,7 +61,7 @@ block-sums-spec =
     read-cell-requires-2
     read-cell-requires-3
     read-cell-requires-4
-    turn-requires
+    step-requires
     next-submask-requires
     add-e
     loop-less

@@ -1,14 +1,14 @@
--- `density_entries::fill_lower` meets its contract. The loop's invariant and its turn are those of `Filled`. Assumes nothing.
+-- `density_entries::fill_lower` meets its contract. The loop's invariant and its step are those of `Filled`. Assumes nothing.
 use Prim.Native.Nat.{_-_}
 use native.Mathlib.Omega.{arith}
-use Rattle.density_entries.specs.Filled.{tableEntry, LowerTurns}
-use Rattle.density_entries.proofs.FilledLaws.{lower-begin, lower-turn, lower-end}
+use Rattle.density_entries.specs.Filled.{tableEntry, LowerSteps}
+use Rattle.density_entries.proofs.FilledLaws.{lower-begin, lower-step, lower-end}
 use borrow.Author.Needs.{needs}
 use Rattle.density_entries.proofs.fill_lower.Statement.{statement}
 use Rattle.density_entries.proofs.fill_lower.Tie as tie
 
 abbrev Inv-loop : tie.InvT-loop
-Inv-loop state n mask groups offsets dim out₀ half t₀ out t = LowerTurns dim (tableEntry n state mask groups offsets) out₀ out t
+Inv-loop state n mask groups offsets dim out₀ half t₀ out t = LowerSteps dim (tableEntry n state mask groups offsets) out₀ out t
 
 abbrev μ-loop : tie.MeasureT-loop
 μ-loop state n mask groups offsets dim out₀ half t₀ out t = half - t
@@ -26,7 +26,7 @@ loop-less : tie.Need-loop-less Inv-loop μ-loop
 loop-less c = search needs
 
 loop-again : tie.Need-loop-again Inv-loop μ-loop
-loop-again c = lower-turn _ _ _ _ _ _ (c .before .before .before .before .before .loop .inv) (omega (arith, c .before .before .before .before .before .before .before .before .before .pre .0 .even)) (c .before .before .fill-row-pair .ensures)
+loop-again c = lower-step _ _ _ _ _ _ (c .before .before .before .before .before .loop .inv) (omega (arith, c .before .before .before .before .before .before .before .before .before .pre .0 .even)) (c .before .before .fill-row-pair .ensures)
 
 same-length : tie.Need-same-length Inv-loop μ-loop
 same-length c = c .before .loop .inv .long

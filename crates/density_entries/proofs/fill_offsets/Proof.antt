@@ -1,8 +1,8 @@
--- `density_entries::fill_offsets` meets its contract. The loop's invariant and its turn are those of `EntryLaws`. Assumes nothing.
+-- `density_entries::fill_offsets` meets its contract. The loop's invariant and its step are those of `EntryLaws`. Assumes nothing.
 use Prim.Native.Nat.{_-_}
 use native.Mathlib.Omega.{arith}
 use Rattle.density_entries.specs.OffsetLoop.{OffsetSteps}
-use Rattle.density_entries.proofs.EntryLaws.{offset-begin, offset-turn, offset-end}
+use Rattle.density_entries.proofs.EntryLaws.{offset-begin, offset-step, offset-end}
 use borrow.Author.Needs.{needs}
 use Rattle.density_entries.proofs.fill_offsets.Statement.{statement}
 use Rattle.density_entries.proofs.fill_offsets.Tie as tie
@@ -32,7 +32,7 @@ loop-less : tie.Need-loop-less Inv-loop μ-loop
 loop-less c = search needs
 
 loop-again : tie.Need-loop-again Inv-loop μ-loop
-loop-again c = offset-turn _ _ _ _ _ _ (c .before .before .loop .inv) (c .before .loop-test .taken) (c .before .before .before .before .before .pre .1) (c .row-offset .ensures)
+loop-again c = offset-step _ _ _ _ _ _ (c .before .before .loop .inv) (c .before .loop-test .taken) (c .before .before .before .before .before .pre .1) (c .row-offset .ensures)
 
 same-length : tie.Need-same-length Inv-loop μ-loop
 same-length c = c .before .loop .inv .long

@@ -1,4 +1,4 @@
--- `density_entries::fill_row_pair` meets its contract. The loop's invariant and its turn are those of `Filled`. Assumes nothing.
+-- `density_entries::fill_row_pair` meets its contract. The loop's invariant and its step are those of `Filled`. Assumes nothing.
 use mathlib.Core.Path.{_∙_, ap}
 use mathlib.Core.List.{List}
 use lib.Ieee.{Float}
@@ -7,14 +7,14 @@ use native.Mathlib.Omega.{arith}
 use Rattle.density_entries.specs.declared.Block.{Block}
 use Rattle.density_entries.specs.Blocks.{blockSums}
 use Rattle.density_entries.specs.Pairs.{setPair}
-use Rattle.density_entries.specs.Filled.{tableEntry, PairTurns}
-use Rattle.density_entries.proofs.FilledLaws.{pair-begin, pair-turn, pair-end, ready-reach}
+use Rattle.density_entries.specs.Filled.{tableEntry, PairSteps}
+use Rattle.density_entries.proofs.FilledLaws.{pair-begin, pair-step, pair-end, ready-reach}
 use borrow.Author.Needs.{needs}
 use Rattle.density_entries.proofs.fill_row_pair.Statement.{statement}
 use Rattle.density_entries.proofs.fill_row_pair.Tie as tie
 
 abbrev Inv-loop : tie.InvT-loop
-Inv-loop state n mask groups offsets dim t out₀ r below a0 a1 stop u₀ out u = PairTurns dim t (tableEntry n state mask groups offsets) out₀ out u
+Inv-loop state n mask groups offsets dim t out₀ r below a0 a1 stop u₀ out u = PairSteps dim t (tableEntry n state mask groups offsets) out₀ out u
 
 abbrev μ-loop : tie.MeasureT-loop
 μ-loop state n mask groups offsets dim t out₀ r below a0 a1 stop u₀ out u = stop - u
@@ -78,7 +78,7 @@ loop-less c = search needs
 
 loop-again : tie.Need-loop-again Inv-loop μ-loop
 unfolding blockSums
-loop-again c = let z = c .before .before .before .before .before .before .before .before .before .before .before .before .before .before .before .before .before .before in let k = c .before .before .before .before .before .before .before .before .block-sums .result in let e = c .before .before .before .before .before .before .before .before .block-sums .ensures in pair-turn _ _ _ _ _ _ _ k (z .pre .1 .0) (z .pre .1 .1) (c .before .before .before .before .before .before .before .before .before .before .before .before .loop .inv) (omega (arith)) (ap (λ (b : Block). b .first) e) (ap (λ (b : Block). b .second) e) (ap (λ (b : Block). b .third) e) (ap (λ (b : Block). b .fourth) e) (c .before .before .write-pair2 .ensures ∙ ap (λ (x : List Float). setPair x (z .args .dim) (2 * z .args .t + 1) (2 * c .before .before .before .before .before .before .before .before .before .before .before .before .loop .u) (k .third) (k .fourth)) (c .before .before .before .before .before .before .write-pair .ensures))
+loop-again c = let z = c .before .before .before .before .before .before .before .before .before .before .before .before .before .before .before .before .before .before in let k = c .before .before .before .before .before .before .before .before .block-sums .result in let e = c .before .before .before .before .before .before .before .before .block-sums .ensures in pair-step _ _ _ _ _ _ _ k (z .pre .1 .0) (z .pre .1 .1) (c .before .before .before .before .before .before .before .before .before .before .before .before .loop .inv) (omega (arith)) (ap (λ (b : Block). b .first) e) (ap (λ (b : Block). b .second) e) (ap (λ (b : Block). b .third) e) (ap (λ (b : Block). b .fourth) e) (c .before .before .write-pair2 .ensures ∙ ap (λ (x : List Float). setPair x (z .args .dim) (2 * z .args .t + 1) (2 * c .before .before .before .before .before .before .before .before .before .before .before .before .loop .u) (k .third) (k .fourth)) (c .before .before .before .before .before .before .write-pair .ensures))
 
 same-length : tie.Need-same-length Inv-loop μ-loop
 same-length c = c .before .loop .inv .long

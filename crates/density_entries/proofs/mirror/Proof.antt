@@ -1,7 +1,7 @@
--- `density_entries::mirror` meets its contract. The loop's invariant and its turn are those of `Mirrored`. Assumes nothing.
+-- `density_entries::mirror` meets its contract. The loop's invariant and its step are those of `Mirrored`. Assumes nothing.
 use Prim.Native.Nat.{_-_}
 use native.Mathlib.Omega.{arith}
-use Rattle.density_entries.proofs.MirroredLaws.{MirrorSteps, row-begin, row-turn, row-end, mirror-end}
+use Rattle.density_entries.proofs.MirroredLaws.{MirrorSteps, row-begin, row-step, row-end, mirror-end}
 use borrow.Author.Needs.{needs}
 use Rattle.density_entries.proofs.mirror.Statement.{statement}
 use Rattle.density_entries.proofs.mirror.Tie as tie
@@ -25,7 +25,7 @@ loop-less : tie.Need-loop-less Inv-loop μ-loop
 loop-less c = search needs
 
 loop-again : tie.Need-loop-again Inv-loop μ-loop
-loop-again c = row-turn _ _ _ _ _ (c .before .before .before .before .before .loop .inv) (c .before .before .before .before .loop-test .taken) (c .before .before .mirror-column .ensures)
+loop-again c = row-step _ _ _ _ _ (c .before .before .before .before .before .loop .inv) (c .before .before .before .before .loop-test .taken) (c .before .before .mirror-column .ensures)
 
 same-length : tie.Need-same-length Inv-loop μ-loop
 same-length c = c .before .loop .inv .long

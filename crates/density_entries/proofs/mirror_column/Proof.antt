@@ -1,16 +1,16 @@
--- `density_entries::mirror_column` meets its contract. The loop's invariant and its turn are those of `Mirrored`. Assumes nothing.
+-- `density_entries::mirror_column` meets its contract. The loop's invariant and its step are those of `Mirrored`. Assumes nothing.
 use Prim.Native.Nat.{_+_, _-_}
 use native.Mathlib.Omega.{arith}
 use mathlib.Core.Path.{_∙_, ap}
 use Rattle.complex.specs.Arithmetic.{conjugate}
-use Rattle.density_entries.specs.Mirrored.{ColumnTurns}
-use Rattle.density_entries.proofs.MirroredLaws.{column-begin, column-turn, column-end, index-small, cell-in}
+use Rattle.density_entries.specs.Mirrored.{ColumnSteps}
+use Rattle.density_entries.proofs.MirroredLaws.{column-begin, column-step, column-end, index-small, cell-in}
 use borrow.Author.Needs.{needs}
 use Rattle.density_entries.proofs.mirror_column.Statement.{statement}
 use Rattle.density_entries.proofs.mirror_column.Tie as tie
 
 abbrev Inv-loop : tie.InvT-loop
-Inv-loop rho₀ dim t u₀ rho u = ColumnTurns dim t rho₀ rho u
+Inv-loop rho₀ dim t u₀ rho u = ColumnSteps dim t rho₀ rho u
 
 abbrev μ-loop : tie.MeasureT-loop
 μ-loop rho₀ dim t u₀ rho u = t + 1 - u
@@ -46,7 +46,7 @@ loop-less : tie.Need-loop-less Inv-loop μ-loop
 loop-less c = search needs
 
 loop-again : tie.Need-loop-again Inv-loop μ-loop
-loop-again c = let z = c .before .before .before .before .before .before .before .before .before .before in column-turn _ _ _ _ _ _ _ (z .pre .0) (z .pre .1) (c .before .before .before .before .before .before .before .before .loop .inv) (omega arith) (c .before .before .before .conj .ensures ∙ ap conjugate (c .before .before .before .before .before .read-cell .ensures)) (c .before .before .write-cell .ensures)
+loop-again c = let z = c .before .before .before .before .before .before .before .before .before .before in column-step _ _ _ _ _ _ _ (z .pre .0) (z .pre .1) (c .before .before .before .before .before .before .before .before .loop .inv) (omega arith) (c .before .before .before .conj .ensures ∙ ap conjugate (c .before .before .before .before .before .read-cell .ensures)) (c .before .before .write-cell .ensures)
 
 same-length : tie.Need-same-length Inv-loop μ-loop
 same-length c = c .before .loop .inv .long

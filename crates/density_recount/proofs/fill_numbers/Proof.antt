@@ -1,11 +1,11 @@
--- `density_recount::fill_numbers` meets its contract. The loop's invariant and turn are those of `RecountLaws`; here they meet the code.
+-- `density_recount::fill_numbers` meets its contract. The loop's invariant and step are those of `RecountLaws`; here they meet the code.
 -- Assumes nothing.
 use mathlib.Core.Path.{ap, ap₂, _∙_}
 use Prim.Native.Nat.{ℕ, _*_, _-_}
 use native.Mathlib.Omega.{arith}
 use Rattle.submasks.specs.Submasks.{submaskNumber}
 use Rattle.density_recount.specs.Recount.{Numbers}
-use Rattle.density_recount.proofs.RecountLaws.{numbers-begin, numbers-turn, numbers-end, scaled-small}
+use Rattle.density_recount.proofs.RecountLaws.{numbers-begin, numbers-step, numbers-end, scaled-small}
 use borrow.Author.Needs.{needs}
 use Rattle.density_recount.proofs.fill_numbers.Statement.{statement}
 use Rattle.density_recount.proofs.fill_numbers.Tie as tie
@@ -43,7 +43,7 @@ loop-less c = search needs
 loop-again : tie.Need-loop-again Inv-loop μ-loop
 loop-again c =
     let z = c .before .before .before .before .before .before in
-    numbers-turn _ _ _ _ _ _ _ _ (c .before .before .before .loop .inv) (c .before .before .loop-test .taken) (z .pre .1 .2)
+    numbers-step _ _ _ _ _ _ _ _ (c .before .before .before .loop .inv) (c .before .before .loop-test .taken) (z .pre .1 .2)
     (ap (λ (y : ℕ). y * z .args .scale) (c .number-in .ensures ∙ ap₂ (submaskNumber (z .args .n)) (z .pre .1 .0) (c .before .row-offset .ensures)))
 
 same-length : tie.Need-same-length Inv-loop μ-loop

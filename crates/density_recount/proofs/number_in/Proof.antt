@@ -1,4 +1,4 @@
--- `density_recount::number_in` meets its contract. The loop's invariant and turns are those of `RecountLaws`; here they meet the code.
+-- `density_recount::number_in` meets its contract. The loop's invariant and steps are those of `RecountLaws`; here they meet the code.
 -- Assumes nothing.
 use mathlib.Core.Path.{sym, _∙_}
 use Prim.Native.Nat.{_-_}

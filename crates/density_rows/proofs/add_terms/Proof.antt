@@ -1,4 +1,4 @@
--- `density_rows::add_terms` meets its contract. The loop's invariant and its turn are those of `TwoRows`. Assumes nothing.
+-- `density_rows::add_terms` meets its contract. The loop's invariant and its step are those of `TwoRows`. Assumes nothing.
 use Rattle.density_rows.proofs.TwoRowsLaws.{added-same}
 use Rattle.complex.specs.Planes.{setPlane}
 use lib.Ieee.{Float}
@@ -7,14 +7,14 @@ use mathlib.Core.List.{List}
 use mathlib.Core.Path.{_∙_, ap}
 use Prim.Native.Nat.{_≤_, _-_}
 use native.Mathlib.Omega.{arith}
-use Rattle.density_rows.specs.TwoRows.{TermTurns}
-use Rattle.density_rows.proofs.TwoRowsLaws.{term-begin, term-turn, term-end}
+use Rattle.density_rows.specs.TwoRows.{TermSteps}
+use Rattle.density_rows.proofs.TwoRowsLaws.{term-begin, term-step, term-end}
 use borrow.Author.Needs.{needs}
 use Rattle.density_rows.proofs.add_terms.Statement.{statement}
 use Rattle.density_rows.proofs.add_terms.Tie as tie
 
 abbrev Inv-loop : tie.InvT-loop
-Inv-loop planes at r m sums₀ here a0 a1 u₀ sums u = (u ≤ m) × TermTurns planes at r sums₀ sums u
+Inv-loop planes at r m sums₀ here a0 a1 u₀ sums u = (u ≤ m) × TermSteps planes at r sums₀ sums u
 
 abbrev μ-loop : tie.MeasureT-loop
 μ-loop planes at r m sums₀ here a0 a1 u₀ sums u = m - u
@@ -68,7 +68,7 @@ loop-less : tie.Need-loop-less Inv-loop μ-loop
 loop-less c = search needs
 
 loop-again : tie.Need-loop-again Inv-loop μ-loop
-loop-again c = (omega arith, term-turn _ _ _ _ _ _ _ _ _ (c .before .before .before .before .before .before .before .before .before .before .before .before .before .before .before .before .before .before .before .before .before .pre .0 .1) (c .before .before .before .before .before .before .before .before .before .before .before .before .before .before .before .before .loop .inv .1) (omega (arith, c .before .before .before .before .before .before .before .before .before .before .before .before .before .before .before .before .before .before .before .before .before .pre .1 .2)) (c .before .before .before .before .before .before .before .before .add-term .ensures ∙ added-same (c .before .before .before .before .before .before .before .before .before .before .before .before .read-plane4 .ensures) (c .before .before .before .before .before .before .before .before .before .before .before .before .before .before .before .before .before .before .read-plane .ensures) (c .before .before .before .before .before .before .before .before .before .before .before .before .before .before .read-plane3 .ensures)) (c .before .before .before .add-term2 .ensures ∙ added-same (c .before .before .before .before .before .before .before .before .before .before .read-plane5 .ensures) (c .before .before .before .before .before .before .before .before .before .before .before .before .before .before .before .before .before .read-plane2 .ensures) (c .before .before .before .before .before .before .before .before .before .before .before .before .before .before .read-plane3 .ensures)) (c .before .before .write-plane2 .ensures ∙ ap (λ (x : List Float). setPlane x 128 (64 + c .before .before .before .before .before .before .before .before .before .before .before .before .before .before .before .before .loop .u) (c .before .before .before .add-term2 .result)) (c .before .before .before .before .before .before .before .write-plane .ensures)))
+loop-again c = (omega arith, term-step _ _ _ _ _ _ _ _ _ (c .before .before .before .before .before .before .before .before .before .before .before .before .before .before .before .before .before .before .before .before .before .pre .0 .1) (c .before .before .before .before .before .before .before .before .before .before .before .before .before .before .before .before .loop .inv .1) (omega (arith, c .before .before .before .before .before .before .before .before .before .before .before .before .before .before .before .before .before .before .before .before .before .pre .1 .2)) (c .before .before .before .before .before .before .before .before .add-term .ensures ∙ added-same (c .before .before .before .before .before .before .before .before .before .before .before .before .read-plane4 .ensures) (c .before .before .before .before .before .before .before .before .before .before .before .before .before .before .before .before .before .before .read-plane .ensures) (c .before .before .before .before .before .before .before .before .before .before .before .before .before .before .read-plane3 .ensures)) (c .before .before .before .add-term2 .ensures ∙ added-same (c .before .before .before .before .before .before .before .before .before .before .read-plane5 .ensures) (c .before .before .before .before .before .before .before .before .before .before .before .before .before .before .before .before .before .read-plane2 .ensures) (c .before .before .before .before .before .before .before .before .before .before .before .before .before .before .read-plane3 .ensures)) (c .before .before .write-plane2 .ensures ∙ ap (λ (x : List Float). setPlane x 128 (64 + c .before .before .before .before .before .before .before .before .before .before .before .before .before .before .before .before .loop .u) (c .before .before .before .add-term2 .result)) (c .before .before .before .before .before .before .before .write-plane .ensures)))
 
 same-length : tie.Need-same-length Inv-loop μ-loop
 same-length c = c .before .loop .inv .1 .long

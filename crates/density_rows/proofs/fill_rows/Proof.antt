@@ -1,15 +1,15 @@
--- `density_rows::fill_rows` meets its contract. The loop's invariant and its turn are those of `Filled`. Assumes nothing.
+-- `density_rows::fill_rows` meets its contract. The loop's invariant and its step are those of `Filled`. Assumes nothing.
 use Prim.Native.Nat.{_-_}
 use native.Mathlib.Omega.{arith}
-use Rattle.density_entries.specs.Filled.{LowerTurns}
-use Rattle.density_entries.proofs.FilledLaws.{lower-begin, lower-turn, lower-end}
+use Rattle.density_entries.specs.Filled.{LowerSteps}
+use Rattle.density_entries.proofs.FilledLaws.{lower-begin, lower-step, lower-end}
 use Rattle.density_rows.specs.RowSums.{planeEntry}
 use borrow.Author.Needs.{needs}
 use Rattle.density_rows.proofs.fill_rows.Statement.{statement}
 use Rattle.density_rows.proofs.fill_rows.Tie as tie
 
 abbrev Inv-loop : tie.InvT-loop
-Inv-loop planes groups dim out₀ half t₀ out t = LowerTurns dim (planeEntry planes dim groups) out₀ out t
+Inv-loop planes groups dim out₀ half t₀ out t = LowerSteps dim (planeEntry planes dim groups) out₀ out t
 
 abbrev μ-loop : tie.MeasureT-loop
 μ-loop planes groups dim out₀ half t₀ out t = half - t
@@ -27,7 +27,7 @@ loop-less : tie.Need-loop-less Inv-loop μ-loop
 loop-less c = search needs
 
 loop-again : tie.Need-loop-again Inv-loop μ-loop
-loop-again c = lower-turn _ _ _ _ _ _ (c .before .before .before .before .before .loop .inv) (omega (arith, c .before .before .before .before .before .before .before .before .pre .1 .1)) (c .before .before .fill-pair .ensures)
+loop-again c = lower-step _ _ _ _ _ _ (c .before .before .before .before .before .loop .inv) (omega (arith, c .before .before .before .before .before .before .before .before .pre .1 .1)) (c .before .before .fill-pair .ensures)
 
 same-length : tie.Need-same-length Inv-loop μ-loop
 same-length c = c .before .loop .inv .long

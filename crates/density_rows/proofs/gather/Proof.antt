@@ -1,14 +1,14 @@
--- `density_rows::gather` meets its contract. The loop's invariant and its turn are those of `Gathered`. Assumes nothing.
+-- `density_rows::gather` meets its contract. The loop's invariant and its step are those of `Gathered`. Assumes nothing.
 use mathlib.Core.Path.{sym, _∙_}
 use Prim.Native.Nat.{_-_}
 use native.Mathlib.Omega.{arith}
-use Rattle.density_rows.proofs.GatheredLaws.{GatherTurns, gather-begin, gather-room, gather-reach, gather-turn, gather-end}
+use Rattle.density_rows.proofs.GatheredLaws.{GatherSteps, gather-begin, gather-room, gather-reach, gather-step, gather-end}
 use borrow.Author.Needs.{needs}
 use Rattle.density_rows.proofs.gather.Statement.{statement}
 use Rattle.density_rows.proofs.gather.Tie as tie
 
 abbrev Inv-loop : tie.InvT-loop
-Inv-loop state n mask groups offsets dim planes₀ base₀ e₀ planes base e = GatherTurns n state mask offsets dim groups planes base e
+Inv-loop state n mask groups offsets dim planes₀ base₀ e₀ planes base e = GatherSteps n state mask offsets dim groups planes base e
 
 abbrev μ-loop : tie.MeasureT-loop
 μ-loop state n mask groups offsets dim planes₀ base₀ e₀ planes base e = groups - e
@@ -32,7 +32,7 @@ loop-less : tie.Need-loop-less Inv-loop μ-loop
 loop-less c = search needs
 
 loop-again : tie.Need-loop-again Inv-loop μ-loop
-loop-again c = gather-turn _ _ _ _ _ _ _ _ _ _ _ (c .before .before .before .before .before .before .before .before .before .before .pre .0) (c .before .before .before .before .before .before .loop .inv) (c .before .before .before .before .before .loop-test .taken) (c .before .before .before .gather-one .ensures) (c .next-submask .ensures)
+loop-again c = gather-step _ _ _ _ _ _ _ _ _ _ _ (c .before .before .before .before .before .before .before .before .before .before .pre .0) (c .before .before .before .before .before .before .loop .inv) (c .before .before .before .before .before .loop-test .taken) (c .before .before .before .gather-one .ensures) (c .next-submask .ensures)
 
 same-length : tie.Need-same-length Inv-loop μ-loop
 same-length c = c .before .loop .inv .gathered .long ∙ sym (c .before .before .before .before .before .pre .1 .1)

@@ -1,14 +1,14 @@
--- `density_rows::gather_one` meets its contract. The loop's invariant and its turn are those of `Gathered`. Assumes nothing.
+-- `density_rows::gather_one` meets its contract. The loop's invariant and its step are those of `Gathered`. Assumes nothing.
 use Prim.Native.Nat.{_≤_, _-_}
 use native.Mathlib.Omega.{arith}
-use Rattle.density_rows.specs.Gathered.{OneTurns}
-use Rattle.density_rows.proofs.GatheredLaws.{one-begin, one-turn, one-end}
+use Rattle.density_rows.specs.Gathered.{OneSteps}
+use Rattle.density_rows.proofs.GatheredLaws.{one-begin, one-step, one-end}
 use borrow.Author.Needs.{needs}
 use Rattle.density_rows.proofs.gather_one.Statement.{statement}
 use Rattle.density_rows.proofs.gather_one.Tie as tie
 
 abbrev Inv-loop : tie.InvT-loop
-Inv-loop state n offsets dim base at planes₀ t₀ planes t = (t ≤ dim) × OneTurns state offsets base at planes₀ planes t
+Inv-loop state n offsets dim base at planes₀ t₀ planes t = (t ≤ dim) × OneSteps state offsets base at planes₀ planes t
 
 abbrev μ-loop : tie.MeasureT-loop
 μ-loop state n offsets dim base at planes₀ t₀ planes t = dim - t
@@ -38,7 +38,7 @@ loop-less : tie.Need-loop-less Inv-loop μ-loop
 loop-less c = search needs
 
 loop-again : tie.Need-loop-again Inv-loop μ-loop
-loop-again c = (omega arith, one-turn _ _ _ _ _ _ _ _ _ _ (c .before .before .before .before .before .before .before .loop .inv .1) (c .before .before .before .before .before .before .loop-test .taken) (c .before .before .before .before .before .before .before .before .before .before .before .pre .1 .0) (c .before .before .before .before .before .before .before .before .before .before .before .pre .1 .1) (c .before .before .before .before .read-cell .ensures) (c .before .before .write-plane .ensures))
+loop-again c = (omega arith, one-step _ _ _ _ _ _ _ _ _ _ (c .before .before .before .before .before .before .before .loop .inv .1) (c .before .before .before .before .before .before .loop-test .taken) (c .before .before .before .before .before .before .before .before .before .before .before .pre .1 .0) (c .before .before .before .before .before .before .before .before .before .before .before .pre .1 .1) (c .before .before .before .before .read-cell .ensures) (c .before .before .write-plane .ensures))
 
 same-length : tie.Need-same-length Inv-loop μ-loop
 same-length c = c .before .loop .inv .1 .long

@@ -1,10 +1,10 @@
--- `density_rows::pair_sums` meets its contract. The loop's invariant and its turn are those of `RowSums`. Assumes nothing.
+-- `density_rows::pair_sums` meets its contract. The loop's invariant and its step are those of `RowSums`. Assumes nothing.
 use mathlib.Core.Path.{sym, _∙_}
 use Prim.Native.Nat.{_≤_, _-_}
 use native.Mathlib.Omega.{arith}
 use Rattle.density_rows.proofs.GatheredLaws.{gather-room}
 use Rattle.density_rows.specs.RowSums.{PairSums}
-use Rattle.density_rows.proofs.RowSumsLaws.{sums-begin, sums-turn, sums-end}
+use Rattle.density_rows.proofs.RowSumsLaws.{sums-begin, sums-step, sums-end}
 use borrow.Author.Needs.{needs}
 use Rattle.density_rows.proofs.pair_sums.Statement.{statement}
 use Rattle.density_rows.proofs.pair_sums.Tie as tie
@@ -31,7 +31,7 @@ loop-less : tie.Need-loop-less Inv-loop μ-loop
 loop-less c = search needs
 
 loop-again : tie.Need-loop-again Inv-loop μ-loop
-loop-again c = (omega arith, sums-turn _ _ _ _ _ _ _ (c .before .before .before .before .before .loop .inv .1) (c .before .before .add-terms .ensures))
+loop-again c = (omega arith, sums-step _ _ _ _ _ _ _ (c .before .before .before .before .before .loop .inv .1) (c .before .before .add-terms .ensures))
 
 same-length : tie.Need-same-length Inv-loop μ-loop
 same-length c = c .before .loop .inv .1 .long ∙ sym (c .before .before .before .before .pre .0 .2 .long)

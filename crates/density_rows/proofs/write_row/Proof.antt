@@ -1,9 +1,9 @@
--- `density_rows::write_row` meets its contract. The loop's invariant and its turn are those of `RowSums`. Assumes nothing.
+-- `density_rows::write_row` meets its contract. The loop's invariant and its step are those of `RowSums`. Assumes nothing.
 use Prim.Native.Nat.{_≤_, _-_}
 use native.Mathlib.Omega.{arith}
 use Rattle.density_entries.proofs.MirroredLaws.{index-small, cell-in}
 use Rattle.density_rows.specs.RowSums.{RowSumSteps}
-use Rattle.density_rows.proofs.RowSumsLaws.{row-begin, row-turn, row-end}
+use Rattle.density_rows.proofs.RowSumsLaws.{row-begin, row-step, row-end}
 use borrow.Author.Needs.{needs}
 use Rattle.density_rows.proofs.write_row.Statement.{statement}
 use Rattle.density_rows.proofs.write_row.Tie as tie
@@ -39,7 +39,7 @@ loop-less : tie.Need-loop-less Inv-loop μ-loop
 loop-less c = search needs
 
 loop-again : tie.Need-loop-again Inv-loop μ-loop
-loop-again c = let z = c .before .before .before .before .before .before .before .before .before in (omega arith, row-turn _ _ _ _ _ _ _ _ _ _ (z .pre .1 .0) (z .pre .1 .1) (z .pre .0 .2) (c .before .before .before .before .before .before .loop .inv .1) (c .before .before .before .before .before .loop-test .taken) (c .before .before .before .before .read-plane .ensures) (c .before .before .write-cell .ensures))
+loop-again c = let z = c .before .before .before .before .before .before .before .before .before in (omega arith, row-step _ _ _ _ _ _ _ _ _ _ (z .pre .1 .0) (z .pre .1 .1) (z .pre .0 .2) (c .before .before .before .before .before .before .loop .inv .1) (c .before .before .before .before .before .loop-test .taken) (c .before .before .before .before .read-plane .ensures) (c .before .before .write-cell .ensures))
 
 same-length : tie.Need-same-length Inv-loop μ-loop
 same-length c = c .before .loop .inv .1 .long

@@ -10,7 +10,7 @@ use Rattle.complex.specs.Cells.{written}
 use Rattle.complex.proofs.CellLaws.{written-none}
 use Rattle.complex.proofs.Loops.{stop}
 use Rattle.density_trace.specs.Trace.{scaledCell}
-use Rattle.density_trace.proofs.TraceLaws.{scale-turn}
+use Rattle.density_trace.proofs.TraceLaws.{scale-step}
 use borrow.Author.Needs.{needs}
 use Rattle.density_trace.proofs.scale_cells.Statement.{statement}
 use Rattle.density_trace.proofs.scale_cells.Tie as tie
@@ -40,7 +40,7 @@ loop-less : tie.Need-loop-less Inv-loop μ-loop
 loop-less c = search needs
 
 loop-again : tie.Need-loop-again Inv-loop μ-loop
-loop-again c = let z = c .before .before .before .before .before .before .before .before .before .before in let i = c .before .before .before .before .before .before .before .before .loop .inv in (omega (arith, c .before .before .before .before .before .before .before .loop-test .taken), c .before .before .write-cell .kept .0 ∙ i .1, c .before .before .write-cell .ensures ∙ scale-turn (now (z .args .rho)) (c .before .before .before .before .before .before .before .before .loop .rho) (z .args .scale) (c .before .before .before .before .before .before .before .before .loop .k) _ (i .2) (omega (arith, z .pre)) (c .before .before .before .scale .ensures ∙ ap (λ (w : Complex). scaled w (z .args .scale)) (c .before .before .before .before .before .read-cell .ensures)))
+loop-again c = let z = c .before .before .before .before .before .before .before .before .before .before in let i = c .before .before .before .before .before .before .before .before .loop .inv in (omega (arith, c .before .before .before .before .before .before .before .loop-test .taken), c .before .before .write-cell .kept .0 ∙ i .1, c .before .before .write-cell .ensures ∙ scale-step (now (z .args .rho)) (c .before .before .before .before .before .before .before .before .loop .rho) (z .args .scale) (c .before .before .before .before .before .before .before .before .loop .k) _ (i .2) (omega (arith, z .pre)) (c .before .before .before .scale .ensures ∙ ap (λ (w : Complex). scaled w (z .args .scale)) (c .before .before .before .before .before .read-cell .ensures)))
 
 same-length : tie.Need-same-length Inv-loop μ-loop
 same-length c = c .before .loop .inv .1

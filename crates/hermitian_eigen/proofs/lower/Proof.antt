@@ -8,7 +8,7 @@ use denote.Ref.{now}
 use native.Mathlib.Omega.{arith}
 use Rattle.tables.specs.Tables.{filled}
 use Rattle.tables.proofs.TablesLaws.{filled-none, filled-all}
-use Rattle.svd_columns.proofs.Grids.{filled-turn}
+use Rattle.svd_columns.proofs.Grids.{filled-step}
 use Rattle.hermitian_eigen.proofs.StepsLaws.{past-filled}
 use borrow.Author.Needs.{needs}
 use Rattle.hermitian_eigen.proofs.lower.Statement.{statement}
@@ -42,7 +42,7 @@ loop-less : tie.Need-loop-less Inv-loop μ-loop
 loop-less c = search needs
 
 loop-again : tie.Need-loop-again Inv-loop μ-loop
-loop-again c = let v = now (c .before .before .before .args .values) in (search needs, search needs, simp length-set (c .before .before .loop .inv .2), filled-turn _ _ _ (omega (arith, c .before .loop-test .taken, c .before .before .loop .inv .0)) (c .before .before .loop .inv .3) (ap (λ x. sub binary64 x (c .before .before .before .args .shift)) (ap (λ l. getD l (c .before .before .loop .j) nan) (c .before .before .loop .inv .3) ∙ past-filled _ _ _)))
+loop-again c = let v = now (c .before .before .before .args .values) in (search needs, search needs, simp length-set (c .before .before .loop .inv .2), filled-step _ _ _ (omega (arith, c .before .loop-test .taken, c .before .before .loop .inv .0)) (c .before .before .loop .inv .3) (ap (λ x. sub binary64 x (c .before .before .before .args .shift)) (ap (λ l. getD l (c .before .before .loop .j) nan) (c .before .before .loop .inv .3) ∙ past-filled _ _ _)))
 
 same-length : tie.Need-same-length Inv-loop μ-loop
 same-length c = search needs

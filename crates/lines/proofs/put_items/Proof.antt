@@ -8,7 +8,7 @@ use lib.ListN.{length}
 use Rattle.texts.specs.Text.{Puts}
 use Rattle.lines.specs.Lines.{items}
 use Rattle.texts.proofs.TextLaws.{puts-as}
-use Rattle.lines.proofs.LineLaws.{items-none, items-room, items-turn}
+use Rattle.lines.proofs.LineLaws.{items-none, items-room, items-step}
 use borrow.Author.Needs.{needs}
 use Rattle.lines.proofs.put_items.Statement.{statement}
 use Rattle.lines.proofs.put_items.Tie as tie
@@ -41,7 +41,7 @@ loop-less : tie.Need-loop-less Inv-loop μ-loop
 loop-less c = search needs
 
 loop-again : tie.Need-loop-again Inv-loop μ-loop
-loop-again c = (omega arith, items-turn _ _ _ _ _ _ _ _ (c .before .before .before .before .before .before .before .before .before .before .pre) (c .before .before .before .before .before .before .loop-test .taken) (c .before .before .before .before .before .before .before .loop .inv .1) (c .before .before .put-item .ensures))
+loop-again c = (omega arith, items-step _ _ _ _ _ _ _ _ (c .before .before .before .before .before .before .before .before .before .before .pre) (c .before .before .before .before .before .before .loop-test .taken) (c .before .before .before .before .before .before .before .loop .inv .1) (c .before .before .put-item .ensures))
 
 same-length : tie.Need-same-length Inv-loop μ-loop
 same-length c = items-room _ _ _ _ _ _ (c .before .before .before .before .pre) (c .before .loop .inv .0) (c .before .loop .inv .1) .0

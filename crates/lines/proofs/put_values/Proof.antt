@@ -8,7 +8,7 @@ use lib.ListN.{length}
 use Rattle.texts.specs.Text.{Puts}
 use Rattle.lines.specs.Lines.{valueLines}
 use Rattle.texts.proofs.TextLaws.{puts-as}
-use Rattle.lines.proofs.LineLaws.{values-none, values-room, values-turn}
+use Rattle.lines.proofs.LineLaws.{values-none, values-room, values-step}
 use borrow.Author.Needs.{needs}
 use Rattle.lines.proofs.put_values.Statement.{statement}
 use Rattle.lines.proofs.put_values.Tie as tie
@@ -41,7 +41,7 @@ loop-less : tie.Need-loop-less Inv-loop μ-loop
 loop-less c = search needs
 
 loop-again : tie.Need-loop-again Inv-loop μ-loop
-loop-again c = (omega arith, values-turn _ _ _ _ _ _ _ _ _ (omega arith) (c .before .before .before .before .bits-of .ensures) (c .before .before .before .before .before .before .before .loop .inv .1) (c .before .before .put-value .ensures))
+loop-again c = (omega arith, values-step _ _ _ _ _ _ _ _ _ (omega arith) (c .before .before .before .before .bits-of .ensures) (c .before .before .before .before .before .before .before .loop .inv .1) (c .before .before .put-value .ensures))
 
 same-length : tie.Need-same-length Inv-loop μ-loop
 same-length c = values-room _ _ _ _ _ _ (c .before .before .before .before .pre) (c .before .loop .inv .0) (c .before .loop .inv .1) .0

@@ -7,7 +7,7 @@ use denote.Ref.{now}
 use Rattle.texts.specs.Text.{Puts}
 use Rattle.texts.proofs.TextLaws.{puts-as}
 use Rattle.page_cells.specs.PageCells.{cellLines}
-use Rattle.page_cells.proofs.PageCellLaws.{square-small, cells-none, cells-room, cells-turn}
+use Rattle.page_cells.proofs.PageCellLaws.{square-small, cells-none, cells-room, cells-step}
 use borrow.Author.Needs.{needs}
 use Rattle.page_cells.proofs.put_cells.Statement.{statement}
 use Rattle.page_cells.proofs.put_cells.Tie as tie
@@ -49,7 +49,7 @@ loop-less : tie.Need-loop-less Inv-loop μ-loop
 loop-less c = search needs
 
 loop-again : tie.Need-loop-again Inv-loop μ-loop
-loop-again c = (omega (arith, c .before .before .before .before .before .before .before .loop-test .taken), cells-turn _ _ _ _ _ (c .before .before .before .before .before .before .before .before .before .before .before .before .pre) _ _ _ _ _ _ _ _ (c .before .before .before .before .before .before .before .loop-test .taken) (c .before .before .before .before .before .before .read-cell .ensures) (c .before .before .before .before .before .bits-of .ensures) (c .before .before .before .before .bits-of2 .ensures) (c .before .before .before .before .before .before .before .before .loop .inv .1) (c .before .before .put-cell .ensures))
+loop-again c = (omega (arith, c .before .before .before .before .before .before .before .loop-test .taken), cells-step _ _ _ _ _ (c .before .before .before .before .before .before .before .before .before .before .before .before .pre) _ _ _ _ _ _ _ _ (c .before .before .before .before .before .before .before .loop-test .taken) (c .before .before .before .before .before .before .read-cell .ensures) (c .before .before .before .before .before .bits-of .ensures) (c .before .before .before .before .bits-of2 .ensures) (c .before .before .before .before .before .before .before .before .loop .inv .1) (c .before .before .put-cell .ensures))
 
 same-length : tie.Need-same-length Inv-loop μ-loop
 same-length c = cells-room _ _ _ _ _ (c .before .before .before .before .before .pre) _ _ _ (c .before .loop .inv .0) (c .before .loop .inv .1) .0

@@ -5,7 +5,7 @@ use Prim.Native.Nat.{_≤_, _-_}
 use native.Mathlib.Omega.{arith}
 use lib.ListN.{length, drop}
 use Rattle.pages.specs.Agree.{sameFloats}
-use Rattle.pages.proofs.AgreeLaws.{same-short, same-turn, same-stop, same-end}
+use Rattle.pages.proofs.AgreeLaws.{same-short, same-step, same-stop, same-end}
 use borrow.Author.Needs.{needs}
 use Rattle.pages.proofs.same_floats.Statement.{statement}
 use Rattle.pages.proofs.same_floats.Tie as tie
@@ -58,7 +58,7 @@ loop-again c =
     let w = z .loop .inv in (
       omega arith,
       w .1,
-      w .2 ∙ same-turn _ _ (z .loop .i) (c .before .before .before .before .before .loop-test .taken) (omega (arith, w .1)) (sym (c .before .before .before .bits-of .ensures) ∙ c .if2 .left ∙ c .before .bits-of2 .ensures),
+      w .2 ∙ same-step _ _ (z .loop .i) (c .before .before .before .before .before .loop-test .taken) (omega (arith, w .1)) (sym (c .before .before .before .bits-of .ensures) ∙ c .if2 .left ∙ c .before .bits-of2 .ensures),
     )
 
 returns-3 : tie.Need-returns-3 Inv-loop μ-loop

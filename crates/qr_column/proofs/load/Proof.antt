@@ -3,7 +3,7 @@ use Prim.Native.Nat.{_-_}
 use native.Mathlib.Omega.{arith}
 use Rattle.qr_column.specs.Columns.{cellFrom}
 use Rattle.qr_column.proofs.ColumnLaws.{column-cell}
-use Rattle.qr_column.proofs.WovenLaws.{Filled, fill-begin, fill-turn, column-end}
+use Rattle.qr_column.proofs.WovenLaws.{Filled, fill-begin, fill-step, column-end}
 use Rattle.qr_column.proofs.load.Statement.{statement}
 use Rattle.qr_column.proofs.load.Tie as tie
 
@@ -32,7 +32,7 @@ loop-less : tie.Need-loop-less Inv-loop μ-loop
 loop-less c = omega (arith, c .before .before .before .before .before .loop-test .taken)
 
 loop-again : tie.Need-loop-again Inv-loop μ-loop
-loop-again c = fill-turn _ _ _ _ (c .before .before .before .before .before .before .loop .inv) (c .before .before .before .before .before .before .before .before .before .pre .1) (c .before .before .before .before .before .loop-test .taken) (column-cell _ _ _ (c .before .before .before .read-cell .ensures)) (c .before .before .write-plane .ensures)
+loop-again c = fill-step _ _ _ _ (c .before .before .before .before .before .before .loop .inv) (c .before .before .before .before .before .before .before .before .before .pre .1) (c .before .before .before .before .before .loop-test .taken) (column-cell _ _ _ (c .before .before .before .read-cell .ensures)) (c .before .before .write-plane .ensures)
 
 same-length : tie.Need-same-length Inv-loop μ-loop
 same-length c = c .before .loop .inv .size

@@ -4,7 +4,7 @@ use native.Mathlib.Omega.{arith}
 use Rattle.qr_basis.specs.Matrix.{matrixOf}
 use Rattle.qr_column.specs.Columns.{lessCell}
 use Rattle.qr_column.specs.Woven.{woven}
-use Rattle.qr_column.proofs.WovenLaws.{Filled, fill-begin, fill-turn, less-cell, less-end}
+use Rattle.qr_column.proofs.WovenLaws.{Filled, fill-begin, fill-step, less-cell, less-end}
 use borrow.Author.Needs.{needs}
 use Rattle.qr_column.proofs.subtract.Statement.{statement}
 use Rattle.qr_column.proofs.subtract.Tie as tie
@@ -40,7 +40,7 @@ loop-less : tie.Need-loop-less Inv-loop μ-loop
 loop-less c = omega (arith, c .before .before .before .before .before .before .before .before .before .loop-test .taken)
 
 loop-again : tie.Need-loop-again Inv-loop μ-loop
-loop-again c = fill-turn _ _ _ _ (c .before .before .before .before .before .before .before .before .before .before .loop .inv) (c .before .before .before .before .before .before .before .before .before .before .before .before .before .pre .1) (c .before .before .before .before .before .before .before .before .before .loop-test .taken) (less-cell _ _ _ _ _ _ (c .before .before .before .before .before .before .before .before .before .before .loop .inv) (c .before .before .before .before .before .before .before .before .before .loop-test .taken) (c .before .before .before .before .before .before .before .read-plane .ensures) (c .before .before .before .before .before .before .read-cell .ensures) (c .before .before .before .before .before .mul .ensures) (c .before .before .before .sub .ensures)) (c .before .before .write-plane .ensures)
+loop-again c = fill-step _ _ _ _ (c .before .before .before .before .before .before .before .before .before .before .loop .inv) (c .before .before .before .before .before .before .before .before .before .before .before .before .before .pre .1) (c .before .before .before .before .before .before .before .before .before .loop-test .taken) (less-cell _ _ _ _ _ _ (c .before .before .before .before .before .before .before .before .before .before .loop .inv) (c .before .before .before .before .before .before .before .before .before .loop-test .taken) (c .before .before .before .before .before .before .before .read-plane .ensures) (c .before .before .before .before .before .before .read-cell .ensures) (c .before .before .before .before .before .mul .ensures) (c .before .before .before .sub .ensures)) (c .before .before .write-plane .ensures)
 
 same-length : tie.Need-same-length Inv-loop μ-loop
 same-length c = c .before .loop .inv .size

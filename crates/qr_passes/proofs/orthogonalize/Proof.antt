@@ -5,7 +5,7 @@ use lib.ListN.{length}
 use Rattle.qr_basis.specs.Matrix.{matrixOf}
 use Rattle.qr_column.specs.Woven.{woven}
 use Rattle.qr_passes.specs.GramSchmidt.{held, passes}
-use Rattle.qr_passes.proofs.GramSchmidtLaws.{turn-stop, turn-go, turn-spent}
+use Rattle.qr_passes.proofs.GramSchmidtLaws.{step-stop, step-go, step-spent}
 use borrow.Author.Needs.{needs}
 use Rattle.qr_passes.proofs.orthogonalize.Statement.{statement}
 use Rattle.qr_passes.proofs.orthogonalize.Tie as tie
@@ -32,7 +32,7 @@ same-length-2 : tie.Need-same-length-2 Inv-loop μ-loop
 same-length-2 c = search needs
 
 returns : tie.Need-returns Inv-loop μ-loop
-returns c = turn-stop _ _ _ _ _ _ _ _ _ (c .before .before .before .before .before .before .before .before .before .before .before .loop .inv .3) (c .before .before .before .before .before .before .before .before .before .before .loop-test .taken) (c .before .before .before .before .before .before .before .pass .ensures) (c .before .norm-near .ensures) (c .if1 .taken)
+returns c = step-stop _ _ _ _ _ _ _ _ _ (c .before .before .before .before .before .before .before .before .before .before .before .loop .inv .3) (c .before .before .before .before .before .before .before .before .before .before .loop-test .taken) (c .before .before .before .before .before .before .before .pass .ensures) (c .before .norm-near .ensures) (c .if1 .taken)
 
 add-k : tie.Need-add-k Inv-loop μ-loop
 add-k c = search needs
@@ -41,7 +41,7 @@ loop-less : tie.Need-loop-less Inv-loop μ-loop
 loop-less c = search needs
 
 loop-again : tie.Need-loop-again Inv-loop μ-loop
-loop-again c = (search needs, search needs, search needs, turn-go _ _ _ _ _ _ _ _ _ (c .before .before .before .before .before .before .before .before .before .before .before .loop .inv .3) (c .before .before .before .before .before .before .before .before .before .before .loop-test .taken) (c .before .before .before .before .before .before .before .pass .ensures) (c .before .norm-near .ensures) (c .if1 .left))
+loop-again c = (search needs, search needs, search needs, step-go _ _ _ _ _ _ _ _ _ (c .before .before .before .before .before .before .before .before .before .before .before .loop .inv .3) (c .before .before .before .before .before .before .before .before .before .before .loop-test .taken) (c .before .before .before .before .before .before .before .pass .ensures) (c .before .norm-near .ensures) (c .if1 .left))
 
 same-length-3 : tie.Need-same-length-3 Inv-loop μ-loop
 same-length-3 c = c .before .loop .inv .1
@@ -50,7 +50,7 @@ same-length-4 : tie.Need-same-length-4 Inv-loop μ-loop
 same-length-4 c = c .before .loop .inv .2
 
 returns-2 : tie.Need-returns-2 Inv-loop μ-loop
-returns-2 c = turn-spent _ _ _ _ _ _ _ _ _ (c .before .loop .inv .3) (c .loop-test .left)
+returns-2 c = step-spent _ _ _ _ _ _ _ _ _ (c .before .loop .inv .3) (c .loop-test .left)
 
 pub orthogonalize-spec : {M : Type 1} → statement M
 orthogonalize-spec =

@@ -6,7 +6,7 @@ use native.Mathlib.Omega.{arith}
 use lib.ListN.{length, drop, getD}
 use lib.Bits.{bitOr}
 use Rattle.qubits.specs.Spread.{rowOffset, spread}
-use Rattle.qubits.proofs.SpreadLaws.{spread-turn, bit-code, offset-begin, offset-end}
+use Rattle.qubits.proofs.SpreadLaws.{spread-step, bit-code, offset-begin, offset-end}
 use borrow.Author.Needs.{needs}
 use Rattle.qubits.proofs.row_offset.Statement.{statement}
 use Rattle.qubits.proofs.row_offset.Tie as tie
@@ -47,7 +47,7 @@ loop-again c =
     let q = getD (z .args .list .now) (k .i) 0 in
     let l : q < 64 = omega (arith, z .pre .below (k .i) h, z .pre .small) in (
       omega (arith, h),
-      k .inv .1 ∙ spread-turn _ (k .i) (k .offset) _ h
+      k .inv .1 ∙ spread-step _ (k .i) (k .offset) _ h
           ∙ ap (λ (b : ℕ). bitOr (bitOr (k .offset) b) (spread (drop (k .i + 1) (z .args .list .now)) (z .args .t / 2 ^ (k .i + 1))))
           (sym (bit-code (z .args .t / 2 ^ k .i) q l)),
     )

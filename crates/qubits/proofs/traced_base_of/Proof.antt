@@ -4,7 +4,7 @@ use mathlib.Core.Path.{sym, _∙_}
 use mathlib.Core.Logic.{⊎-elim}
 use Prim.Native.Nat.{_<_, _-_}
 use native.Mathlib.Omega.{arith}
-use Rattle.qubits.proofs.SpreadLaws.{Inserted, insert-begin, insert-turn, insert-past, insert-end, insert-room}
+use Rattle.qubits.proofs.SpreadLaws.{Inserted, insert-begin, insert-step, insert-past, insert-end, insert-room}
 use Rattle.qubits.proofs.OtherLaws.{others-length, small-index}
 use borrow.Author.Needs.{needs}
 use Rattle.qubits.proofs.traced_base_of.Statement.{statement}
@@ -41,7 +41,7 @@ loop-again c =
     let h = c .before .before .loop-test .taken in
     let s = c .before .stands-in .ensures in
     ⊎-elim
-    (λ w. rw (w .2 ∙ w .1 .ensures) (insert-turn _ _ _ _ _ i h (sym s ∙ w .0 .taken)))
+    (λ w. rw (w .2 ∙ w .1 .ensures) (insert-step _ _ _ _ _ i h (sym s ∙ w .0 .taken)))
     (λ w. rw (w .1) (insert-past _ _ _ _ _ i h (sym s ∙ w .0 .left)))
     (c .if1 .came)
 

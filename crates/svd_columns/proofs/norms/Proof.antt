@@ -11,7 +11,7 @@ use Rattle.whole_numbers.proofs.WholeLaws.{column-fits}
 use Rattle.tables.proofs.TablesLaws.{filled-none, filled-all}
 use Rattle.complex.specs.Squares.{squaresTo}
 use Rattle.svd_columns.specs.Columns.{planeFrom, normsOf}
-use Rattle.svd_columns.proofs.Grids.{filled-turn}
+use Rattle.svd_columns.proofs.Grids.{filled-step}
 use borrow.Author.Needs.{needs}
 use Rattle.svd_columns.proofs.norms.Statement.{statement}
 use Rattle.svd_columns.proofs.norms.Tie as tie
@@ -55,7 +55,7 @@ loop-less : tie.Need-loop-less Inv-loop μ-loop
 loop-less c = search needs
 
 loop-again : tie.Need-loop-again Inv-loop μ-loop
-loop-again c = (search needs, simp length-set (c .before .before .before .loop .inv .1), filled-turn _ _ _ (omega (arith, c .before .before .before .before .before .before .pre .2, c .before .before .loop-test .taken)) (c .before .before .before .loop .inv .2) (c .root-of .ensures ∙ ap sqrtOf (c .before .squares .ensures)))
+loop-again c = (search needs, simp length-set (c .before .before .before .loop .inv .1), filled-step _ _ _ (omega (arith, c .before .before .before .before .before .before .pre .2, c .before .before .loop-test .taken)) (c .before .before .before .loop .inv .2) (c .root-of .ensures ∙ ap sqrtOf (c .before .squares .ensures)))
 
 same-length : tie.Need-same-length Inv-loop μ-loop
 same-length c = search needs

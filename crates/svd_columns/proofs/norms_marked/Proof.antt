@@ -14,7 +14,7 @@ use Rattle.whole_numbers.proofs.WholeLaws.{column-fits}
 use Rattle.tables.proofs.TablesLaws.{filled-none, filled-all}
 use Rattle.complex.specs.Squares.{squaresTo}
 use Rattle.svd_columns.specs.Columns.{planeFrom, normsOf, normsExact}
-use Rattle.svd_columns.proofs.Grids.{filled-turn}
+use Rattle.svd_columns.proofs.Grids.{filled-step}
 use borrow.Author.Needs.{needs}
 use Rattle.svd_columns.proofs.norms_marked.Statement.{statement}
 use Rattle.svd_columns.proofs.norms_marked.Tie as tie
@@ -65,7 +65,7 @@ loop-again c =
     let sum = c .before .before .squares .ensures in (
       search needs,
       simp length-set (d .loop .inv .1),
-      filled-turn _ _ _ (omega (arith, d .before .before .before .pre .2, c .before .before .before .loop-test .taken)) (d .loop .inv .2) (c .before .sqrt-marked .ensures .0 ∙ ap sqrtOf sum),
+      filled-step _ _ _ (omega (arith, d .before .before .before .pre .2, c .before .before .before .loop-test .taken)) (d .loop .inv .2) (c .before .sqrt-marked .ensures .0 ∙ ap sqrtOf sum),
       all-more _ _ (d .loop .inv .3) (c .before .sqrt-marked .ensures .1 ∙ ap exactRoot sum),
     )
 

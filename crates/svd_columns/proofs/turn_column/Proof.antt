@@ -9,7 +9,7 @@ use Rattle.complex.specs.Cells.{written}
 use Rattle.complex.proofs.CellLaws.{written-none}
 use Rattle.complex.specs.Planes.{planeAt}
 use Rattle.svd_columns.specs.Columns.{vCell}
-use Rattle.svd_columns.proofs.Grids.{written-turn}
+use Rattle.svd_columns.proofs.Grids.{written-step}
 use borrow.Author.Needs.{needs}
 use Rattle.svd_columns.proofs.turn_column.Statement.{statement}
 use Rattle.svd_columns.proofs.turn_column.Tie as tie
@@ -42,7 +42,7 @@ loop-less : tie.Need-loop-less Inv-loop μ-loop
 loop-less c = search needs
 
 loop-again : tie.Need-loop-again Inv-loop μ-loop
-loop-again c = let s = c .before .before .before .before .before .before .before .before .before .before in (search needs, search needs, written-turn _ _ _ (omega (arith, s .pre .2, c .before .before .before .before .before .before .loop-test .taken)) (c .before .before .before .before .before .before .before .loop .inv .2) (c .before .before .before .turn .ensures ∙ ap (vCell (s .args .wide)) (c .before .before .before .before .before .read-plane .ensures)) (c .before .before .write-cell .ensures))
+loop-again c = let s = c .before .before .before .before .before .before .before .before .before .before in (search needs, search needs, written-step _ _ _ (omega (arith, s .pre .2, c .before .before .before .before .before .before .loop-test .taken)) (c .before .before .before .before .before .before .before .loop .inv .2) (c .before .before .before .turn .ensures ∙ ap (vCell (s .args .wide)) (c .before .before .before .before .before .read-plane .ensures)) (c .before .before .write-cell .ensures))
 
 same-length : tie.Need-same-length Inv-loop μ-loop
 same-length c = search needs

@@ -10,7 +10,7 @@ use Rattle.stable_order.specs.Places.{placesIn}
 use Rattle.tables.specs.Tables.{filled}
 use Rattle.tables.proofs.TablesLaws.{filled-none, filled-all}
 use Rattle.svd_columns.specs.Columns.{sortedOf}
-use Rattle.svd_columns.proofs.Grids.{filled-turn}
+use Rattle.svd_columns.proofs.Grids.{filled-step}
 use borrow.Author.Needs.{needs}
 use Rattle.svd_columns.proofs.write_values.Statement.{statement}
 use Rattle.svd_columns.proofs.write_values.Tie as tie
@@ -46,7 +46,7 @@ loop-less : tie.Need-loop-less Inv-loop μ-loop
 loop-less c = search needs
 
 loop-again : tie.Need-loop-again Inv-loop μ-loop
-loop-again c = let b = c .before .before .before .before .before .before .before in (search needs, simp length-set (c .before .before .before .loop .inv .1), filled-turn _ _ _ (omega (arith, b .pre .4, c .before .before .loop-test .taken)) (c .before .before .before .loop .inv .2) (ap (λ o. getD (now (b .args .norms)) o nan) (c .before .read-place .ensures .0)))
+loop-again c = let b = c .before .before .before .before .before .before .before in (search needs, simp length-set (c .before .before .before .loop .inv .1), filled-step _ _ _ (omega (arith, b .pre .4, c .before .before .loop-test .taken)) (c .before .before .before .loop .inv .2) (ap (λ o. getD (now (b .args .norms)) o nan) (c .before .read-place .ensures .0)))
 
 same-length : tie.Need-same-length Inv-loop μ-loop
 same-length c = search needs

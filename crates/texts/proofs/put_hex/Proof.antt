@@ -5,7 +5,7 @@ use mathlib.Core.Path.{_≡_}
 use Prim.Native.Nat.{_≤_, _-_}
 use native.Mathlib.Omega.{arith}
 use Rattle.texts.specs.Text.{put, hex}
-use Rattle.texts.proofs.TextLaws.{hex-none, hex-turn, hex-length, hex-end}
+use Rattle.texts.proofs.TextLaws.{hex-none, hex-step, hex-length, hex-end}
 use Rattle.texts.proofs.put_hex.Statement.{statement}
 use Rattle.texts.proofs.put_hex.Tie as tie
 
@@ -43,7 +43,7 @@ loop-less : tie.Need-loop-less Inv-loop μ-loop
 loop-less c = search needs
 
 loop-again : tie.Need-loop-again Inv-loop μ-loop
-loop-again c = (omega arith, hex-turn _ _ _ _ _ _ (c .before .before .before .before .pre) (c .before .loop-test .taken) (c .before .before .loop .inv .1) (c .digit .ensures))
+loop-again c = (omega arith, hex-step _ _ _ _ _ _ (c .before .before .before .before .pre) (c .before .loop-test .taken) (c .before .before .loop .inv .1) (c .digit .ensures))
 
 add-result : tie.Need-add-result Inv-loop μ-loop
 add-result c = search needs

@@ -7,7 +7,7 @@ use native.Mathlib.Omega.{arith}
 use denote.Ref.{now}
 use lib.ListN.{length, take}
 use Rattle.texts.specs.Text.{put}
-use Rattle.texts.proofs.TextLaws.{put-none, text-turn, text-length, text-end}
+use Rattle.texts.proofs.TextLaws.{put-none, text-step, text-length, text-end}
 use Rattle.texts.proofs.put_text.Statement.{statement}
 use Rattle.texts.proofs.put_text.Tie as tie
 
@@ -36,7 +36,7 @@ loop-less : tie.Need-loop-less Inv-loop μ-loop
 loop-less c = search needs
 
 loop-again : tie.Need-loop-again Inv-loop μ-loop
-loop-again c = (omega arith, text-turn _ _ _ _ _ (c .before .before .before .pre) (c .before .loop-test .taken) (c .before .before .loop .inv .1))
+loop-again c = (omega arith, text-step _ _ _ _ _ (c .before .before .before .pre) (c .before .loop-test .taken) (c .before .before .loop .inv .1))
 
 add-result : tie.Need-add-result Inv-loop μ-loop
 add-result c = search needs

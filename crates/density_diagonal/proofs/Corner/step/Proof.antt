@@ -1,11 +1,11 @@
--- `density_diagonal::Corner::turn` meets its contract: each of the three is the call that adds its term. Assumes nothing.
+-- `density_diagonal::Corner::step` meets its contract: each of the three is the call that adds its term. Assumes nothing.
 use mathlib.Core.Path.{ap}
 use lib.Ieee.{binary64, add}
-use Rattle.density_diagonal.specs.Corners.{cornerTurn}
+use Rattle.density_diagonal.specs.Corners.{cornerStep}
 use Rattle.density_diagonal.proofs.CornersLaws.{corner-same}
 use borrow.Author.Needs.{needs}
-use Rattle.density_diagonal.proofs.Corner.turn.Statement.{statement}
-use Rattle.density_diagonal.proofs.Corner.turn.Tie as tie
+use Rattle.density_diagonal.proofs.Corner.step.Statement.{statement}
+use Rattle.density_diagonal.proofs.Corner.step.Tie as tie
 
 norm-sqr-requires : tie.Need-norm-sqr-requires
 norm-sqr-requires c κs = search needs
@@ -17,8 +17,8 @@ norm-sqr-requires-2 : tie.Need-norm-sqr-requires-2
 norm-sqr-requires-2 c κs = search needs
 
 returns : tie.Need-returns
-unfolding cornerTurn
+unfolding cornerStep
 returns c = corner-same (ap (add binary64 (c .before .before .before .before .before .before .args .self .first)) (c .before .before .before .before .norm-sqr .ensures)) (c .before .before .add-term .ensures) (ap (add binary64 (c .before .before .before .before .before .before .args .self .last)) (c .before .norm-sqr2 .ensures))
 
-pub turn-spec : {M : Type 1} → statement M
-turn-spec = tie.close (tie.spec norm-sqr-requires add-term-requires norm-sqr-requires-2 returns)
+pub step-spec : {M : Type 1} → statement M
+step-spec = tie.close (tie.spec norm-sqr-requires add-term-requires norm-sqr-requires-2 returns)
