@@ -308,6 +308,36 @@ fn lot_medians(rounds: usize) -> Option<(f64, f64)> {
     Some((1e6 * median(ours), 1e6 * median(theirs)))
 }
 
+/// The medians of the entropy band of the first k of n qubits in microseconds, beside the Rust's values and the entropy of their squares in
+/// floats.
+fn entropy_medians(n: usize, k: usize, rounds: usize) -> Option<(f64, f64)> {
+    let (state, named, side) = (drawn(&mut Random::new(23), 2 << n), (0..k).collect::<Vec<usize>>(), 1 << k.min(n - k));
+    let (mut bands, mut scratch) = (vec![0; 3 * side], vec![0.0; (8 << n) + 2 * side]);
+    let amplitudes: Vec<Complex64> = cells(&state);
+    let in_floats = || -> f64 {
+        let values = schmidt::dense_schmidt_values(black_box(&amplitudes), n, &named, 13).expect("an accepted state");
+        let weights = values.iter().map(|value| value * value);
+        let whole: f64 = weights.clone().sum();
+        weights.map(|weight| weight / whole).map(|part| -part * part.log2()).sum()
+    };
+    let (number, [low, high, whole]) = port::entropy_band(&state, n, &named, &mut bands, &mut scratch)?;
+    let (entropy, bits) = (in_floats(), |sum: u64| sum as f64 / whole as f64);
+    // a weight is the floor of 2^24 squares, so the entropy of the squares may miss the weights' band by a little
+    assert!(number == 0 && bits(low) - 1e-3 <= entropy && entropy <= bits(high) + 1e-3, "{number}: {entropy} for {low} to {high} of {whole}");
+    let turns = ((2e-3 / timed(1, || _ = black_box(in_floats()))) as usize).clamp(1, 100_000);
+    let (mut ours, mut theirs) = (vec![], vec![]);
+    for _ in 0..rounds {
+        ours.push(timed(turns, || {
+            black_box(port::entropy_band(black_box(&state), n, &named, &mut bands, &mut scratch));
+        }));
+        theirs.push(timed(turns, || {
+            black_box(in_floats());
+        }));
+    }
+    let each = |times| 1e6 * median(times) / turns as f64;
+    Some((each(ours), each(theirs)))
+}
+
 /// The most pairs that a call that sweeps can turn: its cap times the pairs of its smaller side.
 fn ceiling(call: &Call) -> Option<usize> {
     let pairs = |k: usize| k * (k - 1) / 2;
@@ -341,6 +371,11 @@ fn main() {
     if "lot_sheet".contains(&wanted) {
         if let Some((ours, theirs)) = lot_medians(rounds) {
             println!("| lot_sheet | 1,000 files, n=9 k=4 | {ours:.0} | {theirs:.0} | {:.2} |", ours / theirs);
+        }
+    }
+    for (n, k) in [(4, 2), (8, 4), (12, 6)].into_iter().filter(|_| "entropy_band".contains(&wanted)) {
+        if let Some((ours, theirs)) = entropy_medians(n, k, rounds) {
+            println!("| entropy_band | n={n} k={k} | {ours:.3} | {theirs:.3} | {:.2} |", ours / theirs);
         }
     }
     println!("\n| call | size | sweeps | turned pairs | ns for each | ceiling |");

@@ -255,6 +255,43 @@ pub fn lot_sheet(lot: &[u8]) -> Option<[usize; 32]> {
     None
 }
 
+/// A call of the entropy band under cap 13, in buffers that are lent: the answer's number, and the band's ends and whole; none where the
+/// library lacks it.
+#[allow(unused_variables)]
+pub fn entropy_band(state: &[f64], n: usize, list: &[usize], bands: &mut [usize], scratch: &mut [f64]) -> Option<(u32, [u64; 3])> {
+    #[cfg(has_zg_entropy_band)]
+    {
+        let (mut place, mut count, mut sweeps, mut quiet, mut turned) = (0, 0, 0, false, 0);
+        let [mut low, mut high, mut whole] = [0; 3];
+        // SAFETY: every slice is borrowed with its length, and the results are stored in locals.
+        let number = unsafe {
+            zg_entropy_band(
+                state.as_ptr(),
+                state.len(),
+                n,
+                list.as_ptr(),
+                list.len(),
+                13,
+                bands.as_mut_ptr(),
+                bands.len(),
+                scratch.as_mut_ptr(),
+                scratch.len(),
+                &raw mut place,
+                &raw mut count,
+                &raw mut low,
+                &raw mut high,
+                &raw mut whole,
+                &raw mut sweeps,
+                &raw mut quiet,
+                &raw mut turned,
+            )
+        };
+        return Some((number, [low, high, whole]));
+    }
+    #[allow(unreachable_code)]
+    None
+}
+
 /// The thirty numbers of the list's plan under cap 13, made at once and, where its qubits can be added one at a time, so made too; none
 /// where the library refuses the list. An inner none where the two differ.
 #[allow(unused_variables)]
