@@ -106,13 +106,13 @@ class Certify(unittest.TestCase):
 class Promises(unittest.TestCase):
     """`lots` and `lot_tallies` stand on the single result: they list no crate below it but the answers, the reading of a number and one law of
     whole numbers, name no definition below it, and unfold none of ours but their own."""
-    LAW = 'use Rattle.submasks.proofs.SubmaskLaws.{le-or-lt}\n'
+    LAW = 'use Rattle.whole_numbers.proofs.WholeLaws.{le-or-lt}\n'
 
     def listed(self, crate):
         return re.search(rf'^{crate}:(.*)$', (ROOT / 'crates.txt').read_text(), re.M).group(1).split()
 
     def test_crates(self):
-        self.assertEqual(self.listed('lot_tallies'), ['submasks'])
+        self.assertEqual(self.listed('lot_tallies'), ['whole_numbers'])
         self.assertEqual(self.listed('lots'), ['answers', 'cutfile', 'lot_verdicts', 'lot_tallies'])
 
     def test_names_and_unfoldings(self):
