@@ -1,4 +1,4 @@
-//! Times the port's entry points and the published Rust on the same inputs, in one process: rounds interleaved, buffers
+//! Times the port's entry points and the published Rust on the same inputs, in one process: rounds interleaved, all rows in each, buffers
 //! warm, both built for release, the thread's own processor time. A row is a call at a size: the medians in microseconds
 //! and the port's time as a part of the Rust's. An entry point that the library lacks is left out. A second table has, of the
 //! calls that sweep, the sweeps, the turned pairs, the time for one and the ceiling on them.
@@ -248,24 +248,44 @@ fn median(mut times: Vec<f64>) -> f64 {
     times[times.len() / 2]
 }
 
-/// The medians of a call of each, in microseconds.
-fn medians(row: &Row, rounds: usize) -> Option<(f64, f64)> {
-    let mut ready = port::Ready::new(&row.call);
-    if row.make(&mut ready)? != 0 {
-        eprintln!("bench: {} {} was refused", row.name, row.size);
-        return None;
+/// A row with what it lends, how many calls a round has, and the times of its rounds: the port's and the Rust's.
+struct Measured<'a> {
+    row: &'a Row,
+    ready: port::Ready<'a>,
+    turns: usize,
+    ours: Vec<f64>,
+    theirs: Vec<f64>,
+}
+
+impl<'a> Measured<'a> {
+    /// None where the library lacks the call or refuses it.
+    fn new(row: &'a Row) -> Option<Self> {
+        let mut ready = port::Ready::new(&row.call);
+        if row.make(&mut ready)? != 0 {
+            eprintln!("bench: {} {} was refused", row.name, row.size);
+            return None;
+        }
+        let once = timed(3, || (row.rust)()) / 3.0;
+        let turns = ((2e-3 / once.max(1e-8)) as usize).clamp(1, 100_000);
+        Some(Self { row, ready, turns, ours: vec![], theirs: vec![] })
     }
-    let once = timed(3, || (row.rust)()) / 3.0;
-    let turns = ((2e-3 / once.max(1e-8)) as usize).clamp(1, 100_000);
-    let (mut ours, mut theirs) = (vec![], vec![]);
-    for _ in 0..rounds {
-        ours.push(timed(turns, || {
-            black_box(row.make(&mut ready));
+
+    /// One round of each, after a call that warms its buffers.
+    fn round(&mut self) {
+        let (row, ready) = (self.row, &mut self.ready);
+        black_box(row.make(ready));
+        self.ours.push(timed(self.turns, || {
+            black_box(row.make(ready));
         }));
-        theirs.push(timed(turns, || (row.rust)()));
+        (row.rust)();
+        self.theirs.push(timed(self.turns, || (row.rust)()));
     }
-    let each = |times| 1e6 * median(times) / turns as f64;
-    Some((each(ours), each(theirs)))
+
+    /// The medians of a call of each, in microseconds.
+    fn medians(&self) -> (f64, f64) {
+        let each = |times: &[f64]| 1e6 * median(times.to_vec()) / self.turns as f64;
+        (each(&self.ours), each(&self.theirs))
+    }
 }
 
 /// A lot of 1,000 cut files of nine qubits, four of them named.
@@ -356,16 +376,22 @@ fn main() {
     let mut turns = vec![];
     println!("| call | size | port, µs | Rust, µs | ratio |");
     println!("|---|---|---|---|---|");
-    for row in rows().iter().filter(|row| row.name.contains(&wanted)) {
-        if let Some((ours, theirs)) = medians(row, rounds) {
-            println!("| {} | {} | {ours:.3} | {theirs:.3} | {:.2} |", row.name, row.size, ours / theirs);
-            let mut ready = port::Ready::new(&row.call);
-            let said = row.make(&mut ready).and_then(|number| ready.outcome(number)).and_then(|outcome| outcome.sweeps);
-            if let (Some(said), Some(most)) = (said, ceiling(&row.call)) {
-                let (begun, turned) = (said.begun, said.turned);
-                let each = 1e3 * ours / turned as f64;
-                turns.push(format!("| {} | {} | {begun} | {turned} | {each:.0} | {most} |", row.name, row.size));
-            }
+    let rows = rows();
+    let mut measured: Vec<Measured> = rows.iter().filter(|row| row.name.contains(&wanted)).filter_map(Measured::new).collect();
+    // All rows in every round, so that the rounds of a row are seconds apart: what else uses the processor's core for a while slows
+    // some rounds of every row, and not all of one.
+    for _ in 0..rounds {
+        measured.iter_mut().for_each(Measured::round);
+    }
+    for done in &measured {
+        let (row, (ours, theirs)) = (done.row, done.medians());
+        println!("| {} | {} | {ours:.3} | {theirs:.3} | {:.2} |", row.name, row.size, ours / theirs);
+        let mut ready = port::Ready::new(&row.call);
+        let said = row.make(&mut ready).and_then(|number| ready.outcome(number)).and_then(|outcome| outcome.sweeps);
+        if let (Some(said), Some(most)) = (said, ceiling(&row.call)) {
+            let (begun, turned) = (said.begun, said.turned);
+            let each = 1e3 * ours / turned as f64;
+            turns.push(format!("| {} | {} | {begun} | {turned} | {each:.0} | {most} |", row.name, row.size));
         }
     }
     if "lot_sheet".contains(&wanted) {
