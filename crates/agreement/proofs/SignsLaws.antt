@@ -1,5 +1,5 @@
 -- Laws of what `specs/Signs.antt` defines. Assumes nothing.
-use mathlib.Core.Path.{_≡_, refl, sym, ap, _∙_, subst}
+use mathlib.Core.Path.{_≡_, refl, sym, ap, subst}
 use mathlib.Core.Bool.{Bool, true, false, not, _&&_, Bool·beq, cond}
 use Prim.Native.Nat.{ℕ, _+_, _-_, _*_, _<_}
 use native.Mathlib.Omega.{arith}
@@ -9,7 +9,7 @@ use lib.Dec.{ltb}
 use lib.IntN.{pos}
 use lib.Ieee.{Float, nan, inf, fin, binary64, round, add, neg, sum, up, down}
 use lib.Ieee.Fits.{down-pos}
-use lib.Ieee.Scale.{round-same}
+use Rattle.signs.proofs.Zeros.{round-zero}
 use Rattle.signs.proofs.Signs.{neg-neg, round-neg, add-swap}
 use Rattle.agreement.specs.Signs.{Alike, same, zeros}
 
@@ -36,10 +36,6 @@ trans (zeros {s = s} {t = t}) b = after-zero b t refl s
 
 pub join : {x y z : Float} → Alike x z → Alike y z → Alike x y
 join a b = trans a (back b)
-
-round-zero : (s : Bool) (c : ℕ) → 0 < c → round binary64 s 0 c ≡ fin s 0 (pos 0)
-unfolding round
-round-zero s c h = round-same binary64 s 0 c 0 1 h (omega arith) (sym (zero-mul c)) ∙ refl
 
 -- ---- sums
 

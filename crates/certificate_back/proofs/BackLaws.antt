@@ -1,12 +1,12 @@
 -- Laws of the second part of the pages: how long it is, and what its calls ask. Assumes nothing.
-use mathlib.Core.Path.{_≡_, sym, ap, ap₂, _∙_}
+use mathlib.Core.Path.{_≡_, ap, ap₂, _∙_}
 use mathlib.Core.Bool.{Bool}
-use mathlib.Core.List.{List, _++_}
+use mathlib.Core.List.{List}
 use Prim.Native.Nat.{ℕ, _+_, _*_, _^_, _≤_}
 use native.Mathlib.Omega.{arith}
 use lib.Ieee.{Float, binary64, toBits}
 use lib.ListN.{length, take, length-append}
-use Rattle.cutfile.specs.Layout.{LongEnough, componentAt}
+use Rattle.cutfile.specs.Layout.{componentAt}
 use Rattle.cutfile.proofs.LayoutLaws.{small-power}
 use Rattle.cutfile_result.specs.Result.{stateOf}
 use Rattle.tables.specs.Tables.{filled}

@@ -2,7 +2,7 @@
 use mathlib.Core.Path.{_≡_, refl, sym, ap, ap₂, _∙_}
 use mathlib.Core.Bool.{Bool}
 use mathlib.Core.List.{List, [], _++_, append-assoc, append-nil}
-use Prim.Native.Nat.{ℕ, zero, suc, _+_, _-_, _*_, _≤_}
+use Prim.Native.Nat.{ℕ, zero, suc, _+_, _-_, _≤_}
 use native.Mathlib.Nat.{zero-add}
 use native.Mathlib.Omega.{arith}
 use lib.Ieee.{Float}
@@ -14,11 +14,11 @@ use Rattle.answers.proofs.PaperLaws.{done-new, done-old}
 use Rattle.texts.specs.Text.{put, Puts}
 use Rattle.texts.proofs.TextLaws.{puts-then, puts-as}
 use Rattle.lines.specs.Lines.{refusedWord}
-use Rattle.certificates.specs.Accepted.{Printable, acceptedText, Printed}
+use Rattle.certificates.specs.Accepted.{Printable, acceptedText}
 use Rattle.certificates.proofs.AcceptedLaws.{accepted-short}
 use Rattle.page_lines.specs.PageLines.{bitsLine, saidLine, listLine, replyLine}
 use Rattle.page_lines.proofs.PageLineLaws.{length-bits, length-said, length-list, length-reply}
-use Rattle.certificate_front.specs.Front.{pageOneLine, pageTwoLine, digestWord, exactWord, headText, oneText, frontText, OneReady, FrontReady}
+use Rattle.certificate_front.specs.Front.{pageOneLine, pageTwoLine, digestWord, exactWord, headText, oneText, frontText}
 
 pub length-head : (page : List ℕ) (digest : ℕ) → length (headText page digest) ≡ length page + 24
 unfolding headText

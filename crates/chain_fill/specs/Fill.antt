@@ -69,7 +69,7 @@ pub record Last (n bond at : ℕ) (u sites : List Float) (bonds starts : List �
   pub starts-is : starts' ≡ set (set starts 0 0) n (at + 2 * bond)
 
 -- the sizes and lengths of an accepted call, over slices of exactly the needed lengths
-pub record FillRoom (n limit state sites bonds starts marks matrix u vt scratch : ℕ) : Type 0 where
+pub record FillRoom (n limit state sites bonds starts marks u vt scratch : ℕ) : Type 0 where
   pub some : 1 ≤ n
   pub small : n ≤ 12
   pub limit-some : 1 ≤ limit
@@ -78,7 +78,6 @@ pub record FillRoom (n limit state sites bonds starts marks matrix u vt scratch 
   pub bonds-is : bonds ≡ n + 1
   pub starts-is : starts ≡ n + 1
   pub marks-is : marks ≡ 3 * (n - 1)
-  pub matrix-is : matrix ≡ 2 * 2 ^ n
   pub u-is : u ≡ 2 * 2 ^ n
   pub vt-is : vt ≡ 2 * 2 ^ n
   pub scratch-is : scratch ≡ 6 * 2 ^ n + 2 * 2 ^ (n / 2)

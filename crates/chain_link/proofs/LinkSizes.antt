@@ -36,9 +36,9 @@ half-few a b m k p q h = pick (leb a m) refl
         let l : 2 ^ b ≤ 2 ^ m = pow-mono g in
         omega arith
 
-pub link-sizes : (n j bond at limit sites matrix u vt scratch : ℕ) {columns k : ℕ} → LinkRoom n j bond at limit sites matrix u vt scratch
+pub link-sizes : (n j bond at limit sites u vt scratch : ℕ) {columns k : ℕ} → LinkRoom n j bond at limit sites u vt scratch
     → columns ≡ 2 ^ (n - 1 - j) → k ≡ sideOf (2 * bond) columns → LinkSizes n bond columns k
-link-sizes n j bond at limit sites matrix u vt scratch {columns} {k} r e f =
+link-sizes n j bond at limit sites u vt scratch {columns} {k} r e f =
     let d : suc j + (n - 1 - j) ≡ n = omega (arith, r .inside) in
     let p : 2 ^ suc j * 2 ^ (n - 1 - j) ≡ 2 ^ n = sym (pow-add 2 (suc j) (n - 1 - j)) ∙ ap (λ (x : ℕ). 2 ^ x) d in
     let s : 2 ^ suc j ≡ 2 ^ j * 2 = pow-suc 2 j in
@@ -59,19 +59,18 @@ link-sizes n j bond at limit sites matrix u vt scratch {columns} {k} r e f =
       side = half-few (suc j) (n - 1 - j) (n / 2) k k1 k2 (omega arith);
     }
 
-pub step-sizes : (n j bond at limit sites matrix u vt scratch : ℕ) {columns k : ℕ} (carried' matrix' vt' scratch' : ℕ) → LinkRoom n j bond at limit sites matrix u vt scratch
+pub step-sizes : (n j bond at limit sites u vt scratch : ℕ) {columns k : ℕ} (carried' vt' scratch' : ℕ) → LinkRoom n j bond at limit sites u vt scratch
     → columns ≡ 2 ^ (n - 1 - j) → k ≡ sideOf (2 * bond) columns
-    → carried' ≡ 2 * (2 * bond * columns) → matrix' ≡ 2 * (2 * bond * columns) → vt' ≡ 2 * (2 * bond * columns)
+    → carried' ≡ 2 * (2 * bond * columns) → vt' ≡ 2 * (2 * bond * columns)
     → scratch' ≡ 6 * (2 * bond * columns) + 2 * k
-    → StepSizes (2 * bond) columns carried' matrix' vt' scratch'
-step-sizes n j bond at limit sites matrix u vt scratch {columns} {k} carried' matrix' vt' scratch' r e f a b c d =
-    let z = link-sizes n j bond at limit sites matrix u vt scratch r e f in
+    → StepSizes (2 * bond) columns carried' vt' scratch'
+step-sizes n j bond at limit sites u vt scratch {columns} {k} carried' vt' scratch' r e f a c d =
+    let z = link-sizes n j bond at limit sites u vt scratch r e f in
     record {
       rows-some = omega (arith, r .bond-some);
       columns-some = z .columns-some;
       few = omega (arith, z .few, z .most);
       carried-is = a;
-      matrix-is = b;
       vt-is = c;
       scratch-is = d ∙ ap (λ (x : ℕ). 6 * (2 * bond * columns) + 2 * x) f;
     }
@@ -104,16 +103,16 @@ one-linked n j bond at epsilon limit sites u r tail front e l s =
       u-is = rw e;
     }
 
-module _ (n j bond at limit sites matrix u vt scratch : ℕ) (r : LinkRoom n j bond at limit sites matrix u vt scratch) where
+module _ (n j bond at limit sites u vt scratch : ℕ) (r : LinkRoom n j bond at limit sites u vt scratch) where
   pub bond-few : bond ≤ 2048
-  bond-few = link-sizes n j bond at limit sites matrix u vt scratch r refl refl .bond-few
+  bond-few = link-sizes n j bond at limit sites u vt scratch r refl refl .bond-few
 
   pub cells-few : {columns : ℕ} → columns ≡ 2 ^ (n - 1 - j) → 2 * bond * columns ≤ 4096
-  cells-few e = let z = link-sizes n j bond at limit sites matrix u vt scratch r e refl in omega (arith, z .few, z .most)
+  cells-few e = let z = link-sizes n j bond at limit sites u vt scratch r e refl in omega (arith, z .few, z .most)
 
   pub side-few : {columns k : ℕ} → columns ≡ 2 ^ (n - 1 - j) → k ≡ sideOf (2 * bond) columns → k ≤ 4096
   side-few {columns} e f = omega (arith, side-low (2 * bond) columns .0, f, bond-few)
 
-pub site-fits : (n j bond at limit : ℕ) (sites : List Float) (matrix u vt scratch : ℕ) {columns : ℕ} → LinkRoom n j bond at limit (length sites) matrix u vt scratch
+pub site-fits : (n j bond at limit : ℕ) (sites : List Float) (u vt scratch : ℕ) {columns : ℕ} → LinkRoom n j bond at limit (length sites) u vt scratch
     → columns ≡ 2 ^ (n - 1 - j) → 2 * (2 * bond * min (sideOf (2 * bond) columns) limit) ≤ length (take (length sites - 2 * at) (drop (2 * at) sites))
-site-fits n j bond at limit sites matrix u vt scratch r e = rw e (tail-length (2 * at) _ sites (r .site-fits))
+site-fits n j bond at limit sites u vt scratch r e = rw e (tail-length (2 * at) _ sites (r .site-fits))

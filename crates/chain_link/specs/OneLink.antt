@@ -21,13 +21,12 @@ abbrev pub cellsAt : ℕ → ℕ → ℕ → ℕ
 cellsAt n j bond = rowsAt bond * columnsAt n j
 
 -- what step j of n asks: the bond that comes in is at most 2^j, and the site fits
-pub record LinkRoom (n j bond at limit sites matrix u vt scratch : ℕ) : Type 0 where
+pub record LinkRoom (n j bond at limit sites u vt scratch : ℕ) : Type 0 where
   pub small : n ≤ 12
   pub inside : j + 1 < n
   pub bond-some : 1 ≤ bond
   pub bond-few : bond ≤ 2 ^ j
   pub site-fits : 2 * at + 2 * (rowsAt bond * min (sideOf (rowsAt bond) (columnsAt n j)) limit) ≤ sites
-  pub matrix-is : matrix ≡ 2 * 2 ^ n
   pub u-is : u ≡ 2 * 2 ^ n
   pub vt-is : vt ≡ 2 * 2 ^ n
   pub scratch-is : scratch ≡ 6 * 2 ^ n + 2 * 2 ^ (n / 2)

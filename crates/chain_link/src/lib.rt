@@ -14,12 +14,11 @@ pub fn one_link(
     epsilon: f64,
     limit: usize,
     sites: &mut [f64],
-    matrix: &mut [f64],
     u: &mut [f64],
     vt: &mut [f64],
     scratch: &mut [f64],
 ) -> Link
-    requires { ⌜ LinkRoom n j bond at limit (length (now sites)) (length (now matrix)) (length (now u)) (length (now vt))
+    requires { ⌜ LinkRoom n j bond at limit (length (now sites)) (length (now u)) (length (now vt))
         (length (now scratch)) ⌝ }
     ensures { λ r. ⌜ OneLink n j bond at epsilon limit (now (sites .entry)) (now (u .entry)) r (now (sites .exit)) (now (u .exit)) ⌝ }
 {
@@ -36,7 +35,6 @@ pub fn one_link(
         epsilon,
         limit,
         &mut sites[from..],
-        &mut matrix[..w],
         &mut u[..w],
         &mut vt[..w],
         &mut scratch[..need],

@@ -28,8 +28,8 @@ part-long l n e =
     let d : length (drop 1 l) ≡ length l - 1 = length-drop 1 l in
     length-take-le (length l - 1) (drop 1 l) (omega arith) ∙ omega arith
 
-pub walk-room : (n limit : ℕ) {state sites bonds starts marks matrix u vt scratch bonds' starts' u' : ℕ} → FillRoom n limit state sites bonds starts marks matrix u vt scratch
-    → bonds' ≡ n → starts' ≡ n → u' ≡ u → WalkRoom n limit sites bonds' starts' marks matrix u' vt scratch
+pub walk-room : (n limit : ℕ) {state sites bonds starts marks u vt scratch bonds' starts' u' : ℕ} → FillRoom n limit state sites bonds starts marks u vt scratch
+    → bonds' ≡ n → starts' ≡ n → u' ≡ u → WalkRoom n limit sites bonds' starts' marks u' vt scratch
 walk-room n limit f b s e =
     record {
       some = f .some;
@@ -39,7 +39,6 @@ walk-room n limit f b s e =
       bonds-fit = omega arith;
       starts-fit = omega arith;
       marks-fit = omega (arith, f .marks-is);
-      matrix-is = f .matrix-is;
       u-is = e ∙ f .u-is;
       vt-is = f .vt-is;
       scratch-is = f .scratch-is;

@@ -15,13 +15,12 @@ pub fn run(
     bonds: &mut [usize],
     starts: &mut [usize],
     marks: &mut [usize],
-    matrix: &mut [f64],
     u: &mut [f64],
     vt: &mut [f64],
     scratch: &mut [f64],
 ) -> Chained
     requires { ⌜ FillRoom n limit (length (now state)) (length (now sites)) (length (now bonds)) (length (now starts))
-        (length (now marks)) (length (now matrix)) (length (now u)) (length (now vt)) (length (now scratch)) ⌝ }
+        (length (now marks)) (length (now u)) (length (now vt)) (length (now scratch)) ⌝ }
     ensures { λ r. ⌜ ChainFilled (now (state .entry)) n epsilon limit r (now (sites .exit)) (now (bonds .exit)) (now (starts .exit))
         (now (marks .exit)) ⌝ }
 {
@@ -40,7 +39,6 @@ pub fn run(
         &mut bonds[1..],
         &mut starts[1..],
         marks,
-        matrix,
         u,
         vt,
         scratch,

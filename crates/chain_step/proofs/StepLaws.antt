@@ -85,9 +85,9 @@ rooms rows columns {k} e h =
     let q : k * columns ≤ rows * columns = c .1 in
     (omega arith, omega arith, p, q)
 
-pub exact : (rows columns carried matrix vt scratch u' s vt' scratch' : ℕ) {k : ℕ} → k ≡ sideOf rows columns → StepSizes rows columns carried matrix vt scratch
+pub exact : (rows columns carried vt scratch u' s vt' scratch' : ℕ) {k : ℕ} → k ≡ sideOf rows columns → StepSizes rows columns carried vt scratch
     → s ≡ sideOf rows columns → u' ≡ 2 * (rows * k) → vt' ≡ 2 * (k * columns) → scratch' ≡ scratch → SvdExact rows columns (2 * (rows * columns)) u' s vt' scratch'
-exact rows columns carried matrix vt scratch u' s vt' scratch' e z es eu ev ec =
+exact rows columns carried vt scratch u' s vt' scratch' e z es eu ev ec =
     record {
       rows = z .rows-some;
       columns = z .columns-some;
@@ -287,9 +287,9 @@ values-few rows columns {k} e h =
         let p : 65 * 65 ≤ k * k = mul-le-mul g g in
         absurd (omega arith)
 
-pub keepable : (rows columns carried matrix vt scratch limit s vt' site u : ℕ) {k : ℕ} → k ≡ sideOf rows columns → StepSizes rows columns carried matrix vt scratch
+pub keepable : (rows columns carried vt scratch limit s vt' site u : ℕ) {k : ℕ} → k ≡ sideOf rows columns → StepSizes rows columns carried vt scratch
     → 2 * (rows * min (sideOf rows columns) limit) ≤ site → s ≡ k → vt' ≡ 2 * (k * columns) → u ≡ carried → StepKeeping rows columns limit s vt' site u
-keepable rows columns carried matrix vt scratch limit s vt' site u e z f es ev eu =
+keepable rows columns carried vt scratch limit s vt' site u e z f es ev eu =
     record {
       rows-some = z .rows-some;
       columns-some = z .columns-some;

@@ -46,12 +46,11 @@ stepReply a rows columns chi = andThen (svdEnd (uOf a rows columns) (sOf a rows 
 
 -- ---- the steps' contracts
 
-pub record StepSizes (rows columns carried matrix vt scratch : ℕ) : Type 0 where
+pub record StepSizes (rows columns carried vt scratch : ℕ) : Type 0 where
   pub rows-some : 1 ≤ rows
   pub columns-some : 1 ≤ columns
   pub few : rows * columns ≤ 4096
   pub carried-is : carried ≡ 2 * (rows * columns)
-  pub matrix-is : matrix ≡ 2 * (rows * columns)
   pub vt-is : vt ≡ 2 * (rows * columns)
   pub scratch-is : scratch ≡ svdScratch rows columns
 

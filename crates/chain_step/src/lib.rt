@@ -23,13 +23,12 @@ pub struct Link {
 fn factor(
     rows: usize,
     columns: usize,
-    matrix: &mut [f64],
     u: &mut [f64],
     s: &mut [f64],
     vt: &mut [f64],
     scratch: &mut [f64],
 ) -> Factored
-    requires { ⌜ StepSizes rows columns (length (now u)) (length (now matrix)) (length (now vt)) (length (now scratch))
+    requires { ⌜ StepSizes rows columns (length (now u)) (length (now vt)) (length (now scratch))
         × (length (now s) ≡ sideOf rows columns) ⌝ }
     ensures { λ r. ⌜ StepFactors (columnwise (now (u .entry)) rows columns) rows columns r (now (u .exit)) (now (s .exit))
         (now (vt .exit)) ⌝ }
@@ -116,19 +115,18 @@ pub fn step(
     epsilon: f64,
     limit: usize,
     site: &mut [f64],
-    matrix: &mut [f64],
     u: &mut [f64],
     vt: &mut [f64],
     scratch: &mut [f64],
 ) -> Link
-    requires { ⌜ StepSizes rows columns (length (now u)) (length (now matrix)) (length (now vt)) (length (now scratch))
+    requires { ⌜ StepSizes rows columns (length (now u)) (length (now vt)) (length (now scratch))
         × (2 * (rows * min (sideOf rows columns) limit) ≤ length (now site)) ⌝ }
     ensures { λ r. ⌜ Stepped (columnwise (now (u .entry)) rows columns) rows columns epsilon limit (now (site .entry)) r
         (now (site .exit)) (now (u .exit)) ⌝ }
 {
     let k = svd::smaller_size(rows, columns);
     let mut s = [0.0f64; 64];
-    let factors = factor(rows, columns, matrix, u, &mut s[..k], vt, scratch);
+    let factors = factor(rows, columns, u, &mut s[..k], vt, scratch);
     let answer = factors.answer;
     let sweeps = factors.sweeps;
     let Answer::Done = answer else {

@@ -52,7 +52,7 @@ module _ (n j bond at : ℕ) (epsilon : Float) (limit : ℕ) (sites u : List Flo
       let q : 1 ≤ rowsAt bond = omega (arith, p) in
       rw (o .step .chi-is z) (rank-in a (rowsAt bond) (columnsAt n j) epsilon limit q (pow-pos (n - 1 - j)))
 
-  pub rank-room : {matrix k vt scratch : ℕ} → LinkRoom n j bond at limit (length sites) matrix k vt scratch → 2 * at + 2 * (2 * bond * r .chi) ≤ length sites
+  pub rank-room : {k vt scratch : ℕ} → LinkRoom n j bond at limit (length sites) k vt scratch → 2 * at + 2 * (2 * bond * r .chi) ≤ length sites
   rank-room m = omega (arith, mul-le-mul-left (2 * bond) rank-bound, m .site-fits)
 
   carried-front : take (2 * (columnsAt n j * r .chi)) u' ≡ take (2 * (columnsAt n j * r .chi)) (o .front)

@@ -48,9 +48,9 @@ most-power : (n limit j bond : ℕ) → bond ≤ mostOf n limit j → bond ≤ 2
 unfolding mostOf
 most-power n limit j bond h = omega (arith, h)
 
-pub next-room : (n limit j bond at dropped : ℕ) {sites bonds starts marks matrix u vt scratch : ℕ} (l : Links) → suc j < n → Bounds n limit j l
-    → bond ≡ l .bond → at ≡ l .at → dropped ≡ l .dropped → WalkRoom n limit sites bonds starts marks matrix u vt scratch
-    → NextRoom n j bond at dropped limit sites bonds starts marks matrix u vt scratch
+pub next-room : (n limit j bond at dropped : ℕ) {sites bonds starts marks u vt scratch : ℕ} (l : Links) → suc j < n → Bounds n limit j l
+    → bond ≡ l .bond → at ≡ l .at → dropped ≡ l .dropped → WalkRoom n limit sites bonds starts marks u vt scratch
+    → NextRoom n j bond at dropped limit sites bonds starts marks u vt scratch
 next-room n limit j bond at dropped l h b eb ea ed w =
     let few : bond ≤ mostOf n limit j = omega (arith, eb, b .bond-few) in
     let m : min (sideOf (2 * bond) (2 ^ (n - 1 - j))) limit ≤ mostOf n limit (suc j) = most-next n limit j bond h few in
@@ -65,7 +65,6 @@ next-room n limit j bond at dropped l h b eb ea ed w =
             bond-some = omega (arith, eb, b .bond-some);
             bond-few = most-power n limit j bond few;
             site-fits = omega (arith, q, ea, b .at-few, room-next n limit j, room-within n limit (suc j) i, w .sites-fit);
-            matrix-is = w .matrix-is;
             u-is = w .u-is;
             vt-is = w .vt-is;
             scratch-is = w .scratch-is;
@@ -77,10 +76,10 @@ next-room n limit j bond at dropped l h b eb ea ed w =
     }
 
 -- the slices keep their lengths
-pub room-now : (n limit : ℕ) {sites bonds starts marks matrix u vt scratch sites' bonds' starts' marks' matrix' u' vt' scratch' : ℕ} → WalkRoom n limit sites bonds starts marks matrix u vt scratch
-    → sites' ≡ sites → bonds' ≡ bonds → starts' ≡ starts → marks' ≡ marks → matrix' ≡ matrix → u' ≡ u → vt' ≡ vt → scratch' ≡ scratch
-    → WalkRoom n limit sites' bonds' starts' marks' matrix' u' vt' scratch'
-room-now n limit w a b c d e f g h = rw (a, b, c, d, e, f, g, h) w
+pub room-now : (n limit : ℕ) {sites bonds starts marks u vt scratch sites' bonds' starts' marks' u' vt' scratch' : ℕ} → WalkRoom n limit sites bonds starts marks u vt scratch
+    → sites' ≡ sites → bonds' ≡ bonds → starts' ≡ starts → marks' ≡ marks → u' ≡ u → vt' ≡ vt → scratch' ≡ scratch
+    → WalkRoom n limit sites' bonds' starts' marks' u' vt' scratch'
+room-now n limit w a b c d e f g = rw (a, b, c, d, e, f, g) w
 
 -- ---- one step more
 
@@ -131,8 +130,8 @@ module _ (first : List Float) (n : ℕ) (epsilon : Float) (limit j : ℕ) (sites
   within : Bounds n limit j (linksTo first n epsilon limit j)
   within = bounds first n epsilon limit j (omega arith) some
 
-  pub room-of-next : {sites″ bonds″ starts″ marks″ matrix u vt scratch : ℕ} → WalkRoom n limit sites″ bonds″ starts″ marks″ matrix u vt scratch
-      → NextRoom n j bond at dropped limit sites″ bonds″ starts″ marks″ matrix u vt scratch
+  pub room-of-next : {sites″ bonds″ starts″ marks″ u vt scratch : ℕ} → WalkRoom n limit sites″ bonds″ starts″ marks″ u vt scratch
+      → NextRoom n j bond at dropped limit sites″ bonds″ starts″ marks″ u vt scratch
   room-of-next r = next-room n limit j bond at dropped (linksTo first n epsilon limit j) h within (w .bond-is) (w .at-is) (w .dropped-is) r
 
   cells-are : 2 * cellsAt n j bond ≡ 2 * (2 ^ (n - j) * bond)

@@ -16,8 +16,8 @@ use Rattle.chain_walk.specs.declared.Walked.{Walked}
 -- ---- one step
 
 -- what step j of n asks: its step, and room for its rank, its end and its marks
-pub record NextRoom (n j bond at dropped limit sites bonds starts marks matrix u vt scratch : ℕ) : Type 0 where
-  pub room : LinkRoom n j bond at limit sites matrix u vt scratch
+pub record NextRoom (n j bond at dropped limit sites bonds starts marks u vt scratch : ℕ) : Type 0 where
+  pub room : LinkRoom n j bond at limit sites u vt scratch
   pub in-bonds : j < bonds
   pub in-starts : j < starts
   pub in-marks : 3 * j + 3 ≤ marks
@@ -44,7 +44,7 @@ pub record Next (a : List Float) (rows columns j at dropped : ℕ) (epsilon : Fl
 -- ---- the walk
 
 -- what the walk asks: room for every site, rank, end and mark, and the working slices exactly
-pub record WalkRoom (n limit sites bonds starts marks matrix u vt scratch : ℕ) : Type 0 where
+pub record WalkRoom (n limit sites bonds starts marks u vt scratch : ℕ) : Type 0 where
   pub some : 1 ≤ n
   pub small : n ≤ 12
   pub limit-some : 1 ≤ limit
@@ -52,7 +52,6 @@ pub record WalkRoom (n limit sites bonds starts marks matrix u vt scratch : ℕ)
   pub bonds-fit : n ≤ bonds + 1
   pub starts-fit : n ≤ starts + 1
   pub marks-fit : 3 * (n - 1) ≤ marks
-  pub matrix-is : matrix ≡ 2 * 2 ^ n
   pub u-is : u ≡ 2 * 2 ^ n
   pub vt-is : vt ≡ 2 * 2 ^ n
   pub scratch-is : scratch ≡ 6 * 2 ^ n + 2 * 2 ^ (n / 2)

@@ -39,31 +39,18 @@ fn next_step(
     bonds: &mut [usize],
     starts: &mut [usize],
     marks: &mut [usize],
-    matrix: &mut [f64],
     u: &mut [f64],
     vt: &mut [f64],
     scratch: &mut [f64],
 ) -> Walked
     requires { ⌜ NextRoom n j bond at dropped limit (length (now sites)) (length (now bonds)) (length (now starts))
-        (length (now marks)) (length (now matrix)) (length (now u)) (length (now vt)) (length (now scratch)) ⌝ }
+        (length (now marks)) (length (now u)) (length (now vt)) (length (now scratch)) ⌝ }
     ensures { λ r. ⌜ Next (columnwise (take (2 * cellsAt n j bond)
         (now (u .entry))) (rowsAt bond) (columnsAt n j)) (rowsAt bond) (columnsAt n j) j at dropped epsilon limit
         (now (sites .entry)) (now (bonds .entry)) (now (starts .entry)) (now (marks .entry)) r
         (now (sites .exit)) (now (bonds .exit)) (now (starts .exit)) (now (marks .exit)) (now (u .exit)) ⌝ }
 {
-    let link = chain_link::one_link(
-        n,
-        j,
-        bond,
-        at,
-        epsilon,
-        limit,
-        sites,
-        matrix,
-        u,
-        vt,
-        scratch,
-    );
+    let link = chain_link::one_link(n, j, bond, at, epsilon, limit, sites, u, vt, scratch);
     let answer = link.answer;
     let Answer::Done = answer else {
         return Walked {
@@ -96,13 +83,12 @@ pub fn walk(
     bonds: &mut [usize],
     starts: &mut [usize],
     marks: &mut [usize],
-    matrix: &mut [f64],
     u: &mut [f64],
     vt: &mut [f64],
     scratch: &mut [f64],
 ) -> Walked
     requires { ⌜ WalkRoom n limit (length (now sites)) (length (now bonds)) (length (now starts)) (length (now marks))
-        (length (now matrix)) (length (now u)) (length (now vt)) (length (now scratch)) ⌝ }
+        (length (now u)) (length (now vt)) (length (now scratch)) ⌝ }
     ensures { λ r. ⌜ WalkEnd (now (u .entry)) n epsilon limit (now (sites .entry)) (now (bonds .entry)) (now (starts .entry))
         (now (marks .entry)) r
         (now (sites .exit)) (now (bonds .exit)) (now (starts .exit)) (now (marks .exit)) (now (u .exit)) ⌝ }
@@ -124,7 +110,6 @@ pub fn walk(
             bonds,
             starts,
             marks,
-            matrix,
             u,
             vt,
             scratch,

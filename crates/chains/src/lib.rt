@@ -5,6 +5,7 @@ ghost use mathlib.Core.Path.{_≡_};
 ghost use lib.ListN.{length, replicate};
 ghost use Rattle.complex.specs.Zeros.{zeroed};
 ghost use Rattle.chain_fill.specs.Fill.{FillRoom};
+ghost use Rattle.chain_checks.specs.Checks.{needPlane};
 ghost use Rattle.chains.specs.Chains.{ChainWorked, ChainOfSites};
 
 // Every number of the results becomes zero: 8 and 9.
@@ -32,7 +33,7 @@ fn clear_scratch(matrix: &mut [f64], u: &mut [f64], vt: &mut [f64], scratch: &mu
     complex::zero_first(scratch, scratch.len());
 }
 
-// The work of an accepted call, over slices of exactly the needed lengths.
+// The work of an accepted call, over slices of exactly the needed lengths. No step uses `matrix`: it only becomes +0.0.
 fn work(
     state: &[f64],
     n: usize,
@@ -48,7 +49,7 @@ fn work(
     scratch: &mut [f64],
 ) -> Chained
     requires { ⌜ FillRoom n limit (length (now state)) (length (now sites)) (length (now bonds)) (length (now starts))
-        (length (now marks)) (length (now matrix)) (length (now u)) (length (now vt)) (length (now scratch)) ⌝ }
+        (length (now marks)) (length (now u)) (length (now vt)) (length (now scratch)) × (length (now matrix) ≡ needPlane n) ⌝ }
     ensures { λ r. ⌜ ChainWorked (now (state .entry)) n epsilon limit r (now (sites .exit)) (now (bonds .exit)) (now (starts .exit))
         (now (marks .exit))
         (now (matrix .exit)) (now (u .exit)) (now (vt .exit)) (now (scratch .exit)) ⌝ }
@@ -62,7 +63,6 @@ fn work(
         bonds,
         starts,
         marks,
-        matrix,
         u,
         vt,
         scratch,

@@ -2,7 +2,7 @@
 use mathlib.Core.Path.{_≡_, refl, sym, ap, ap₂, _∙_, subst}
 use mathlib.Core.Bool.{Bool, true, false, cond, true≢false}
 use mathlib.Core.Logic.{⊎-elim}
-use Prim.Native.Nat.{ℕ, zero, suc, _+_, _*_, _/_, _%_, _^_, _≤_, _<_}
+use Prim.Native.Nat.{ℕ, _+_, _*_, _/_, _%_, _^_, _≤_, _<_}
 use native.Mathlib.Omega.{arith}
 use lib.IntN.{ℤ}
 use lib.Dec.{T, leb, eqb}
@@ -12,6 +12,7 @@ use Rattle.numbers.specs.Numbers.{isFinite}
 use Rattle.numbers.specs.Root.{unitsOf}
 use Rattle.numbers.specs.Steps.{normalSize}
 use Rattle.numbers.proofs.Patterns.{normal-size, small-size}
+use Rattle.signs.proofs.Zeros.{either-sign}
 use Rattle.numbers.proofs.Cases.{minus-bits, plus-bits}
 use Rattle.whole_numbers.proofs.WholeLaws.{le-or-lt}
 use Rattle.countersign_grid.specs.Grid.{gridded, gridUnits, gridOf, GridBits}
@@ -19,11 +20,6 @@ use Rattle.countersign_grid.specs.declared.Grid.{Grid}
 use Rattle.countersign_grid.specs.declared.Size.{Size}
 
 -- ---- the sign
-
-either-sign : (s t : Bool) (m : ℕ) (e : ℤ) → T (fits binary64 (fin s m e)) → T (fits binary64 (fin t m e))
-unfolding fits
-either-sign s t zero e f = f
-either-sign s t (suc m) e f = f
 
 size-sign : (s t : Bool) (m : ℕ) (e : ℤ) → unitsOf (fin s m e) ≡ unitsOf (fin t m e)
 unfolding unitsOf

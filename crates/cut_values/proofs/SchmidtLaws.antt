@@ -26,7 +26,7 @@ use Rattle.cut_sides.specs.Sides.{cutSizes, cutRefusal, Parted, side, sidesOf}
 use Rattle.cuts.specs.Cut.{cutCell, CutReady}
 use Rattle.cuts.proofs.CutLaws.{ready}
 use Rattle.sweeps.specs.declared.Sweeps.{Sweeps}
-use Rattle.sweeps.specs.Sweeping.{State, state}
+use Rattle.sweeps.specs.Sweeping.{State}
 use Rattle.svd_sweeps.specs.Sweeping.{settled}
 use Rattle.svd_sweeps.proofs.SweepingLaws.{settled-alike}
 use Rattle.svd_load.specs.Loading.{unitPlanes}
@@ -46,7 +46,7 @@ use Rattle.svd_thin.specs.Thin.{swept, orderOf, valuesOf}
 use Rattle.svd.specs.Svd.{sideOf, workOf, sOf, svdSweeps}
 use Rattle.svd.specs.Svd as svd
 use Rattle.svd.proofs.SvdLaws.{side-wide, side-tall, svd-ceiling}
-use Rattle.cut_values.specs.Schmidt.{cutRows, cutColumns, singularValues, cutSweeps, columnsExact, cutExact, columnsExactOf, cutValuesScratch, cutValuesLengths, cutValuesRest, cutValuesTests, valuesReply, cutValuesAnswer, Schmidt, CutValuesSized, sidesMatrix, normsAfter, singularOf, sweepsOf, CutValuesFinished, CutValuesMade, CutValuesWorked, overAnswer, SchmidtOver}
+use Rattle.cut_values.specs.Schmidt.{cutRows, cutColumns, singularValues, cutSweeps, columnsExact, cutExact, columnsExactOf, cutValuesScratch, cutValuesLengths, cutValuesRest, cutValuesTests, valuesReply, cutValuesAnswer, Schmidt, CutValuesSized, sidesMatrix, normsAfter, singularOf, sweepsOf, CutValuesSettled, CutValuesFinished, CutValuesMade, CutValuesWorked, overAnswer, SchmidtOver}
 use Rattle.sweeps.proofs.Ceiling.{Ceiling}
 
 -- ---- the lengths
@@ -160,17 +160,6 @@ same-le e h = omega arith
 
 -- ---- the singular values
 
--- the sweeps alone leave the work matrix that they leave beside a V
-pub swept-alone : (m k : ℕ) (w x : List Float) (r : Sweeps) → state x [] r ≡ settled m k w [] → x ≡ swept m k w .work
-unfolding swept
-swept-alone m k w x r e = ap (λ (t : State). t .work) e ∙ settled-alike m k w [] (unitPlanes k) .work
-
-pub norms-made : (s : List Float) (n : ℕ) (z : Sides) {w x norms : List Float} (r : Sweeps) → w ≡ workOf (sidesMatrix s n z) (z .rows) (z .columns)
-    → state x [] r ≡ settled (z .columns) (z .rows) w [] → norms ≡ normsOf x (z .columns) (z .rows) → norms ≡ normsAfter s n z
-unfolding normsAfter
-norms-made s n z {w} {x} r e h i =
-    i ∙ ap (λ (y : List Float). normsOf y (z .columns) (z .rows)) (swept-alone (z .columns) (z .rows) w x r h ∙ ap (λ (y : List Float). swept (z .columns) (z .rows) y .work) e)
-
 -- the smaller and the larger size of a matrix that is no taller than wide
 sizes : (m k : ℕ) → m ≤ k → (sideOf m k ≡ m) × (svd.rowsOf m k ≡ k)
 sizes m k h =
@@ -179,29 +168,29 @@ sizes m k h =
     (λ (l : m < k). side-wide m k l)
     (eq-or-lt-of-le h)
 
--- no V is any part of the counts
-pub sweeps-made : (s : List Float) (n : ℕ) (z : Sides) {w x : List Float} (r : Sweeps) → CutValuesSized n z s → w ≡ workOf (sidesMatrix s n z) (z .rows) (z .columns)
-    → state x [] r ≡ settled (z .columns) (z .rows) w [] → r ≡ sweepsOf s n z
-unfolding sweepsOf svdSweeps swept
-sweeps-made s n z {w} r p e h =
+-- the sweeps of the cut's work matrix alone
+abbrev pub aloneOf : List Float → ℕ → Sides → State
+aloneOf s n z = settled (z .columns) (z .rows) (workOf (sidesMatrix s n z) (z .rows) (z .columns)) []
+
+-- no V is any part of the norms, of the marks of their roots, or of the counts
+pub settled-by : (s : List Float) (n : ℕ) (z : Sides) (x : List Float) (r : Sweeps) → CutValuesSized n z s
+    → normsOf (aloneOf s n z .work) (z .columns) (z .rows) ≡ normsOf x (z .columns) (z .rows)
+    → normsExact (aloneOf s n z .work) (z .columns) (z .rows) ≡ normsExact x (z .columns) (z .rows)
+    → aloneOf s n z .sweeps ≡ r → CutValuesSettled s n z x r
+unfolding normsAfter columnsExactOf columnsExact sweepsOf svdSweeps swept
+settled-by s n z x r p e f g =
     let k = sizes (z .rows) (z .columns) (p .wide) in
     let a = workOf (sidesMatrix s n z) (z .rows) (z .columns) in
-    ap (λ (t : State). t .sweeps) h
-    ∙ settled-alike (z .columns) (z .rows) w [] (unitPlanes (z .rows)) .sweeps
-    ∙ ap (λ (y : List Float). swept (z .columns) (z .rows) y .sweeps) e
-    ∙ ap (λ (y : ℕ). swept y (z .rows) a .sweeps) (sym (k .1))
-    ∙ ap (λ (y : ℕ). swept (svd.rowsOf (z .rows) (z .columns)) y a .sweeps) (sym (k .0))
-
--- the marks of the roots of the norms
-pub marks-made : (s : List Float) (n : ℕ) (z : Sides) {w x : List Float} {b : Bool} (r : Sweeps) → CutValuesSized n z s
-    → w ≡ workOf (sidesMatrix s n z) (z .rows) (z .columns) → state x [] r ≡ settled (z .columns) (z .rows) w []
-    → b ≡ normsExact x (z .columns) (z .rows) → b ≡ columnsExactOf s n z
-unfolding columnsExactOf columnsExact
-marks-made s n z {w} {x} r p e h i =
-    let k = sizes (z .rows) (z .columns) (p .wide) in
-    i
-    ∙ ap (λ (y : List Float). normsExact y (z .columns) (z .rows)) (swept-alone (z .columns) (z .rows) w x r h ∙ ap (λ (y : List Float). swept (z .columns) (z .rows) y .work) e)
-    ∙ rw (k .0, k .1)
+    let same = settled-alike (z .columns) (z .rows) a [] (unitPlanes (z .rows)) in
+    record {
+      norms = sym e ∙ ap (λ (y : List Float). normsOf y (z .columns) (z .rows)) (same .work);
+      exact = sym f ∙ ap (λ (y : List Float). normsExact y (z .columns) (z .rows)) (same .work) ∙ rw (k .0, k .1);
+      sweeps =
+          sym g
+          ∙ same .sweeps
+          ∙ ap (λ (y : ℕ). swept y (z .rows) a .sweeps) (sym (k .1))
+          ∙ ap (λ (y : ℕ). swept (svd.rowsOf (z .rows) (z .columns)) y a .sweeps) (sym (k .0));
+    }
 
 pub values-made : (s : List Float) (n : ℕ) (z : Sides) {norms values : List Float} → CutValuesSized n z s → norms ≡ normsAfter s n z
     → values ≡ sortedOf norms (orderTo norms (z .rows)) (z .rows) → values ≡ singularOf s n z

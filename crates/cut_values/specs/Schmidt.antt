@@ -110,6 +110,12 @@ sweepsOf s n z = svdSweeps (sidesMatrix s n z) (z .rows) (z .columns)
 unfoldable pub columnsExactOf : List Float → ℕ → Sides → Bool
 columnsExactOf s n z = columnsExact (sidesMatrix s n z) (z .rows) (z .columns)
 
+-- a work matrix whose columns have the norms, and their roots the marks, of the one that the sweeps leave, and the counts of these sweeps
+pub record CutValuesSettled (s : List Float) (n : ℕ) (z : Sides) (work : List Float) (r : Sweeps) : Type 0 where
+  pub norms : normsOf work (z .columns) (z .rows) ≡ normsAfter s n z
+  pub exact : normsExact work (z .columns) (z .rows) ≡ columnsExactOf s n z
+  pub sweeps : r ≡ sweepsOf s n z
+
 -- the values finished, or 9
 pub record CutValuesFinished (values old : List Float) (r : Finished) (end : List Float) : Type 0 where
   pub answer : paper (r .answer) ≡ valuesReply values

@@ -5,12 +5,20 @@ use finish::Finished;
 use sweeps::Sweeps;
 ghost use mathlib.Core.Path.{_≡_};
 ghost use mathlib.Core.Bool.{false};
+ghost use mathlib.Core.List.{[]};
 ghost use Prim.Native.Nat.{_+_, _*_, _^_, _≤_};
 ghost use lib.ListN.{length};
 ghost use Rattle.answers.specs.Paper.{paper};
 ghost use Rattle.sweeps.specs.Sweeping.{noSweeps};
+ghost use Rattle.sweeps.specs.Sweeping as sweeping;
+ghost use Rattle.svd_pair.specs.Plain.{making};
+ghost use Rattle.svd_sweeps.specs.Sweeping.{settledWith};
+ghost use Rattle.svd.specs.Svd.{workOf};
 ghost use Rattle.cut_sides.specs.Sides.{Sided};
-ghost use Rattle.cut_values.specs.Schmidt.{cutValuesLengths, cutValuesRest, normsAfter, singularOf, sweepsOf, columnsExactOf, CutValuesSized, CutValuesFinished, CutValuesMade, CutValuesWorked, Schmidt, SchmidtOver};
+ghost use Rattle.cut_values.specs.Schmidt.{cutValuesLengths, cutValuesRest, normsAfter, singularOf, sweepsOf, columnsExactOf, CutValuesSized, sidesMatrix, CutValuesSettled, CutValuesFinished, CutValuesMade, CutValuesWorked, Schmidt, SchmidtOver};
+
+// From this many rows on the plain sweeps gain more than the test of what they leave costs.
+const FEWEST: usize = 8;
 
 // The answer, how many values were kept, the sweeps, and whether every root of a column's norm and the root of the final scale
 // came out even.
@@ -57,14 +65,39 @@ fn check(state: &[f64], n: usize, rows: usize, out: usize, scratch: usize) -> An
     components::check_components(state)
 }
 
-// The norms of the work matrix's columns after the sweeps, which need no V.
+// The cut's work matrix after the sweeps, which need no V; plain: without the products by zeros.
+fn settle_work(state: &[f64], n: usize, cut: Sides, work: &mut [f64], plain: bool) -> Sweeps
+    requires { ⌜ CutValuesSized n cut (now state) × (length (now work) ≡ 2 * 2 ^ n) ⌝ }
+    ensures { λ r. ⌜ sweeping.state (now (work .exit)) [] r
+        ≡ settledWith (making plain) (cut .columns) (cut .rows) (workOf (sidesMatrix (now (state .entry)) n cut) (cut .rows) (cut .columns)) [] ⌝ }
+{
+    cut_planes::gather_work(state, n, cut, work);
+    svd_sweeps::settle_alone(work, cut.columns, cut.rows, plain)
+}
+
+// The same, tried plainly first: where every number that is left is finite, the columns have the norms and the sweeps the counts of the
+// exact sweeps (`plain-alike-alone`, `norms-alike`); else these are done on the matrix gathered anew.
+fn settle_tried(state: &[f64], n: usize, cut: Sides, work: &mut [f64]) -> Sweeps
+    requires { ⌜ CutValuesSized n cut (now state) × (length (now work) ≡ 2 * 2 ^ n) ⌝ }
+    ensures { λ r. ⌜ CutValuesSettled (now (state .entry)) n cut (now (work .exit)) r ⌝ }
+{
+    if cut.rows < FEWEST {
+        return settle_work(state, n, cut, work, false);
+    }
+    let sweeps = settle_work(state, n, cut, work, true);
+    if values::all_finite(work) {
+        return sweeps;
+    }
+    settle_work(state, n, cut, work, false)
+}
+
+// The norms of the work matrix's columns after the sweeps.
 fn sweep(state: &[f64], n: usize, cut: Sides, work: &mut [f64], norms: &mut [f64]) -> SweptNorms
     requires { ⌜ CutValuesSized n cut (now state) × (length (now work) ≡ 2 * 2 ^ n) × (length (now norms) ≡ cut .rows) ⌝ }
     ensures { λ r. ⌜ (now (norms .exit) ≡ normsAfter (now (state .entry)) n cut) × (r .sweeps ≡ sweepsOf (now (state .entry)) n cut)
         × (r .exact ≡ columnsExactOf (now (state .entry)) n cut) ⌝ }
 {
-    cut_planes::gather_work(state, n, cut, work);
-    let sweeps = svd_sweeps::settle_alone(work, cut.columns, cut.rows);
+    let sweeps = settle_tried(state, n, cut, work);
     let exact = svd_columns::norms_marked(work, cut.columns, cut.rows, norms);
     SweptNorms { sweeps, exact }
 }

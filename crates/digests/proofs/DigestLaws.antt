@@ -1,6 +1,6 @@
 -- Laws of the digest: the product modulo 2^64 in parts, and a step of the loop. Assumes nothing.
-use mathlib.Core.Path.{_≡_, refl, sym, ap, ap₂, _∙_}
-use mathlib.Core.List.{List, [], _∷_}
+use mathlib.Core.Path.{_≡_, sym, ap, ap₂, _∙_}
+use mathlib.Core.List.{List}
 use Prim.Native.Nat.{ℕ, _+_, _*_, _/_, _%_, _^_, _≤_, _<_}
 use native.Mathlib.Nat.{mod-add-mod, add-mul-mod-self-left}
 use native.Mathlib.Numerals.{add-one}
@@ -8,7 +8,7 @@ use native.Mathlib.Omega.{arith}
 use lib.Bits.{bitXor}
 use lib.ListN.{length, getD, drop, drop-of-length-le}
 use lib.Seq.{drop-cons}
-use Rattle.digests.specs.Digest.{prime, basis, mixed, digestFrom, digestOf}
+use Rattle.digests.specs.Digest.{prime, mixed, digestFrom, digestOf}
 
 -- the three parts of the product: what is left out is a multiple of 2^64
 pub parts : (x : ℕ) → ((x % 16777216 * 1099511627776 + x / 4294967296 * 435 % 4294967296 * 4294967296) % 2 ^ 64 + x % 4294967296 * 435) % 2 ^ 64 ≡ x * prime % 2 ^ 64

@@ -2,11 +2,10 @@
 use mathlib.Core.Path.{_≡_, refl, sym, ap, _∙_, subst}
 use mathlib.Core.Bool.{Bool, true, false, false≢true}
 use Prim.Native.Nat.{ℕ, zero, suc, _*_, _^_, _≤_, _<_}
-use native.Mathlib.Nat.{mul-assoc, mul-one, one-mul, mul-pos, pow-succ', lt-irrefl, lt-of-lt-of-le, lt-of-not-le, zero-lt-suc, le-of-eq}
+use native.Mathlib.Nat.{mul-assoc, mul-one, mul-pos, lt-irrefl, lt-of-lt-of-le, lt-of-not-le, zero-lt-suc, le-of-eq}
 use native.Mathlib.Decide.{decLe}
-use native.Mathlib.Omega.{arith}
-use lib.IntN.{ℤ, pos, negsuc}
-use lib.Dec.{T, eqb→eq}
+use lib.IntN.{ℤ, pos}
+use lib.Dec.{T}
 use lib.Pow.{pow-pos}
 use lib.Ieee as Ieee
 use lib.Ieee.{Float, nan, inf, fin, binary64, ofBits, toBits, fits, mul, round, units, odd}
@@ -17,6 +16,7 @@ use lib.Ieee.Scale.{round-same}
 use lib.Ieee.Positive.{positive-of-value, mul-at}
 use borrow.Author.Tests.{eqb-true}
 use Rattle.numbers.specs.Root.{unitsOf, number, squared, sqrtOf}
+use Rattle.signs.proofs.Zeros.{zero-exponent}
 use Rattle.numbers.specs.Numbers.{magnitudeOf}
 use Rattle.numbers.proofs.Patterns.{size-is, number-is, normal-is, small-is, normal-size, small-size, moved-suc, size-lt}
 use Rattle.numbers.proofs.Unique.{same-size}
@@ -101,12 +101,6 @@ module _ (m : ℕ) (e : ℤ) (f : T (fits binary64 (fin false (suc m) e))) where
         same-size (mul binary64 r r) x (number-is (mul binary64 r r) (unitsOf x) h (mul-fits binary64 r r)) f (size-is (mul binary64 r r) false (unitsOf x) h)
 
 -- a zero's square
-zero-exponent : (s : Bool) (e : ℤ) → T (fits binary64 (fin s zero e)) → e ≡ pos 0
-unfolding fits
-zero-exponent s (pos zero) f = refl
-zero-exponent s (pos (suc k)) f = absurd (omega (arith, eqb→eq (2 ^ suc k * 1) 1 f, pow-succ' 2 k, mul-one (2 ^ suc k)))
-zero-exponent s (negsuc k) f = absurd (omega (arith, eqb→eq (1 * 2 ^ suc k) 1 f, pow-succ' 2 k, one-mul (2 ^ suc k)))
-
 zero-by-sign : (s : Bool) → mul binary64 (fin s zero (pos 0)) (fin s zero (pos 0)) ≡ fin false zero (pos 0)
 unfolding mul round units odd Ieee.size Ieee.span Ieee.climb
 zero-by-sign true = refl

@@ -81,7 +81,7 @@ fn sweep(matrix: &[f64], dim: usize, shift: f64, work: &mut [f64]) -> Sweeps
     ensures { λ r. ⌜ HermitianSwept (now (matrix .entry)) dim shift r (now (work .exit)) ⌝ }
 {
     load_shifted(matrix, dim, shift, work);
-    svd_sweeps::settle_alone(work, dim, dim)
+    svd_sweeps::settle_alone(work, dim, dim, false)
 }
 
 // The list backward, in place.

@@ -5,7 +5,6 @@ use mathlib.Core.List.{List, [], _++_, append-nil}
 use Prim.Native.Nat.{ℕ, _*_, _^_, _≤_}
 use native.Mathlib.Omega.{arith}
 use borrow.Author.Tests.{eq-eqb, le-ltb}
-use lib.Dec.{eqb, ltb}
 use lib.Ieee.{Float}
 use lib.ListN.{length, take}
 use lib.Pow.{pow-mono}
@@ -20,7 +19,7 @@ use Rattle.cut_sides.specs.Sides.{cutRefusal, Parted}
 use Rattle.cut_sides.proofs.SideLaws.{is-parted}
 use Rattle.cuts.specs.Cut.{cutAnswer, cutCell, cutLengths, CutMatrix}
 use Rattle.qubit_offsets.specs.Calls.{densityRefusal}
-use Rattle.densities.specs.Density.{densityLengths, densityAnswer, densityList, DensityAccepted}
+use Rattle.densities.specs.Density.{densityLengths, DensityAccepted}
 use Rattle.densities.proofs.DensityLaws.{accepted}
 use Rattle.density_entries.specs.Entries.{densityCell}
 use Rattle.agreement.specs.FromCut.{cutDensityCell}

@@ -1,7 +1,7 @@
 -- Laws of page two: the density's sizes, the front of its array, and the ways out. Assumes nothing.
 use mathlib.Core.Path.{_≡_, refl, sym, ap, ap₂, _∙_}
 use mathlib.Core.Bool.{Bool}
-use mathlib.Core.List.{List, [], _++_}
+use mathlib.Core.List.{List, _++_}
 use Prim.Native.Nat.{ℕ, zero, suc, _+_, _*_, _^_, _≤_, min}
 use native.Mathlib.Omega.{arith}
 use borrow.Author.Tests.{ltb-false}
@@ -16,7 +16,7 @@ use Rattle.complex.specs.Cells.{components}
 use Rattle.qubits.specs.Lists.{densitySizes, qubitSet}
 use Rattle.qubit_offsets.specs.Calls.{densityRefusal}
 use Rattle.density_entries.specs.Entries.{densityCell}
-use Rattle.densities.specs.Density.{densityLengths, densityAnswer, densityList, Density}
+use Rattle.densities.specs.Density.{densityLengths, densityAnswer, Density}
 use Rattle.agreement.proofs.AgreementLaws.{density-left}
 use Rattle.density_recount.proofs.Pages.{front}
 use Rattle.pages.specs.Agree.{pagesSame}
@@ -29,7 +29,6 @@ use Rattle.page_sums.specs.Sums.{Summable}
 use Rattle.page_sums.proofs.SumsLaws.{length-whole}
 use Rattle.page_matrices.specs.Matrices.{keptText, matricesText, Drawn}
 use Rattle.page_matrices.proofs.MatricesLaws.{length-kept, length-matrices}
-use Rattle.page_cells.proofs.PageCellLaws.{square-small}
 use Rattle.page_two.specs.PageTwo.{pageTwoReply, densityOf, pageTwoText, Shown}
 
 -- a density that the cap lets through has at most 32 rows

@@ -1,22 +1,21 @@
 -- The list 0..j is accepted by a cut where j + 1 < n, and what its call then gives. Assumes nothing.
 use mathlib.Core.Path.{_≡_, refl, sym, ap, ap₂, _∙_}
-use mathlib.Core.Bool.{Bool, true, false, not, _||_}
+use mathlib.Core.Bool.{Bool, true, false, _||_}
 use mathlib.Core.List.{List, [], _∷_, _++_, append-assoc}
 use Prim.Native.Nat.{ℕ, zero, suc, _+_, _-_, _*_, _^_, _≤_, _<_, min}
-use native.Mathlib.Nat.{zero-add}
 use native.Mathlib.Omega.{arith}
-use borrow.Author.Tests.{ne-eqb, eq-eqb, eqb-true, eqb-false, ltb-false}
+use borrow.Author.Tests.{ne-eqb, eqb-true, eqb-false, ltb-false}
 use lib.Arith.{lt-of-le-ne}
 use lib.Dec.{ltb, eqb}
 use lib.ListN.{length, take, drop, getD, set, length-append, length-drop}
-use lib.Seq.{take-at, length-take-le, take-length, take-append-le, getD-at, take-suc-set, take-set-le, take-append-seam}
+use lib.Seq.{take-at, length-take-le, take-length, take-append-le, getD-at, take-suc-set, take-append-seam}
 use lib.Ieee.{Float}
 use Rattle.answers.specs.declared.Answer.{Answer}
 use Rattle.answers.specs.declared.Answer.the-variants.{Done}
 use Rattle.answers.specs.Paper.{Reply, paper, done, refuse, ifDone}
 use Rattle.answers.proofs.PaperLaws.{refuse-done, done-new, end-new}
 use Rattle.complex.specs.Zeros.{zeros}
-use Rattle.qubits.specs.Lists.{stands, placesFrom, places, qubitSet, subsystem}
+use Rattle.qubits.specs.Lists.{stands, placesFrom, qubitSet, subsystem}
 use Rattle.cut_sides.specs.declared.Sides.{Sides}
 use Rattle.cut_sides.specs.Sides.{cutSizes, cutRefusal, sidesOf, Parted}
 use Rattle.cut_sides.proofs.SideLaws.{is-parted}

@@ -1,23 +1,21 @@
 -- The page of the first cuts: how long its lists are, and the room. Assumes nothing.
-use mathlib.Core.Path.{_≡_, refl, sym, ap, _∙_}
-use mathlib.Core.Bool.{Bool, not}
+use mathlib.Core.Path.{_≡_, refl, sym, _∙_}
+use mathlib.Core.Bool.{not}
 use mathlib.Core.Logic.{⊎-elim}
-use mathlib.Core.List.{List, [], _∷_, _++_}
-use Prim.Native.Nat.{ℕ, zero, suc, _+_, _-_, _*_, _/_, _^_, _≤_, _<_, min}
-use native.Mathlib.Nat.{le-trans}
+use mathlib.Core.List.{List}
+use Prim.Native.Nat.{ℕ, zero, suc, _+_, _-_, _/_, _^_, _≤_, _<_, min}
 use native.Mathlib.Omega.{arith}
 use borrow.Author.Tests.{eqb-false}
 use lib.Dec.{eqb}
 use lib.ListN.{length, length-append}
-use lib.Pow.{pow-mono, pow-pos}
+use lib.Pow.{pow-mono}
 use lib.Ieee.{Float, binary64, div}
-use Rattle.answers.specs.Paper.{Reply, done, refuse}
 use Rattle.answers.proofs.PaperLaws.{refuse-done}
 use Rattle.numbers.specs.Numbers.{oneFloat}
 use Rattle.numbers.specs.Root.{sqrtOf}
 use Rattle.complex.specs.Cells.{cellsOf}
 use Rattle.cuts.specs.Cut.{cutCell}
-use Rattle.values.specs.Lists.{allFinite, keptAbove, squaresFrom, scaledBy, minusZero}
+use Rattle.values.specs.Lists.{allFinite, squaresFrom, minusZero}
 use Rattle.values.specs.Sort.{sortedDown}
 use Rattle.values.proofs.ListLaws.{kept-le, length-scaled}
 use Rattle.values.proofs.SortLaws.{length-sort}
@@ -27,11 +25,11 @@ use Rattle.svd_thin.specs.Thin.{valuesOf}
 use Rattle.svd.specs.Svd.{sideOf, sOf}
 use Rattle.svd.proofs.SvdLaws.{side-wide, side-tall}
 use Rattle.submasks.proofs.SubmaskLaws.{le-or-lt}
-use Rattle.finish.specs.Finish.{floorOf, keptValues, normalised, finishSorted, finishOf, sortedReply, finishReply}
+use Rattle.finish.specs.Finish.{floorOf, keptValues, normalised, finishSorted, sortedReply}
 use Rattle.cut_values.specs.Schmidt.{cutRows, cutColumns, singularValues, valuesReply}
-use Rattle.profile_cut.specs.Cut.{cutList, roomAt, valuesAt, replyAt, resultAt, marksOf, marksEach}
+use Rattle.profile_cut.specs.Cut.{cutList, roomAt, valuesAt, replyAt}
 use Rattle.profile_cut.proofs.CutLaws.{rows-are}
-use Rattle.profile_walk.specs.Page.{Page, withCut, cutsTo, cutsReply, cutsRoom}
+use Rattle.profile_walk.specs.Page.{cutsTo, cutsRoom}
 
 -- ---- a cut's values
 

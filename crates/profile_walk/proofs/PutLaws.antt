@@ -1,7 +1,7 @@
 -- One cut of the page: what it leaves at the front of each slice. Assumes nothing.
-use mathlib.Core.Path.{_≡_, refl, sym, ap, ap₂, _∙_}
+use mathlib.Core.Path.{_≡_, refl, sym, ap, _∙_}
 use mathlib.Core.List.{List, [], _∷_, _++_}
-use Prim.Native.Nat.{ℕ, zero, suc, _+_, _-_, _*_, _^_, _≤_, _<_, min}
+use Prim.Native.Nat.{ℕ, zero, suc, _+_, _-_, _*_, _≤_, _<_, min}
 use native.Mathlib.Omega.{arith}
 use borrow.Rule.Slice.PartMut.{midOf, putMid, same-len-mid}
 use lib.ListN.{length, take, drop, set, getD, length-take, length-drop}
@@ -13,8 +13,7 @@ use Rattle.answers.specs.declared.Answer.the-variants.{Done}
 use Rattle.answers.specs.Paper.{Reply, paper}
 use Rattle.cut_values.specs.declared.CutCounted.{CutCounted}
 use Rattle.profile_cut.specs.Cut.{roomAt, valuesAt, replyAt, resultAt, marksOf, marksEach, CutRoom, AloneAt}
-use Rattle.profile_walk.specs.declared.Packed.{Packed}
-use Rattle.profile_walk.specs.Page.{firstValue, PutRoom, Taken, PutCut}
+use Rattle.profile_walk.specs.Page.{firstValue, PutRoom, PutCut}
 use Rattle.profile_walk.proofs.PageLaws.{values-few, values-some}
 
 -- ---- the part of values from `at` on

@@ -1,19 +1,18 @@
 -- The walk: what its cuts leave is what `cutsTo` says. Assumes nothing.
 use mathlib.Core.Path.{_≡_, refl, sym, ap, ap₂, _∙_}
 use mathlib.Core.List.{List, [], _∷_, _++_}
-use Prim.Native.Nat.{ℕ, zero, suc, _+_, _-_, _*_, _/_, _^_, _≤_, _<_}
+use Prim.Native.Nat.{ℕ, zero, suc, _+_, _-_, _<_}
 use native.Mathlib.Numerals.{add-one}
 use native.Mathlib.Omega.{arith}
-use lib.ListN.{length, take, length-append}
+use lib.ListN.{length, length-append}
 use lib.Ieee.{Float}
 use Rattle.answers.specs.declared.Answer.{Answer}
 use Rattle.answers.specs.declared.Answer.the-variants.{Done}
-use Rattle.answers.specs.Paper.{Reply, paper, done, andThen}
+use Rattle.answers.specs.Paper.{Reply, paper, andThen}
 use Rattle.answers.proofs.PaperLaws.{stays}
-use Rattle.cut_values.specs.declared.CutCounted.{CutCounted}
-use Rattle.profile_cut.specs.Cut.{roomAt, valuesAt, replyAt, resultAt, marksOf, marksEach}
+use Rattle.profile_cut.specs.Cut.{valuesAt, replyAt, resultAt, marksOf}
 use Rattle.profile_walk.specs.declared.Packed.{Packed}
-use Rattle.profile_walk.specs.Page.{Page, firstValue, withCut, cutsTo, cutsReply, cutsRoom, PutRoom, Taken, PutCut, WalkRoom, Walking, WalkEnd}
+use Rattle.profile_walk.specs.Page.{firstValue, cutsTo, cutsReply, PutRoom, PutCut, WalkRoom, Walking, WalkEnd}
 use Rattle.profile_walk.proofs.PageLaws.{room-within, half-most, values-within}
 
 pub walk-start : (s : List Float) (n : ℕ) (header : List ℕ) (values largest : List Float) (ranks marks : List ℕ) → Walking s n 0 0 header values largest ranks marks

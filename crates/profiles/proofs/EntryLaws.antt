@@ -1,15 +1,13 @@
 -- What stands at cut j of the page. Assumes nothing.
-use mathlib.Core.Path.{_≡_, refl, sym, ap, ap₂, _∙_}
+use mathlib.Core.Path.{_≡_, refl, sym, ap, _∙_}
 use mathlib.Core.List.{List, [], _∷_, _++_, append-assoc, append-nil}
-use Prim.Native.Nat.{ℕ, zero, suc, _+_, _-_, _*_, _≤_, _<_}
+use Prim.Native.Nat.{ℕ, zero, suc, _+_, _-_, _*_}
 use native.Mathlib.Omega.{arith}
-use lib.ListN.{length, take, drop, getD, length-append}
-use lib.Seq.{drop-at, getD-drop, getD-take, take-append-seam}
-use lib.Ieee.{Float, nan}
-use Rattle.answers.specs.Paper.{Reply}
-use Rattle.cut_values.specs.declared.CutCounted.{CutCounted}
-use Rattle.profile_cut.specs.Cut.{valuesAt, replyAt, resultAt, marksOf, marksEach}
-use Rattle.profile_walk.specs.Page.{Page, firstValue, withCut, cutsTo}
+use lib.ListN.{length, drop, getD, length-append}
+use lib.Seq.{drop-at, getD-drop}
+use lib.Ieee.{Float}
+use Rattle.profile_cut.specs.Cut.{valuesAt, resultAt, marksOf, marksEach}
+use Rattle.profile_walk.specs.Page.{Page, firstValue, cutsTo}
 
 -- ---- a part among others
 

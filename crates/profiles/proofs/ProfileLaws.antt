@@ -1,7 +1,7 @@
 -- The call from its parts: its work at each way out, an accepted call and a refused one. Assumes nothing.
-use mathlib.Core.Path.{_≡_, refl, sym, ap, ap₂, _∙_}
+use mathlib.Core.Path.{_≡_, refl, sym, ap, _∙_}
 use mathlib.Core.List.{List, [], _++_, append-nil}
-use mathlib.Core.Logic.{_⊎_, inl, inr}
+use mathlib.Core.Logic.{inl}
 use Prim.Native.Nat.{ℕ, zero, suc, _+_, _-_, _*_, _/_, _^_, _≤_, _<_}
 use native.Mathlib.Omega.{arith}
 use borrow.Rule.Slice.PartMut.{midOf, putMid}
@@ -10,8 +10,8 @@ use lib.Seq.{take-all}
 use lib.Ieee.{Float}
 use Rattle.answers.specs.declared.Answer.{Answer}
 use Rattle.answers.specs.declared.Answer.the-variants.{Done}
-use Rattle.answers.specs.Paper.{Reply, paper, done, after, andThen, ifDone, atEnd}
-use Rattle.answers.proofs.PaperLaws.{stays, done-new, done-old, worked-new, worked-old, end-old, Ended, nine-ended}
+use Rattle.answers.specs.Paper.{Reply, paper, after, andThen, ifDone, atEnd}
+use Rattle.answers.proofs.PaperLaws.{stays, done-old, worked-new, worked-old, end-old, Ended, nine-ended}
 use Rattle.complex.specs.Zeros.{zeros, zeroed}
 use Rattle.values.specs.Lists.{allFinite}
 use Rattle.values.specs.Sort.{sortedDown}
@@ -21,10 +21,10 @@ use Rattle.svd.proofs.SvdLaws.{zeroed-all}
 use Rattle.cut_values.specs.Schmidt.{singularValues, valuesReply}
 use Rattle.profile_cut.specs.Cut.{cutList, replyAt, marksEach}
 use Rattle.profile_walk.specs.declared.Packed.{Packed}
-use Rattle.profile_walk.specs.Page.{Page, cutsTo, cutsReply, cutsRoom, WalkRoom, Walking, WalkEnd}
+use Rattle.profile_walk.specs.Page.{cutsReply, cutsRoom, WalkRoom, WalkEnd}
 use Rattle.profile_checks.specs.Checks.{pageHeader, pageValues, pageMarks, pageScratch, profileTests}
 use Rattle.profile_checks.proofs.CheckLaws.{tests-small}
-use Rattle.profiles.specs.Profile.{profileOf, profileReply, zeroedCounts, CutProfile, WorkRoom, ProfileWorked}
+use Rattle.profiles.specs.Profile.{profileOf, profileReply, CutProfile, WorkRoom, ProfileWorked}
 
 -- ---- the work
 

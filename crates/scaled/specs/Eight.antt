@@ -1,7 +1,7 @@
 -- Eight sums of numbers, each times 2 ^ 824. Definitions only.
 use mathlib.Core.List.{List}
 use Prim.Native.Nat.{ℕ, _+_}
-use lib.Ieee.{Float, nan, binary64, ofBits, add, mul}
+use lib.Ieee.{Float, nan, binary64, add, mul}
 use lib.ListN.{getD}
 use Rattle.complex.specs.Zeros.{zeroFloat}
 use Rattle.scaled.specs.declared.Sums.{Sums}

@@ -8,24 +8,20 @@ use lib.Ieee.{Float, nan}
 use lib.ListN.{set}
 use lib.Seq.{getD-set-other, set-comm}
 use Rattle.complex.specs.declared.Complex.{Complex}
-use Rattle.complex.specs.Arithmetic.{complexOf, product, sumOf, scaled}
+use Rattle.complex.specs.Arithmetic.{complexOf}
 use Rattle.complex.specs.Planes.{planeAt, setPlane}
 use Rattle.svd_pair.specs.declared.Factors.{Factors}
 use Rattle.svd_pair.specs.declared.Decision.{Decision}
 use Rattle.svd_pair.specs.declared.Decision.the-variants.{Leave, Turn}
-use Rattle.svd_pair.specs.Turns.{turnFactors, newP, newQ, turnRow, turnRows, applied}
+use Rattle.svd_pair.specs.Turns.{Making, turnFactors, turnRow, turnRows, applied}
 
--- What a real cosine would make of the new p. It is not what the sweeps do: `SignedZeros.antt` has a case with another zero.
-unfoldable pub realP : Factors → Complex → Complex → Complex
-realP f ap aq = sumOf (scaled ap (f .pp .re)) (product (f .pq) aq)
-
-pub turnRows-none : (f : Factors) (c a b : ℕ) (xs : List Float) → turnRows f c a b 0 xs ≡ xs
+pub turnRows-none : (g : Making) (f : Factors) (c a b : ℕ) (xs : List Float) → turnRows g f c a b 0 xs ≡ xs
 unfolding turnRows
-turnRows-none f c a b xs = refl
+turnRows-none g f c a b xs = refl
 
-pub turnRows-more : (f : Factors) (c a b k : ℕ) (xs : List Float) → turnRows f c a b (k + 1) xs ≡ turnRow f c (a + k) (b + k) (turnRows f c a b k xs)
+pub turnRows-more : (g : Making) (f : Factors) (c a b k : ℕ) (xs : List Float) → turnRows g f c a b (k + 1) xs ≡ turnRow g f c (a + k) (b + k) (turnRows g f c a b k xs)
 unfolding turnRows
-turnRows-more f c a b k xs = rw add-one
+turnRows-more g f c a b k xs = rw add-one
 
 -- ---- two rows at a time
 
@@ -38,12 +34,12 @@ plane-other xs c x i z h g n =
     (getD-set-other ys (c + i) x (z .im) nan (λ e. omega arith) ∙ getD-set-other xs i x (z .re) nan n)
     (getD-set-other ys (c + i) (c + x) (z .im) nan (λ e. n (omega arith)) ∙ getD-set-other xs i (c + x) (z .re) nan (λ e. omega arith))
 
-pub row-other : (f : Factors) (xs : List Float) (c x i j : ℕ) → x < c → i < c → j < c → (x ≡ i → ⊥) → (x ≡ j → ⊥)
-    → planeAt (turnRow f c i j xs) c x ≡ planeAt xs c x
+pub row-other : (g : Making) (f : Factors) (xs : List Float) (c x i j : ℕ) → x < c → i < c → j < c → (x ≡ i → ⊥) → (x ≡ j → ⊥)
+    → planeAt (turnRow g f c i j xs) c x ≡ planeAt xs c x
 unfolding turnRow
-row-other f xs c x i j h hi hj ni nj =
-    let p = newP f (planeAt xs c i) (planeAt xs c j) in
-    plane-other (setPlane xs c i p) c x j (newQ f (planeAt xs c i) (planeAt xs c j)) h hj nj ∙ plane-other xs c x i p h hi ni
+row-other g f xs c x i j h hi hj ni nj =
+    let p = g .p f (planeAt xs c i) (planeAt xs c j) in
+    plane-other (setPlane xs c i p) c x j (g .q f (planeAt xs c i) (planeAt xs c j)) h hj nj ∙ plane-other xs c x i p h hi ni
 
 -- two cells may be set in either order
 plane-comm : (xs : List Float) (c i j : ℕ) (u w : Complex) → i < c → j < c → (i ≡ j → ⊥)
@@ -67,44 +63,44 @@ write-both xs c i u w h =
     ap₂ (λ (l : List Float) (k : ℕ). set l k (w .im)) (set-comm (set xs i (u .re)) (i + 1) (c + i) (w .re) (u .im) (λ e. omega arith)) last
 
 -- all four cells from their old values
-pub turn-both : (f : Factors) (xs : List Float) (c i j : ℕ) → i + 1 < j → j + 1 < c
-    → setPlane (setPlane (setPlane (setPlane xs c i (newP f (planeAt xs c i) (planeAt xs c j))) c (i + 1) (newP f (planeAt xs c (i + 1)) (planeAt xs c (j + 1))))
-    c j (newQ f (planeAt xs c i) (planeAt xs c j))) c (j + 1) (newQ f (planeAt xs c (i + 1)) (planeAt xs c (j + 1)))
-    ≡ turnRow f c (i + 1) (j + 1) (turnRow f c i j xs)
+pub turn-both : (g : Making) (f : Factors) (xs : List Float) (c i j : ℕ) → i + 1 < j → j + 1 < c
+    → setPlane (setPlane (setPlane (setPlane xs c i (g .p f (planeAt xs c i) (planeAt xs c j))) c (i + 1) (g .p f (planeAt xs c (i + 1)) (planeAt xs c (j + 1))))
+    c j (g .q f (planeAt xs c i) (planeAt xs c j))) c (j + 1) (g .q f (planeAt xs c (i + 1)) (planeAt xs c (j + 1)))
+    ≡ turnRow g f c (i + 1) (j + 1) (turnRow g f c i j xs)
 unfolding turnRow
-turn-both f xs c i j h k =
-    let p = newP f (planeAt xs c i) (planeAt xs c j) in
-    let q = newQ f (planeAt xs c i) (planeAt xs c j) in
+turn-both g f xs c i j h k =
+    let p = g .p f (planeAt xs c i) (planeAt xs c j) in
+    let q = g .q f (planeAt xs c i) (planeAt xs c j) in
     let ys = setPlane (setPlane xs c i p) c j q in
     let at-p : planeAt ys c (i + 1) ≡ planeAt xs c (i + 1) =
     plane-other (setPlane xs c i p) c (i + 1) j q (omega arith) (omega arith) (λ e. omega arith) ∙ plane-other xs c (i + 1) i p (omega arith) (omega arith) (λ e. omega arith) in
     let at-q : planeAt ys c (j + 1) ≡ planeAt xs c (j + 1) =
     plane-other (setPlane xs c i p) c (j + 1) j q (omega arith) (omega arith) (λ e. omega arith) ∙ plane-other xs c (j + 1) i p (omega arith) (omega arith) (λ e. omega arith) in
-    rw (at-p, at-q, plane-comm (setPlane xs c i p) c (i + 1) j (newP f (planeAt xs c (i + 1)) (planeAt xs c (j + 1))) q (omega arith) (omega arith) (λ e. omega arith))
+    rw (at-p, at-q, plane-comm (setPlane xs c i p) c (i + 1) j (g .p f (planeAt xs c (i + 1)) (planeAt xs c (j + 1))) q (omega arith) (omega arith) (λ e. omega arith))
 
-pub turnRows-two : (f : Factors) (c a b k : ℕ) (xs : List Float)
-    → turnRows f c a b (k + 2) xs ≡ turnRow f c (a + k + 1) (b + k + 1) (turnRow f c (a + k) (b + k) (turnRows f c a b k xs))
-turnRows-two f c a b k xs =
+pub turnRows-two : (g : Making) (f : Factors) (c a b k : ℕ) (xs : List Float)
+    → turnRows g f c a b (k + 2) xs ≡ turnRow g f c (a + k + 1) (b + k + 1) (turnRow g f c (a + k) (b + k) (turnRows g f c a b k xs))
+turnRows-two g f c a b k xs =
     let next : k + 2 ≡ k + 1 + 1 = omega arith in
     let left : a + (k + 1) ≡ a + k + 1 = omega arith in
     let right : b + (k + 1) ≡ b + k + 1 = omega arith in
-    rw (next, turnRows-more f c a b (k + 1) xs, turnRows-more f c a b k xs, left, right)
+    rw (next, turnRows-more g f c a b (k + 1) xs, turnRows-more g f c a b k xs, left, right)
 
-pub applied-turn : {d : Decision} {cosine sine : Float} {phase : Complex} {f : Factors} {ys : List Float} (c a b m : ℕ) (xs : List Float) → d ≡ Turn cosine sine phase → f ≡ turnFactors cosine sine phase → ys ≡ turnRows f c a b m xs → ys ≡ applied d c a b m xs
+pub applied-turn : (g : Making) {d : Decision} {cosine sine : Float} {phase : Complex} {f : Factors} {ys : List Float} (c a b m : ℕ) (xs : List Float) → d ≡ Turn cosine sine phase → f ≡ turnFactors cosine sine phase → ys ≡ turnRows g f c a b m xs → ys ≡ applied g d c a b m xs
 unfolding applied
-applied-turn c a b m xs e f g = rw (e, ← f) g
+applied-turn g c a b m xs e f h = rw (e, ← f) h
 
 -- of no cells nothing is turned
-turnRow-nothing : (f : Factors) (c i j : ℕ) → turnRow f c i j [] ≡ []
+turnRow-nothing : (g : Making) (f : Factors) (c i j : ℕ) → turnRow g f c i j [] ≡ []
 unfolding turnRow setPlane
-turnRow-nothing f c i j = refl
+turnRow-nothing g f c i j = refl
 
-turnRows-nothing : (f : Factors) (c a b k : ℕ) → turnRows f c a b k [] ≡ []
+turnRows-nothing : (g : Making) (f : Factors) (c a b k : ℕ) → turnRows g f c a b k [] ≡ []
 unfolding turnRows
-turnRows-nothing f c a b zero = refl
-turnRows-nothing f c a b (suc k) = rw (turnRows-nothing f c a b k) (turnRow-nothing f c (a + k) (b + k))
+turnRows-nothing g f c a b zero = refl
+turnRows-nothing g f c a b (suc k) = rw (turnRows-nothing g f c a b k) (turnRow-nothing g f c (a + k) (b + k))
 
-pub applied-nothing : (d : Decision) (c a b m : ℕ) → [] ≡ applied d c a b m []
+pub applied-nothing : (g : Making) (d : Decision) (c a b m : ℕ) → [] ≡ applied g d c a b m []
 unfolding applied
-applied-nothing Leave c a b m = refl
-applied-nothing (Turn cosine sine phase) c a b m = sym (turnRows-nothing (turnFactors cosine sine phase) c a b m)
+applied-nothing g Leave c a b m = refl
+applied-nothing g (Turn cosine sine phase) c a b m = sym (turnRows-nothing g (turnFactors cosine sine phase) c a b m)

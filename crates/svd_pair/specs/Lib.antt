@@ -2,3 +2,4 @@
 pub mod Decisions
 pub mod Turns
 pub mod ZeroProducts
+pub mod Plain

@@ -24,22 +24,36 @@ turnFactors cosine sine phase =
       qq = product (real cosine) (conjugate phase);
     }
 
+-- ---- the new cells
+
 unfoldable pub newP : Factors → Complex → Complex → Complex
 newP f ap aq = sumOf (product (f .pp) ap) (product (f .pq) aq)
 
 unfoldable pub newQ : Factors → Complex → Complex → Complex
 newQ f ap aq = sumOf (product (f .qp) ap) (product (f .qq) aq)
 
+-- how the new cells of p and of q are made of the factors and the old cells
+pub record Making : Type 0 where
+  pub p : Factors → Complex → Complex → Complex
+  pub q : Factors → Complex → Complex → Complex
+
+-- as 01 has it, with the products by the zeros of the cosine and the sine
+abbrev pub exact : Making
+exact = record { p = newP; q = newQ }
+
+-- ---- two columns
+
 -- the cells i and j are turned, both from their old values
-unfoldable pub turnRow : Factors → ℕ → ℕ → ℕ → List Float → List Float
-turnRow f c i j xs = setPlane (setPlane xs c i (newP f (planeAt xs c i) (planeAt xs c j))) c j (newQ f (planeAt xs c i) (planeAt xs c j))
+unfoldable pub turnRow : Making → Factors → ℕ → ℕ → ℕ → List Float → List Float
+turnRow g f c i j xs =
+    setPlane (setPlane xs c i (g .p f (planeAt xs c i) (planeAt xs c j))) c j (g .q f (planeAt xs c i) (planeAt xs c j))
 
 -- the rows below k of the columns that start at the cells a and b
-unfoldable pub turnRows : Factors → ℕ → ℕ → ℕ → ℕ → List Float → List Float
-turnRows f c a b zero xs = xs
-turnRows f c a b (suc k) xs = turnRow f c (a + k) (b + k) (turnRows f c a b k xs)
+unfoldable pub turnRows : Making → Factors → ℕ → ℕ → ℕ → ℕ → List Float → List Float
+turnRows g f c a b zero xs = xs
+turnRows g f c a b (suc k) xs = turnRow g f c (a + k) (b + k) (turnRows g f c a b k xs)
 
 -- what a decision does to two columns of m rows
-unfoldable pub applied : Decision → ℕ → ℕ → ℕ → ℕ → List Float → List Float
-applied Leave c a b m xs = xs
-applied (Turn cosine sine phase) c a b m xs = turnRows (turnFactors cosine sine phase) c a b m xs
+unfoldable pub applied : Making → Decision → ℕ → ℕ → ℕ → ℕ → List Float → List Float
+applied g Leave c a b m xs = xs
+applied g (Turn cosine sine phase) c a b m xs = turnRows g (turnFactors cosine sine phase) c a b m xs

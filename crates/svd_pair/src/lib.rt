@@ -10,7 +10,8 @@ ghost use Rattle.complex.specs.Arithmetic.{scaled};
 ghost use Rattle.complex.specs.Planes.{setPlane};
 ghost use Rattle.complex.specs.Zeros.{zeroFloat};
 ghost use Rattle.svd_pair.specs.Decisions.{verdict, decisionOf, tangentOf, turnAt};
-ghost use Rattle.svd_pair.specs.Turns.{turnFactors, newP, newQ, turnRow, turnRows, applied};
+ghost use Rattle.svd_pair.specs.Turns.{turnFactors, newP, newQ, exact, turnRow, turnRows, applied};
+ghost use Rattle.svd_pair.specs.Plain.{plainP, plainQ, plain, making};
 ghost use Rattle.svd_pair.specs.ZeroProducts.{RealTurn};
 
 const JACOBI_REL_TOL: f64 = 1e-15;
@@ -126,18 +127,44 @@ impl Factors {
         };
         turned.add(self.qq.mul(aq))
     }
+
+    // Both without the products by zeros.
+    fn plain_p(self, ap: Complex, aq: Complex) -> Complex
+        ensures { λ r. ⌜ r ≡ plainP self ap aq ⌝ }
+    {
+        let turned = ap.real_times(self.pp.re);
+        turned.add(self.pq.mul(aq))
+    }
+
+    fn plain_q(self, ap: Complex, aq: Complex) -> Complex
+        ensures { λ r. ⌜ r ≡ plainQ self ap aq ⌝ }
+    {
+        let turned = ap.real_times(self.qp.re);
+        turned.add(self.qq.mul(aq))
+    }
 }
 
 // The cells i and j of a matrix of c cells are turned, both from their old values.
 fn turn_row(xs: &mut [f64], c: usize, i: usize, j: usize, f: Factors)
     requires { ⌜ (length (now xs) ≡ 2 * c) × (i < c) × (j < c) × RealTurn f ⌝ }
-    ensures { λ _. ⌜ now (xs .exit) ≡ turnRow f c i j (now (xs .entry)) ⌝ }
+    ensures { λ _. ⌜ now (xs .exit) ≡ turnRow exact f c i j (now (xs .entry)) ⌝ }
 {
     let ap = complex::read_plane(xs, c, i);
     let aq = complex::read_plane(xs, c, j);
     let z = ap.scale(0.0);
     complex::write_plane(xs, c, i, f.new_p(ap, z, aq));
     complex::write_plane(xs, c, j, f.new_q(ap, z, aq));
+}
+
+// The same without the products by zeros.
+fn turn_row_plainly(xs: &mut [f64], c: usize, i: usize, j: usize, f: Factors)
+    requires { ⌜ (length (now xs) ≡ 2 * c) × (i < c) × (j < c) ⌝ }
+    ensures { λ _. ⌜ now (xs .exit) ≡ turnRow plain f c i j (now (xs .entry)) ⌝ }
+{
+    let ap = complex::read_plane(xs, c, i);
+    let aq = complex::read_plane(xs, c, j);
+    complex::write_plane(xs, c, i, f.plain_p(ap, aq));
+    complex::write_plane(xs, c, j, f.plain_q(ap, aq));
 }
 
 // The cells i and i + 1 of a matrix of c cells become u and w. The parts of one kind stand side by side and are stored together.
@@ -157,7 +184,7 @@ fn write_two(xs: &mut [f64], c: usize, i: usize, u: Complex, w: Complex)
 // Two rows of two columns, the cells i and j and those behind them: all are read before any is written, so that two rows are turned at a time.
 fn turn_two(xs: &mut [f64], c: usize, i: usize, j: usize, f: Factors)
     requires { ⌜ (length (now xs) ≡ 2 * c) × (i + 1 < j) × (j + 1 < c) × RealTurn f ⌝ }
-    ensures { λ _. ⌜ now (xs .exit) ≡ turnRow f c (i + 1) (j + 1) (turnRow f c i j (now (xs .entry))) ⌝ }
+    ensures { λ _. ⌜ now (xs .exit) ≡ turnRow exact f c (i + 1) (j + 1) (turnRow exact f c i j (now (xs .entry))) ⌝ }
 {
     let ap = complex::read_plane(xs, c, i);
     let aq = complex::read_plane(xs, c, j);
@@ -169,10 +196,23 @@ fn turn_two(xs: &mut [f64], c: usize, i: usize, j: usize, f: Factors)
     write_two(xs, c, j, f.new_q(ap, az, aq), f.new_q(bp, bz, bq));
 }
 
+// The same without the products by zeros.
+fn turn_two_plainly(xs: &mut [f64], c: usize, i: usize, j: usize, f: Factors)
+    requires { ⌜ (length (now xs) ≡ 2 * c) × (i + 1 < j) × (j + 1 < c) ⌝ }
+    ensures { λ _. ⌜ now (xs .exit) ≡ turnRow plain f c (i + 1) (j + 1) (turnRow plain f c i j (now (xs .entry))) ⌝ }
+{
+    let ap = complex::read_plane(xs, c, i);
+    let aq = complex::read_plane(xs, c, j);
+    let bp = complex::read_plane(xs, c, i + 1);
+    let bq = complex::read_plane(xs, c, j + 1);
+    write_two(xs, c, i, f.plain_p(ap, aq), f.plain_p(bp, bq));
+    write_two(xs, c, j, f.plain_q(ap, aq), f.plain_q(bp, bq));
+}
+
 // The columns that start at the cells a and b, of m rows, are turned.
-pub fn turn_columns(xs: &mut [f64], c: usize, a: usize, b: usize, m: usize, f: Factors)
+fn turn_exactly(xs: &mut [f64], c: usize, a: usize, b: usize, m: usize, f: Factors)
     requires { ⌜ (length (now xs) ≡ 2 * c) × (a + m ≤ b) × (b + m ≤ c) × RealTurn f ⌝ }
-    ensures { λ _. ⌜ now (xs .exit) ≡ turnRows f c a b m (now (xs .entry)) ⌝ }
+    ensures { λ _. ⌜ now (xs .exit) ≡ turnRows exact f c a b m (now (xs .entry)) ⌝ }
 {
     let mut r = 0;
     while r + 1 < m {
@@ -184,10 +224,45 @@ pub fn turn_columns(xs: &mut [f64], c: usize, a: usize, b: usize, m: usize, f: F
     }
 }
 
-// What is decided is done to two columns of m rows.
-pub fn apply(xs: &mut [f64], c: usize, a: usize, b: usize, m: usize, d: Decision)
+// The same without the products by zeros: a loop of its own, since the back end does not take a test out of one.
+fn turn_plainly(xs: &mut [f64], c: usize, a: usize, b: usize, m: usize, f: Factors)
     requires { ⌜ (length (now xs) ≡ 2 * c) × (a + m ≤ b) × (b + m ≤ c) ⌝ }
-    ensures { λ _. ⌜ now (xs .exit) ≡ applied d c a b m (now (xs .entry)) ⌝ }
+    ensures { λ _. ⌜ now (xs .exit) ≡ turnRows plain f c a b m (now (xs .entry)) ⌝ }
+{
+    let mut r = 0;
+    while r + 1 < m {
+        turn_two_plainly(xs, c, a + r, b + r, f);
+        r += 2;
+    }
+    if r < m {
+        turn_row_plainly(xs, c, a + r, b + r, f);
+    }
+}
+
+// Either.
+pub fn turn_columns(
+    xs: &mut [f64],
+    c: usize,
+    a: usize,
+    b: usize,
+    m: usize,
+    f: Factors,
+    plainly: bool,
+)
+    requires { ⌜ (length (now xs) ≡ 2 * c) × (a + m ≤ b) × (b + m ≤ c) × RealTurn f ⌝ }
+    ensures { λ _. ⌜ now (xs .exit) ≡ turnRows (making plainly) f c a b m (now (xs .entry)) ⌝ }
+{
+    if plainly {
+        turn_plainly(xs, c, a, b, m, f);
+        return;
+    }
+    turn_exactly(xs, c, a, b, m, f);
+}
+
+// What is decided is done to two columns of m rows.
+pub fn apply(xs: &mut [f64], c: usize, a: usize, b: usize, m: usize, d: Decision, plainly: bool)
+    requires { ⌜ (length (now xs) ≡ 2 * c) × (a + m ≤ b) × (b + m ≤ c) ⌝ }
+    ensures { λ _. ⌜ now (xs .exit) ≡ applied (making plainly) d c a b m (now (xs .entry)) ⌝ }
 {
     match d {
         Decision::Leave => {}
@@ -195,6 +270,6 @@ pub fn apply(xs: &mut [f64], c: usize, a: usize, b: usize, m: usize, d: Decision
             cosine,
             sine,
             phase,
-        } => turn_columns(xs, c, a, b, m, Factors::new(cosine, sine, phase)),
+        } => turn_columns(xs, c, a, b, m, Factors::new(cosine, sine, phase), plainly),
     }
 }

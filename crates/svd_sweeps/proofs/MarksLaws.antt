@@ -10,7 +10,7 @@ use lib.ListN.{length, getD, set, replicate, getD-replicate, length-set}
 use lib.Seq.{getD-set-same, getD-set-other}
 use Rattle.svd_pair.specs.declared.Decision.{Decision}
 use Rattle.svd_pair.specs.declared.Decision.the-variants.{Leave, Turn}
-use Rattle.svd_pair.specs.Turns.{applied}
+use Rattle.svd_pair.specs.Turns.{Making, applied}
 use Rattle.sweeps.specs.declared.Sweeps.{Sweeps}
 use Rattle.sweeps.specs.Sweeping.{State, state, counted, pairBy, pairStep}
 use Rattle.svd_sweeps.specs.Sweeping.{svdPairing}
@@ -62,10 +62,10 @@ seen-left m n k p q marks work h l g e s =
     }
 
 -- the pair was turned, and its columns are marked
-pub seen-turned : (m n k p q : ℕ) (marks : List ℕ) (work : List Float) (d : Decision) {work′ : List Float} → n ≤ 64 → p < q → q < n → length marks ≡ 64
-    → work′ ≡ applied d (n * m) (p * m) (q * m) m work
+pub seen-turned : (g : Making) (m n k p q : ℕ) (marks : List ℕ) (work : List Float) (d : Decision) {work′ : List Float} → n ≤ 64 → p < q → q < n → length marks ≡ 64
+    → work′ ≡ applied g d (n * m) (p * m) (q * m) m work
     → Seen m n (look k p q) marks work → Seen m n (look k p q + 1) (set (set marks p (look k p q)) q (look k p q)) work′
-seen-turned m n k p q marks work d {work′} h l g len e s =
+seen-turned g m n k p q marks work d {work′} h l inside len e s =
     let t = look k p q in
     let one = set marks p t in
     let at-q : getD (set one q t) q 0 ≡ t = getD-set-same one q t 0 (omega (arith, length-set marks p t)) in
@@ -84,7 +84,7 @@ seen-turned m n k p q marks work d {work′} h l g len e s =
           (λ (i : look k′ p′ q′ ≡ t). absurd (pp (same-p k p q k′ p′ q′ (omega arith) (omega arith) (omega arith) (omega arith) i)))
           (λ (i : look k′ p′ q′ < t).
           s .left k′ p′ q′ l′ g′ i (omega arith) (rw (same p′ pp pq) at c) (rw (same q′ qp qq) at f)
-          ∙ sym (ap (decisionAt m n p′ q′) e ∙ decision-other d m n p q p′ q′ work (omega arith) g (omega arith) g′ pp pq qp qq))
+          ∙ sym (ap (decisionAt m n p′ q′) e ∙ decision-other g d m n p q p′ q′ work (omega arith) inside (omega arith) g′ pp pq qp qq))
           (eq-or-lt-of-le (omega arith));
     }
 
@@ -118,29 +118,29 @@ seen-at {m} {n} {marks = marks} {work = work} e = subst (λ (x : ℕ). Seen m n 
 pub seen-same : {m n t : ℕ} {marks : List ℕ} {work work′ : List Float} → work ≡ work′ → Seen m n t marks work → Seen m n t marks work′
 seen-same {m} {n} {t} {marks} e = subst (Seen m n t marks) e
 
-by-counts : (d : Decision) (m n p q : ℕ) (s : State) {work v : List Float} {t : Sweeps} → state work v t ≡ pairBy (svdPairing m n) d p q s → t .turned ≡ s .sweeps .turned
+by-counts : (g : Making) (d : Decision) (m n p q : ℕ) (s : State) {work v : List Float} {t : Sweeps} → state work v t ≡ pairBy (svdPairing g m n) d p q s → t .turned ≡ s .sweeps .turned
     → (Leave ≡ d) × (s .work ≡ work)
 unfolding svdPairing pairBy counted applied
-by-counts Leave m n p q s e h = (refl, sym (ap (λ (x : State). x .work) e))
-by-counts (Turn cosine sine phase) m n p q s e h = absurd (omega (arith, ap (λ (x : State). x .sweeps .turned) e))
+by-counts g Leave m n p q s e h = (refl, sym (ap (λ (x : State). x .work) e))
+by-counts g (Turn cosine sine phase) m n p q s e h = absurd (omega (arith, ap (λ (x : State). x .sweeps .turned) e))
 
 -- a pair that was not counted was left
-pub uncounted : (m n p q : ℕ) (s : State) {work v : List Float} {t : Sweeps} → state work v t ≡ pairStep (svdPairing m n) p q s → t .turned ≡ s .sweeps .turned
+pub uncounted : (g : Making) (m n p q : ℕ) (s : State) {work v : List Float} {t : Sweeps} → state work v t ≡ pairStep (svdPairing g m n) p q s → t .turned ≡ s .sweeps .turned
     → (Leave ≡ decisionAt m n p q (s .work)) × (s .work ≡ work)
 unfolding svdPairing pairStep decisionAt
-uncounted m n p q s e h = by-counts (decisionAt m n p q (s .work)) m n p q s e h
+uncounted g m n p q s e h = by-counts g (decisionAt m n p q (s .work)) m n p q s e h
 
 -- any pair is turned as decided
-pub done-to : (m n p q : ℕ) (s : State) {work v : List Float} {t : Sweeps} → state work v t ≡ pairStep (svdPairing m n) p q s
-    → work ≡ applied (decisionAt m n p q (s .work)) (n * m) (p * m) (q * m) m (s .work)
+pub done-to : (g : Making) (m n p q : ℕ) (s : State) {work v : List Float} {t : Sweeps} → state work v t ≡ pairStep (svdPairing g m n) p q s
+    → work ≡ applied g (decisionAt m n p q (s .work)) (n * m) (p * m) (q * m) m (s .work)
 unfolding svdPairing pairStep pairBy decisionAt
-done-to m n p q s e = ap (λ (x : State). x .work) e
+done-to g m n p q s e = ap (λ (x : State). x .work) e
 
 -- a pair that would be left changes nothing
-leave-step : (d : Decision) (m n p q : ℕ) (s : State) → Leave ≡ d → s ≡ pairBy (svdPairing m n) d p q s
+leave-step : (g : Making) (d : Decision) (m n p q : ℕ) (s : State) → Leave ≡ d → s ≡ pairBy (svdPairing g m n) d p q s
 unfolding svdPairing pairBy counted applied
-leave-step d m n p q s e = rw (← e)
+leave-step g d m n p q s e = rw (← e)
 
-pub passed-over : (m n p q : ℕ) (s : State) → Leave ≡ decisionAt m n p q (s .work) → s ≡ pairStep (svdPairing m n) p q s
+pub passed-over : (g : Making) (m n p q : ℕ) (s : State) → Leave ≡ decisionAt m n p q (s .work) → s ≡ pairStep (svdPairing g m n) p q s
 unfolding svdPairing pairStep decisionAt
-passed-over m n p q s e = leave-step (decisionAt m n p q (s .work)) m n p q s e
+passed-over g m n p q s e = leave-step g (decisionAt m n p q (s .work)) m n p q s e

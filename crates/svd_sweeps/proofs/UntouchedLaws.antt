@@ -11,18 +11,18 @@ use Rattle.svd_pair.specs.declared.Decision.{Decision}
 use Rattle.svd_pair.specs.declared.Decision.the-variants.{Leave, Turn}
 use Rattle.svd_gram.specs.Gram.{gramTo}
 use Rattle.svd_pair.specs.Decisions.{decisionOf}
-use Rattle.svd_pair.specs.Turns.{turnFactors, turnRows, applied}
+use Rattle.svd_pair.specs.Turns.{Making, turnFactors, turnRows, applied}
 use Rattle.svd_pair.proofs.TurnsLaws.{row-other}
 use Rattle.whole_numbers.proofs.WholeLaws.{column-fits}
 use Rattle.svd_sweeps.specs.Untouched.{decisionAt}
 
-rows-other : (f : Factors) (xs : List Float) (c x a b k : ℕ) → x < c → a + k ≤ c → b + k ≤ c
-    → ((r : ℕ) → r < k → x ≡ a + r → ⊥) → ((r : ℕ) → r < k → x ≡ b + r → ⊥) → planeAt (turnRows f c a b k xs) c x ≡ planeAt xs c x
+rows-other : (g : Making) (f : Factors) (xs : List Float) (c x a b k : ℕ) → x < c → a + k ≤ c → b + k ≤ c
+    → ((r : ℕ) → r < k → x ≡ a + r → ⊥) → ((r : ℕ) → r < k → x ≡ b + r → ⊥) → planeAt (turnRows g f c a b k xs) c x ≡ planeAt xs c x
 unfolding turnRows
-rows-other f xs c x a b zero h ha hb na nb = refl
-rows-other f xs c x a b (suc k) h ha hb na nb =
-    row-other f (turnRows f c a b k xs) c x (a + k) (b + k) h (omega arith) (omega arith) (na k (omega arith)) (nb k (omega arith))
-    ∙ rows-other f xs c x a b k h (omega arith) (omega arith) (λ r l. na r (omega arith)) (λ r l. nb r (omega arith))
+rows-other g f xs c x a b zero h ha hb na nb = refl
+rows-other g f xs c x a b (suc k) h ha hb na nb =
+    row-other g f (turnRows g f c a b k xs) c x (a + k) (b + k) h (omega arith) (omega arith) (na k (omega arith)) (nb k (omega arith))
+    ∙ rows-other g f xs c x a b k h (omega arith) (omega arith) (λ r l. na r (omega arith)) (λ r l. nb r (omega arith))
 
 -- two columns of m cells share none
 apart : (m p q r s : ℕ) → (p ≡ q → ⊥) → r < m → s < m → p * m + r ≡ q * m + s → ⊥
@@ -32,12 +32,12 @@ apart m p q r s n hr hs e =
     n (omega (arith, up, down))
 
 -- a column x that is neither of those turned
-pub column-other : (d : Decision) (m n p q x r : ℕ) (xs : List Float) → p < n → q < n → x < n → (x ≡ p → ⊥) → (x ≡ q → ⊥) → r < m
-    → planeAt (applied d (n * m) (p * m) (q * m) m xs) (n * m) (x * m + r) ≡ planeAt xs (n * m) (x * m + r)
+pub column-other : (g : Making) (d : Decision) (m n p q x r : ℕ) (xs : List Float) → p < n → q < n → x < n → (x ≡ p → ⊥) → (x ≡ q → ⊥) → r < m
+    → planeAt (applied g d (n * m) (p * m) (q * m) m xs) (n * m) (x * m + r) ≡ planeAt xs (n * m) (x * m + r)
 unfolding applied
-column-other Leave m n p q x r xs hp hq h np nq hr = refl
-column-other (Turn cosine sine phase) m n p q x r xs hp hq h np nq hr =
-    rows-other (turnFactors cosine sine phase) xs (n * m) (x * m + r) (p * m) (q * m) m
+column-other g Leave m n p q x r xs hp hq h np nq hr = refl
+column-other g (Turn cosine sine phase) m n p q x r xs hp hq h np nq hr =
+    rows-other g (turnFactors cosine sine phase) xs (n * m) (x * m + r) (p * m) (q * m) m
     (omega (arith, column-fits x n m h)) (column-fits p n m hp) (column-fits q n m hq)
     (λ s l. apart m x p r s np hr l) (λ s l. apart m x q r s nq hr l)
 
@@ -50,12 +50,12 @@ gram-same xs ys c a b (suc k) f g =
     let e = gram-same xs ys c a b k (λ r l. f r (omega arith)) (λ r l. g r (omega arith)) in
     rw (e, f k (omega arith), g k (omega arith))
 
-pub decision-other : (d : Decision) (m n p q x y : ℕ) (xs : List Float) → p < n → q < n → x < n → y < n
+pub decision-other : (g : Making) (d : Decision) (m n p q x y : ℕ) (xs : List Float) → p < n → q < n → x < n → y < n
     → (x ≡ p → ⊥) → (x ≡ q → ⊥) → (y ≡ p → ⊥) → (y ≡ q → ⊥)
-    → decisionAt m n x y (applied d (n * m) (p * m) (q * m) m xs) ≡ decisionAt m n x y xs
+    → decisionAt m n x y (applied g d (n * m) (p * m) (q * m) m xs) ≡ decisionAt m n x y xs
 unfolding decisionAt
-decision-other d m n p q x y xs hp hq hx hy xp xq yp yq =
+decision-other g d m n p q x y xs hp hq hx hy xp xq yp yq =
     ap decisionOf
-    (gram-same (applied d (n * m) (p * m) (q * m) m xs) xs (n * m) (x * m) (y * m) m
-    (λ r l. column-other d m n p q x r xs hp hq hx xp xq l)
-    (λ r l. column-other d m n p q y r xs hp hq hy yp yq l))
+    (gram-same (applied g d (n * m) (p * m) (q * m) m xs) xs (n * m) (x * m) (y * m) m
+    (λ r l. column-other g d m n p q x r xs hp hq hx xp xq l)
+    (λ r l. column-other g d m n p q y r xs hp hq hy yp yq l))

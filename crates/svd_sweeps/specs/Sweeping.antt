@@ -5,7 +5,7 @@ use Prim.Native.Nat.{ℕ, _*_, _<_, _≤_}
 use lib.Ieee.{Float}
 use Rattle.svd_gram.specs.Gram.{gramTo}
 use Rattle.svd_pair.specs.Decisions.{decisionOf}
-use Rattle.svd_pair.specs.Turns.{applied}
+use Rattle.svd_pair.specs.Turns.{Making, exact, applied}
 use Rattle.sweeps.specs.Sweeping.{State, Pairing, settledBy}
 
 -- ---- the room
@@ -36,19 +36,24 @@ pub record SweepRoom (m n lw lv : ℕ) : Type 0 where
 
 -- ---- the sweeps
 
--- the pair p, q is decided by its columns' sums, and turned in the work matrix and in V alike
-unfoldable pub svdPairing : ℕ → ℕ → Pairing
-svdPairing m n =
+-- the pair p, q is decided by its columns' sums, and turned in the work matrix and in V alike, with new cells made by g
+unfoldable pub svdPairing : Making → ℕ → ℕ → Pairing
+svdPairing g m n =
     record {
       decide = λ p q work. decisionOf (gramTo work (n * m) (p * m) (q * m) m);
-      onWork = λ d p q work. applied d (n * m) (p * m) (q * m) m work;
-      onV = λ d p q v. applied d (n * n) (p * n) (q * n) n v;
+      onWork = λ d p q work. applied g d (n * m) (p * m) (q * m) m work;
+      onV = λ d p q v. applied g d (n * n) (p * n) (q * n) n v;
     }
 
 -- the same at each sweep
-abbrev pub svdPairings : ℕ → ℕ → List Float → Pairing
-svdPairings m n work = svdPairing m n
+abbrev pub svdPairings : Making → ℕ → ℕ → List Float → Pairing
+svdPairings g m n work = svdPairing g m n
 
 -- 100 sweeps at most
+unfoldable pub settledWith : Making → ℕ → ℕ → List Float → List Float → State
+settledWith g m n work v = settledBy (svdPairings g m n) 100 n work v
+
+-- as 01 has them
 unfoldable pub settled : ℕ → ℕ → List Float → List Float → State
-settled m n work v = settledBy (svdPairings m n) 100 n work v
+unfolding settledWith
+settled m n work v = settledWith exact m n work v

@@ -8,21 +8,22 @@ ghost use mathlib.Core.List.{[]};
 ghost use Prim.Native.Nat.{_+_, _-_, _*_, _<_, _≤_};
 ghost use lib.ListN.{length, getD};
 ghost use Rattle.svd_pair.specs.Turns.{applied};
+ghost use Rattle.svd_pair.specs.Plain.{making};
 ghost use Rattle.sweeps.specs.Sweeping.{state, pairStep, pairsTo, sweepOf};
-ghost use Rattle.svd_sweeps.specs.Sweeping.{ValueRoom, VRoom, SweepRoom, svdPairing, svdPairings, settled};
+ghost use Rattle.svd_sweeps.specs.Sweeping.{ValueRoom, VRoom, SweepRoom, svdPairing, svdPairings, settledWith};
 ghost use Rattle.svd_sweeps.specs.Marks.{look, Marked, Seen};
 
 const MAX_SVD_SWEEPS: usize = 100;
 
 // What is decided for the pair p, q is done to V too, where there is one.
-fn apply_to_v(v: &mut [f64], n: usize, p: usize, q: usize, d: Decision)
+fn apply_to_v(v: &mut [f64], n: usize, p: usize, q: usize, d: Decision, plain: bool)
     requires { ⌜ VRoom n (length (now v)) × (n ≤ 64) × (p < q) × (q < n) ⌝ }
-    ensures { λ _. ⌜ now (v .exit) ≡ applied d (n * n) (p * n) (q * n) n (now (v .entry)) ⌝ }
+    ensures { λ _. ⌜ now (v .exit) ≡ applied (making plain) d (n * n) (p * n) (q * n) n (now (v .entry)) ⌝ }
 {
     if v.len() == 0 {
         return;
     }
-    svd_pair::apply(v, n * n, p * n, q * n, n, d);
+    svd_pair::apply(v, n * n, p * n, q * n, n, d, plain);
 }
 
 // The pair p, q.
@@ -34,15 +35,16 @@ fn pair(
     p: usize,
     q: usize,
     s: Sweeps,
+    plain: bool,
 ) -> Sweeps
     requires { ⌜ SweepRoom m n (length (now work)) (length (now v)) × (p < q) × (q < n) × (s .turned < 1000000) ⌝ }
-    ensures { λ r. ⌜ state (now (work .exit)) (now (v .exit)) r ≡ pairStep (svdPairing m n) p q (state (now (work .entry)) (now (v .entry)) s) ⌝ }
+    ensures { λ r. ⌜ state (now (work .exit)) (now (v .exit)) r ≡ pairStep (svdPairing (making plain) m n) p q (state (now (work .entry)) (now (v .entry)) s) ⌝ }
 {
     let a = p * m;
     let b = q * m;
     let d = svd_pair::decide(svd_gram::gram_of(work, n * m, a, b, m));
-    svd_pair::apply(work, n * m, a, b, m, d);
-    apply_to_v(v, n, p, q, d);
+    svd_pair::apply(work, n * m, a, b, m, d, plain);
+    apply_to_v(v, n, p, q, d, plain);
     sweeps::count(d, s)
 }
 
@@ -67,16 +69,17 @@ fn visit(
     p: usize,
     q: usize,
     s: Sweeps,
+    plain: bool,
 ) -> Sweeps
     requires { ⌜ SweepRoom m n (length (now work)) (length (now v)) × Marked n p q s (length (now marks)) × Seen m n (look (s .begun) p q) (now marks) (now work) ⌝ }
-    ensures done { λ r. ⌜ state (now (work .exit)) (now (v .exit)) r ≡ pairStep (svdPairing m n) p q (state (now (work .entry)) (now (v .entry)) s) ⌝ }
+    ensures done { λ r. ⌜ state (now (work .exit)) (now (v .exit)) r ≡ pairStep (svdPairing (making plain) m n) p q (state (now (work .entry)) (now (v .entry)) s) ⌝ }
     ensures seen { λ _. ⌜ Seen m n (look (s .begun) p q + 1) (now (marks .exit)) (now (work .exit)) ⌝ }
 {
     let now = s.begun * 4096 + p * 64 + q;
     if unchanged(marks, p, q, now - 4096) {
         return s;
     }
-    let t = pair(work, v, m, n, p, q, s);
+    let t = pair(work, v, m, n, p, q, s, plain);
     if t.turned == s.turned {
         return t;
     }
@@ -94,15 +97,16 @@ fn column(
     n: usize,
     p: usize,
     s: Sweeps,
+    plain: bool,
 ) -> Sweeps
     requires { ⌜ SweepRoom m n (length (now work)) (length (now v)) × (p < n) × (s .turned + n < 1000000) × (1 ≤ s .begun) × (s .begun ≤ 1000)
         × (length (now marks) ≡ 64) × Seen m n (look (s .begun) p 0) (now marks) (now work) ⌝ }
-    ensures done { λ r. ⌜ state (now (work .exit)) (now (v .exit)) r ≡ pairsTo (svdPairing m n) p (n - (p + 1)) (state (now (work .entry)) (now (v .entry)) s) ⌝ }
+    ensures done { λ r. ⌜ state (now (work .exit)) (now (v .exit)) r ≡ pairsTo (svdPairing (making plain) m n) p (n - (p + 1)) (state (now (work .entry)) (now (v .entry)) s) ⌝ }
     ensures seen { λ _. ⌜ Seen m n (look (s .begun) (p + 1) 0) (now (marks .exit)) (now (work .exit)) ⌝ }
 {
     let mut t = s;
     for q in (p + 1)..n {
-        t = visit(work, v, marks, m, n, p, q, t);
+        t = visit(work, v, marks, m, n, p, q, t, plain);
     }
     t
 }
@@ -115,10 +119,11 @@ fn sweep(
     m: usize,
     n: usize,
     s: Sweeps,
+    plain: bool,
 ) -> Sweeps
     requires { ⌜ SweepRoom m n (length (now work)) (length (now v)) × (s .begun < 1000) × (s .turned < 900000)
         × (length (now marks) ≡ 64) × Seen m n (look (s .begun + 1) 0 0) (now marks) (now work) ⌝ }
-    ensures done { λ r. ⌜ state (now (work .exit)) (now (v .exit)) r ≡ sweepOf (svdPairings m n) n (state (now (work .entry)) (now (v .entry)) s) ⌝ }
+    ensures done { λ r. ⌜ state (now (work .exit)) (now (v .exit)) r ≡ sweepOf (svdPairings (making plain) m n) n (state (now (work .entry)) (now (v .entry)) s) ⌝ }
     ensures seen { λ _. ⌜ Seen m n (look (s .begun + 2) 0 0) (now (marks .exit)) (now (work .exit)) ⌝ }
 {
     let mut t = Sweeps {
@@ -127,15 +132,16 @@ fn sweep(
         turned: s.turned,
     };
     for p in 0..n {
-        t = column(work, v, marks, m, n, p, t);
+        t = column(work, v, marks, m, n, p, t, plain);
     }
     t
 }
 
-// Up to 100 sweeps, and none after a quiet one, over the work matrix of m rows and n columns and over V, which may be empty.
-pub fn settle(work: &mut [f64], v: &mut [f64], m: usize, n: usize) -> Sweeps
+// Up to 100 sweeps, and none after a quiet one, over the work matrix of m rows and n columns and over V, which may be empty; plain: without
+// the products by zeros.
+pub fn settle(work: &mut [f64], v: &mut [f64], m: usize, n: usize, plain: bool) -> Sweeps
     requires { ⌜ SweepRoom m n (length (now work)) (length (now v)) ⌝ }
-    ensures { λ r. ⌜ state (now (work .exit)) (now (v .exit)) r ≡ settled m n (now (work .entry)) (now (v .entry)) ⌝ }
+    ensures { λ r. ⌜ state (now (work .exit)) (now (v .exit)) r ≡ settledWith (making plain) m n (now (work .entry)) (now (v .entry)) ⌝ }
 {
     let mut marks = [4096usize; 64];
     let mut s = Sweeps {
@@ -144,7 +150,7 @@ pub fn settle(work: &mut [f64], v: &mut [f64], m: usize, n: usize) -> Sweeps
         turned: 0,
     };
     for k in 0..MAX_SVD_SWEEPS {
-        s = sweep(work, v, &mut marks, m, n, s);
+        s = sweep(work, v, &mut marks, m, n, s, plain);
         if s.quiet {
             break;
         }
@@ -154,10 +160,10 @@ pub fn settle(work: &mut [f64], v: &mut [f64], m: usize, n: usize) -> Sweeps
 
 // The same on the work matrix alone, where no V is wanted. The contract names an empty V; no V changes the work matrix or the
 // counts (`settled-alike`, proofs/SweepingLaws.antt).
-pub fn settle_alone(work: &mut [f64], m: usize, n: usize) -> Sweeps
+pub fn settle_alone(work: &mut [f64], m: usize, n: usize, plain: bool) -> Sweeps
     requires { ⌜ ValueRoom m n (length (now work)) ⌝ }
-    ensures { λ r. ⌜ state (now (work .exit)) [] r ≡ settled m n (now (work .entry)) [] ⌝ }
+    ensures { λ r. ⌜ state (now (work .exit)) [] r ≡ settledWith (making plain) m n (now (work .entry)) [] ⌝ }
 {
     let mut none = [0.0f64; 0];
-    settle(work, &mut none, m, n)
+    settle(work, &mut none, m, n, plain)
 }

@@ -10,9 +10,8 @@ use lib.Seq.{length-take-le, take-at, drop-at}
 use borrow.Rule.Slice.PartMut.{putMid}
 use lib.Ieee.{Float}
 use Rattle.sweeps.specs.declared.Sweeps.{Sweeps}
-use Rattle.sweeps.specs.Sweeping.{State, state}
-use Rattle.svd_sweeps.specs.Sweeping.{settled}
-use Rattle.svd_load.specs.Loading.{unitPlanes}
+use Rattle.sweeps.specs.Sweeping.{State}
+use Rattle.plain_sweeps.specs.Trial.{Swept}
 use Rattle.stable_order.specs.Places.{Places, placesOf, placesIn}
 use Rattle.stable_order.proofs.PlacesLaws.{places-back}
 use Rattle.stable_order.specs.Order.{orderTo}
@@ -32,11 +31,6 @@ pub square-fits : (rows side : ℕ) → side ≤ rows → side * side ≤ side *
 square-fits rows side h = mul-le-mul-left side h
 
 -- ---- what the proofs of the steps cite
-
-pub swept-made : (rows side : ℕ) (work₀ work v v₀ : List Float) {n : Sweeps} → v₀ ≡ unitPlanes side → state work v n ≡ settled rows side work₀ v₀
-    → state work v n ≡ swept rows side work₀
-unfolding swept
-swept-made rows side work₀ work v v₀ e h = rw e at h
 
 pub part-length : {X : Type 0} (w k : ℕ) (xs : List X) → w + k ≤ length xs → length (take (w + k - w) (drop w xs)) ≡ k
 part-length w k xs h =
@@ -84,17 +78,16 @@ unfolding orderOf
 ranked-places rows side work s scratch r =
     record { places = orderTo (normsOf work rows side) side; are = r .order-is; low = order-below (normsOf work rows side) side }
 
-pub thin-made : (rows side : ℕ) (wide : Bool) (work rest rest' : List Float) {work' v' s scratch main other : List Float} {n : Sweeps} → side ≤ 64
-    → length work' ≡ 2 * (side * rows) → length v' ≡ 2 * (side * side) → state work' v' n ≡ swept rows side work
-    → ThinOrdered rows side (take (2 * (side * rows)) (work' ++ rest)) s scratch
+pub thin-made : (rows side : ℕ) (wide : Bool) (work rest' : List Float) {settled' v' s scratch main other : List Float} {n : Sweeps} → side ≤ 64
+    → length v' ≡ 2 * (side * side) → Swept rows side work n settled' v'
+    → ThinOrdered rows side (take (2 * (side * rows)) settled') s scratch
     → main ≡ directionsOf (take (2 * (side * rows)) scratch) s (placesIn (orderPart rows side scratch)) rows side wide
     → other ≡ vColumnsOf (take (2 * (side * side)) (v' ++ rest')) (placesIn (orderPart rows side scratch)) side wide
     → Thin rows side wide work n main s other
-unfolding orderOf
-thin-made rows side wide work rest rest' {work'} {v'} {s} {scratch} {main} {other} b lw lv g r em eo =
-    let ew : work' ≡ swept rows side work .work = ap (λ (t : State). t .work) g in
-    let ev : v' ≡ swept rows side work .v = ap (λ (t : State). t .v) g in
-    let tw : take (2 * (side * rows)) (work' ++ rest) ≡ swept rows side work .work = take-at work' rest (2 * (side * rows)) lw ∙ ew in
+unfolding orderOf swept
+thin-made rows side wide work rest' {settled'} {v'} {s} {scratch} {main} {other} b lv g r em eo =
+    let tw : take (2 * (side * rows)) settled' ≡ swept rows side work .work = ap (λ (t : State). t .work) (g .is) in
+    let ev : v' ≡ swept rows side work .v = ap (λ (t : State). t .v) (g .is) in
     let tv : take (2 * (side * side)) (v' ++ rest') ≡ swept rows side work .v = take-at v' rest' (2 * (side * side)) lv ∙ ev in
     let n : side ≤ 4096 = omega arith in
     let os = orderOf rows side (swept rows side work .work) in
@@ -106,5 +99,5 @@ thin-made rows side wide work rest rest' {work'} {v'} {s} {scratch} {main} {othe
       main-is = em ∙ rw (r .work-is, tw, order-is, rw-is);
       s-is = rw-is;
       other-is = eo ∙ rw (tv, order-is);
-      sweeps-are = ap (λ (t : State). t .sweeps) g;
+      sweeps-are = ap (λ (t : State). t .sweeps) (g .is);
     }

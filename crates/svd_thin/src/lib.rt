@@ -5,21 +5,10 @@ use sweeps::Sweeps;
 ghost use mathlib.Core.Path.{_≡_};
 ghost use Prim.Native.Nat.{_*_, _≤_};
 ghost use lib.ListN.{length, take};
-ghost use Rattle.sweeps.specs.Sweeping.{state};
-ghost use Rattle.svd_sweeps.specs.Sweeping.{SvdRoom};
 ghost use Rattle.stable_order.specs.Places.{placesOf, placesIn, Places};
 ghost use Rattle.stable_order.specs.Order.{orderTo};
 ghost use Rattle.svd_columns.specs.Columns.{sortedOf, directionsOf, vColumnsOf};
-ghost use Rattle.svd_thin.specs.Thin.{swept, orderPart, Lent, ThinOrdered, Written, Thin};
-
-// V starts as the unit matrix; the sweeps turn both.
-fn sweep(work: &mut [f64], v: &mut [f64], rows: usize, side: usize) -> Sweeps
-    requires { ⌜ SvdRoom rows side (length (now work)) (length (now v)) ⌝ }
-    ensures { λ r. ⌜ state (now (work .exit)) (now (v .exit)) r ≡ swept rows side (now (work .entry)) ⌝ }
-{
-    svd_load::unit(v, side);
-    svd_sweeps::settle(work, v, rows, side)
-}
+ghost use Rattle.svd_thin.specs.Thin.{orderPart, Lent, ThinOrdered, Written, Thin};
 
 // The order of the norms, and the norms in that order.
 pub fn sort(norms: &[f64], side: usize, s: &mut [f64], order: &mut [f64])
@@ -105,9 +94,8 @@ pub fn factor(
     requires { ⌜ Lent rows side (length (now s)) (length (now other)) (length (now scratch)) × (length (now main) ≡ 2 * (side * rows)) ⌝ }
     ensures { λ r. ⌜ Thin rows side wide (take (2 * (side * rows)) (now (scratch .entry))) r (now (main .exit)) (now (s .exit)) (now (other .exit)) ⌝ }
 {
-    let w = 2 * (side * rows);
     let x = 2 * (side * side);
-    let sweeps = sweep(&mut scratch[..w], &mut main[..x], rows, side);
+    let sweeps = plain_sweeps::sweep(scratch, &mut main[..x], rows, side);
     rank(rows, side, s, other, scratch);
     write_from(scratch, s, rows, side, wide, main, other);
     sweeps

@@ -1,4 +1,5 @@
 -- The laws, and what the functions' proofs share.
+pub mod Alongside
 pub mod Ceiling
 pub mod Counts
 pub mod SweepingLaws

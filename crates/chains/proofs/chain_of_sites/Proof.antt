@@ -1,10 +1,11 @@
 -- `chains::chain_of_sites` meets its contract: refused before the work, or the work done on the needed parts. Assumes nothing.
 use mathlib.Core.Path.{_≡_, sym, ap, ap₂, _∙_}
-use Prim.Native.Nat.{ℕ, _+_, _*_, _/_, _^_, _≤_}
+use Prim.Native.Nat.{ℕ, _+_, _-_, _*_, _/_, _^_, _≤_}
 use native.Mathlib.Omega.{arith}
 use lib.ListN.{length}
 use lib.Seq.{length-take-le}
 use denote.Ref.{now}
+use borrow.Table.Elements.{same-len}
 use Rattle.answers.proofs.Stopped.{passed, was-done, stopped-number}
 use Rattle.chain_room.proofs.RoomLaws.{room-few}
 use Rattle.chain_checks.proofs.CheckLaws.{ChainAccepted, accepted, plane-few, side-few}
@@ -125,31 +126,31 @@ slice-aggregate-work-8 : tie.Need-slice-aggregate-work-8
 slice-aggregate-work-8 c = sym (length-take-le _ _ (scratch-fits (c .before .before .before .before .before .before .before .before)))
 
 work-requires : tie.Need-work-requires
-work-requires c κs = record { some = accept (c .before .before .before .before .before .before .before .before .before .before .before) .some; small = accept (c .before .before .before .before .before .before .before .before .before .before .before) .small; limit-some = accept (c .before .before .before .before .before .before .before .before .before .before .before) .limit-some; state-is = accept (c .before .before .before .before .before .before .before .before .before .before .before) .state-is; sites-is = length-take-le _ _ (sites-fit (c .before .before .before .before .before .before .before .before)) ∙ ap (λ (x : ℕ). 2 * x) (c .before .before .before .before .before .before .before .before .room-of .ensures); bonds-is = length-take-le _ _ (accept (c .before .before .before .before .before .before .before .before .before .before .before) .bonds-fit); starts-is = length-take-le _ _ (accept (c .before .before .before .before .before .before .before .before .before .before .before) .starts-fit); marks-is = length-take-le _ _ (accept (c .before .before .before .before .before .before .before .before .before .before .before) .marks-fit); matrix-is = length-take-le _ _ (plane-fits (c .before .before .before .before .before .before .before .before) (accept (c .before .before .before .before .before .before .before .before .before .before .before) .matrix-fits)) ∙ plane-is (c .before .before .before .before .before .before .before .before); u-is = length-take-le _ _ (plane-fits (c .before .before .before .before .before .before .before .before) (accept (c .before .before .before .before .before .before .before .before .before .before .before) .u-fits)) ∙ plane-is (c .before .before .before .before .before .before .before .before); vt-is = length-take-le _ _ (plane-fits (c .before .before .before .before .before .before .before .before) (accept (c .before .before .before .before .before .before .before .before .before .before .before) .vt-fits)) ∙ plane-is (c .before .before .before .before .before .before .before .before); scratch-is = length-take-le _ _ (scratch-fits (c .before .before .before .before .before .before .before .before)) ∙ scratch-is (c .before .before .before .before .before .before .before .before) }
+work-requires c κs = (record { some = accept (c .before .before .before .before .before .before .before .before .before .before .before) .some; small = accept (c .before .before .before .before .before .before .before .before .before .before .before) .small; limit-some = accept (c .before .before .before .before .before .before .before .before .before .before .before) .limit-some; state-is = accept (c .before .before .before .before .before .before .before .before .before .before .before) .state-is; sites-is = length-take-le _ _ (sites-fit (c .before .before .before .before .before .before .before .before)) ∙ ap (λ (x : ℕ). 2 * x) (c .before .before .before .before .before .before .before .before .room-of .ensures); bonds-is = length-take-le _ _ (accept (c .before .before .before .before .before .before .before .before .before .before .before) .bonds-fit); starts-is = length-take-le _ _ (accept (c .before .before .before .before .before .before .before .before .before .before .before) .starts-fit); marks-is = length-take-le _ _ (accept (c .before .before .before .before .before .before .before .before .before .before .before) .marks-fit); u-is = length-take-le _ _ (plane-fits (c .before .before .before .before .before .before .before .before) (accept (c .before .before .before .before .before .before .before .before .before .before .before) .u-fits)) ∙ plane-is (c .before .before .before .before .before .before .before .before); vt-is = length-take-le _ _ (plane-fits (c .before .before .before .before .before .before .before .before) (accept (c .before .before .before .before .before .before .before .before .before .before .before) .vt-fits)) ∙ plane-is (c .before .before .before .before .before .before .before .before); scratch-is = length-take-le _ _ (scratch-fits (c .before .before .before .before .before .before .before .before)) ∙ scratch-is (c .before .before .before .before .before .before .before .before) }, length-take-le _ _ (plane-fits (c .before .before .before .before .before .before .before .before) (accept (c .before .before .before .before .before .before .before .before .before .before .before) .matrix-fits)) ∙ plane-is (c .before .before .before .before .before .before .before .before))
 
 same-length : tie.Need-same-length
-same-length c = search needs
+same-length c = same-len (2 * c .before .before .before .before .before .before .before .before .before .before .before .before .before .before .before .before .before .before .before .before .before .before .before .before .before .room-of .result) (c .before .before .before .before .before .before .before .before .before .before .before .before .before .before .before .before .before .before .before .before .before .before .before .before .before .before .before .before .before .before .before .before .before .before .before .before .before .before .before .before .args .sites .now) (c .before .before .before .before .before .before .before .before .before .before .before .before .before .before .before .before .work .last .1 .1 .1 .1 .0) (c .before .before .before .before .before .before .before .before .before .before .before .before .before .before .before .before .work .kept .1 .1 .1 .1 .0)
 
 same-length-2 : tie.Need-same-length-2
-same-length-2 c = search needs
+same-length-2 c = same-len (c .before .before .before .before .before .before .before .before .before .before .before .before .before .before .before .before .before .before .before .before .before .before .before .before .before .before .before .before .before .before .before .before .before .before .before .before .before .before .before .before .args .n + 1) (c .before .before .before .before .before .before .before .before .before .before .before .before .before .before .before .before .before .before .before .before .before .before .before .before .before .before .before .before .before .before .before .before .before .before .before .before .before .before .before .before .args .bonds .now) (c .before .before .before .before .before .before .before .before .before .before .before .before .before .before .before .before .work .last .1 .1 .1 .1 .1 .0) (c .before .before .before .before .before .before .before .before .before .before .before .before .before .before .before .before .work .kept .1 .1 .1 .1 .1 .0)
 
 same-length-3 : tie.Need-same-length-3
-same-length-3 c = search needs
+same-length-3 c = same-len (c .before .before .before .before .before .before .before .before .before .before .before .before .before .before .before .before .before .before .before .before .before .before .before .before .before .before .before .before .before .before .before .before .before .before .before .before .before .before .before .before .args .n + 1) (c .before .before .before .before .before .before .before .before .before .before .before .before .before .before .before .before .before .before .before .before .before .before .before .before .before .before .before .before .before .before .before .before .before .before .before .before .before .before .before .before .args .starts .now) (c .before .before .before .before .before .before .before .before .before .before .before .before .before .before .before .before .work .last .1 .1 .1 .1 .1 .1 .0) (c .before .before .before .before .before .before .before .before .before .before .before .before .before .before .before .before .work .kept .1 .1 .1 .1 .1 .1 .0)
 
 same-length-4 : tie.Need-same-length-4
-same-length-4 c = search needs
+same-length-4 c = same-len (3 * (c .before .before .before .before .before .before .before .before .before .before .before .before .before .before .before .before .before .before .before .before .before .before .before .before .before .before .before .before .before .before .before .before .before .before .before .before .before .before .before .before .args .n - 1)) (c .before .before .before .before .before .before .before .before .before .before .before .before .before .before .before .before .before .before .before .before .before .before .before .before .before .before .before .before .before .before .before .before .before .before .before .before .before .before .before .before .args .marks .now) (c .before .before .before .before .before .before .before .before .before .before .before .before .before .before .before .before .work .last .1 .1 .1 .1 .1 .1 .1 .0) (c .before .before .before .before .before .before .before .before .before .before .before .before .before .before .before .before .work .kept .1 .1 .1 .1 .1 .1 .1 .0)
 
 same-length-5 : tie.Need-same-length-5
-same-length-5 c = search needs
+same-length-5 c = same-len (2 * c .before .before .before .before .before .before .before .before .before .before .before .before .before .before .before .before .before .before .before .before .before .before .before .before .before .before .before .bit .result) (c .before .before .before .before .before .before .before .before .before .before .before .before .before .before .before .before .before .before .before .before .before .before .before .before .before .before .before .before .before .before .before .before .before .before .before .before .before .before .before .before .args .matrix .now) (c .before .before .before .before .before .before .before .before .before .before .before .before .before .before .before .before .work .last .1 .1 .1 .1 .1 .1 .1 .1 .0) (c .before .before .before .before .before .before .before .before .before .before .before .before .before .before .before .before .work .kept .1 .1 .1 .1 .1 .1 .1 .1 .0)
 
 same-length-6 : tie.Need-same-length-6
-same-length-6 c = search needs
+same-length-6 c = same-len (2 * c .before .before .before .before .before .before .before .before .before .before .before .before .before .before .before .before .before .before .before .before .before .before .before .before .before .before .before .bit .result) (c .before .before .before .before .before .before .before .before .before .before .before .before .before .before .before .before .before .before .before .before .before .before .before .before .before .before .before .before .before .before .before .before .before .before .before .before .before .before .before .before .args .u .now) (c .before .before .before .before .before .before .before .before .before .before .before .before .before .before .before .before .work .last .1 .1 .1 .1 .1 .1 .1 .1 .1 .0) (c .before .before .before .before .before .before .before .before .before .before .before .before .before .before .before .before .work .kept .1 .1 .1 .1 .1 .1 .1 .1 .1 .0)
 
 same-length-7 : tie.Need-same-length-7
-same-length-7 c = search needs
+same-length-7 c = same-len (2 * c .before .before .before .before .before .before .before .before .before .before .before .before .before .before .before .before .before .before .before .before .before .before .before .before .before .before .before .bit .result) (c .before .before .before .before .before .before .before .before .before .before .before .before .before .before .before .before .before .before .before .before .before .before .before .before .before .before .before .before .before .before .before .before .before .before .before .before .before .before .before .before .args .vt .now) (c .before .before .before .before .before .before .before .before .before .before .before .before .before .before .before .before .work .last .1 .1 .1 .1 .1 .1 .1 .1 .1 .1 .0) (c .before .before .before .before .before .before .before .before .before .before .before .before .before .before .before .before .work .kept .1 .1 .1 .1 .1 .1 .1 .1 .1 .1 .0)
 
 same-length-8 : tie.Need-same-length-8
-same-length-8 c = search needs
+same-length-8 c = same-len (6 * c .before .before .before .before .before .before .before .before .before .before .before .before .before .before .before .before .before .before .before .before .before .before .before .before .before .before .before .bit .result + 2 * c .before .before .before .before .before .before .before .before .before .before .before .before .before .before .before .before .before .before .before .before .before .before .before .before .before .before .bit2 .result) (c .before .before .before .before .before .before .before .before .before .before .before .before .before .before .before .before .before .before .before .before .before .before .before .before .before .before .before .before .before .before .before .before .before .before .before .before .before .before .before .before .args .scratch .now) (c .before .before .before .before .before .before .before .before .before .before .before .before .before .before .before .before .work .last .1 .1 .1 .1 .1 .1 .1 .1 .1 .1 .1 .0) (c .before .before .before .before .before .before .before .before .before .before .before .before .before .before .before .before .work .kept .1 .1 .1 .1 .1 .1 .1 .1 .1 .1 .1 .0)
 
 returns-2 : tie.Need-returns-2
 returns-2 c = chain-worked _ _ _ _ _ _ _ _ _ _ _ _ (c .before .before .before .before .before .before .before .before .before .before .before .before .before .before .before .before .work .result) (c .before .before .before .before .before .before .before .before .before .before .before .before .before .before .before .before .before .before .before .before .before .before .before .before .before .before .before .bit .ensures) (c .before .before .before .before .before .before .before .before .before .before .before .before .before .before .before .before .before .before .before .before .before .before .before .before .before .before .bit2 .ensures) (c .before .before .before .before .before .before .before .before .before .before .before .before .before .before .before .before .before .before .before .before .before .before .before .before .before .room-of .ensures) (passed _ _ _ (c .before .before .before .before .before .before .before .before .before .before .before .before .before .before .before .before .before .before .before .before .before .before .before .before .before .before .before .before .before .before .check .ensures) (c .before .before .before .before .before .before .before .before .before .before .before .before .before .before .before .before .before .before .before .before .before .before .before .before .before .before .before .before .enum-told .given .1)) (c .before .before .before .before .before .before .before .before .before .before .before .before .before .before .before .before .work .ensures)

@@ -6,7 +6,6 @@ use lib.Dec.{T}
 use lib.Ieee.{binary64, fits, ofBits}
 use lib.Ieee.Bits.{ofBits-toBits}
 use Rattle.numbers.proofs.Cases.{no-nan}
-use borrow.Author.Needs.{needs}
 use Rattle.modulus.proofs.same.Statement.{statement}
 use Rattle.modulus.proofs.same.Tie as tie
 

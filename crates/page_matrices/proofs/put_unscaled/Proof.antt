@@ -9,7 +9,6 @@ use Rattle.texts.proofs.TextLaws.{puts-then, puts-as}
 use Rattle.page_lines.specs.PageLines.{bitsLine}
 use Rattle.page_cells.proofs.PageCellLaws.{length-cells}
 use Rattle.page_matrices.specs.Matrices.{cellWord, traceWord, unscaledText}
-use Rattle.page_matrices.proofs.MatricesLaws.{lined-square}
 use borrow.Author.Needs.{needs}
 use Rattle.page_matrices.proofs.put_unscaled.Statement.{statement}
 use Rattle.page_matrices.proofs.put_unscaled.Tie as tie

@@ -28,7 +28,7 @@ same-length c = search needs
 returns-2 : tie.Need-returns-2
 returns-2 c =
     let turned = c .before .before in
-    applied-turn _ _ _ _ _ (turned .before .before .before .before .d .given .1) (turned .before .new .ensures) (turned .turn-columns .ensures)
+    applied-turn _ _ _ _ _ _ (turned .before .before .before .before .d .given .1) (turned .before .new .ensures) (turned .turn-columns .ensures)
 
 pub apply-spec : {M : Type 1} → statement M
 apply-spec =

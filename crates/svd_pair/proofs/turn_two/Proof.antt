@@ -1,6 +1,7 @@
 -- `svd_pair::turn_two` meets its contract: all four cells are read before any is written. Assumes nothing.
 use mathlib.Core.Path.{_∙_}
 use native.Mathlib.Omega.{arith}
+use Rattle.svd_pair.specs.Turns.{exact}
 use Rattle.svd_pair.proofs.TurnsLaws.{turn-both}
 use borrow.Author.Needs.{needs}
 use Rattle.svd_pair.proofs.turn_two.Statement.{statement}
@@ -57,7 +58,7 @@ returns c =
     let first = wrote .before .before .before .before .before .before in
     let read = first .before .before .before .before .before .before in
     rw (wrote .write-two2 .ensures, wrote .before .new-q2 .ensures, wrote .before .before .new-q .ensures, first .write-two .ensures, first .before .new-p2 .ensures, first .before .before .new-p .ensures, read .read-plane4 .ensures, read .before .before .read-plane3 .ensures, read .before .before .before .before .read-plane2 .ensures, read .before .before .before .before .before .before .read-plane .ensures)
-    (turn-both _ _ _ _ _ (c .before .before .before .before .before .before .before .before .before .before .before .before .before .before .before .before .before .before .before .before .before .before .before .pre .1) (c .before .before .before .before .before .before .before .before .before .before .before .before .before .before .before .before .before .before .before .before .before .before .before .pre .2))
+    (turn-both exact _ _ _ _ _ (c .before .before .before .before .before .before .before .before .before .before .before .before .before .before .before .before .before .before .before .before .before .before .before .pre .1) (c .before .before .before .before .before .before .before .before .before .before .before .before .before .before .before .before .before .before .before .before .before .before .before .pre .2))
 
 pub turn-two-spec : {M : Type 1} → statement M
 turn-two-spec =

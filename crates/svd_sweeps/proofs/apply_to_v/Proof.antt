@@ -19,7 +19,7 @@ small : (c : tie.Start) → c .args .n * c .args .n ≤ 64 * 64
 small c = mul-le-mul (c .pre .1) (c .pre .1)
 
 returns : tie.Need-returns
-returns c = v-none _ _ _ _ _ _ (omega (arith, c .if1 .taken))
+returns c = v-none _ _ _ _ _ _ _ (omega (arith, c .if1 .taken))
 
 mul-apply : tie.Need-mul-apply
 mul-apply c = omega (arith, small (c .before .before .before))

@@ -3,6 +3,7 @@ use mathlib.Core.Path.{_≡_, refl, _∙_}
 use Prim.Native.Nat.{_+_, _-_, _≤_, _<_}
 use lib.ListN.{length}
 use native.Mathlib.Omega.{arith}
+use Rattle.svd_pair.specs.Plain.{making}
 use Rattle.sweeps.specs.Sweeping.{state, pairsTo}
 use Rattle.sweeps.proofs.Counts.{pair-after}
 use Rattle.sweeps.proofs.SweepingLaws.{pairs-none, pairs-more}
@@ -14,10 +15,10 @@ use Rattle.svd_sweeps.proofs.column.Statement.{statement}
 use Rattle.svd_sweeps.proofs.column.Tie as tie
 
 abbrev Inv-loop : tie.InvT-loop
-Inv-loop work₀ v₀ marks₀ m n p t₀ q₀ work v marks t q = (p < q) × (q ≤ n) × (length work ≡ length work₀) × (length v ≡ length v₀) × (length marks ≡ length marks₀) × (state work v t ≡ pairsTo (svdPairing m n) p (q - (p + 1)) (state work₀ v₀ t₀)) × (t .turned ≤ t₀ .turned + (q - (p + 1))) × (t .begun ≡ t₀ .begun) × Seen m n (look (t₀ .begun) p q) marks work
+Inv-loop work₀ v₀ marks₀ m n p plain t₀ q₀ work v marks t q = (p < q) × (q ≤ n) × (length work ≡ length work₀) × (length v ≡ length v₀) × (length marks ≡ length marks₀) × (state work v t ≡ pairsTo (svdPairing (making plain) m n) p (q - (p + 1)) (state work₀ v₀ t₀)) × (t .turned ≤ t₀ .turned + (q - (p + 1))) × (t .begun ≡ t₀ .begun) × Seen m n (look (t₀ .begun) p q) marks work
 
 abbrev μ-loop : tie.MeasureT-loop
-μ-loop work₀ v₀ marks₀ m n p t₀ q₀ work v marks t q = n - q
+μ-loop work₀ v₀ marks₀ m n p plain t₀ q₀ work v marks t q = n - q
 
 add-q : tie.Need-add-q Inv-loop μ-loop
 add-q c = omega (arith, c .before .before .before .pre .1, c .before .before .before .pre .0 .columns)

@@ -49,7 +49,7 @@ same-length-2 : tie.Need-same-length-2
 same-length-2 c = search needs
 
 returns : tie.Need-returns
-returns c = pair-made _ _ _ _ _ _ _ _ _ (verdict-one _ _ (rw (c .before .before .before .before .before .before .before .before .before .before .gram-of .ensures) at (c .before .before .before .before .before .before .before .before .before .decide .ensures))) (c .before .before .before .before .before .before .before .apply .ensures) (c .before .before .before .apply-to-v .ensures) (c .count .ensures)
+returns c = pair-made _ _ _ _ _ _ _ _ _ _ (verdict-one _ _ (rw (c .before .before .before .before .before .before .before .before .before .before .gram-of .ensures) at (c .before .before .before .before .before .before .before .before .before .decide .ensures))) (c .before .before .before .before .before .before .before .apply .ensures) (c .before .before .before .apply-to-v .ensures) (c .count .ensures)
 
 pub pair-spec : {M : Type 1} → statement M
 pair-spec =

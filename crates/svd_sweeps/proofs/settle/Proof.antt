@@ -3,10 +3,11 @@ use mathlib.Core.Path.{_≡_, refl, sym, _∙_}
 use Prim.Native.Nat.{_+_, _-_, _*_, _≤_}
 use lib.ListN.{length}
 use native.Mathlib.Omega.{arith}
+use Rattle.svd_pair.specs.Plain.{making}
 use Rattle.sweeps.specs.Sweeping.{state, sweepsTo}
 use Rattle.sweeps.proofs.Counts.{sweep-after, pairs-few}
 use Rattle.sweeps.proofs.SweepingLaws.{sweeps-done, sweeps-more, sweeps-quiet}
-use Rattle.svd_sweeps.specs.Sweeping.{svdPairings, settled}
+use Rattle.svd_sweeps.specs.Sweeping.{svdPairings, settledWith}
 use Rattle.svd_sweeps.proofs.SweepingLaws.{settled-start, v-kept}
 use Rattle.svd_sweeps.specs.Marks.{look, Seen}
 use Rattle.svd_sweeps.proofs.MarksLaws.{seen-first, seen-at}
@@ -15,13 +16,13 @@ use Rattle.svd_sweeps.proofs.settle.Statement.{statement}
 use Rattle.svd_sweeps.proofs.settle.Tie as tie
 
 abbrev Inv-loop : tie.InvT-loop
-Inv-loop work₀ v₀ m n marks₀ s₀ k₀ work v marks s k = (k ≤ 100) × (length work ≡ length work₀) × (length v ≡ length v₀) × (length marks ≡ 64) × (sweepsTo (svdPairings m n) n (100 - k) (state work v s) ≡ settled m n work₀ v₀) × (s .begun ≤ k) × (s .turned ≤ k * 4096) × Seen m n (look (s .begun + 1) 0 0) marks work
+Inv-loop work₀ v₀ m n plain marks₀ s₀ k₀ work v marks s k = (k ≤ 100) × (length work ≡ length work₀) × (length v ≡ length v₀) × (length marks ≡ 64) × (sweepsTo (svdPairings (making plain) m n) n (100 - k) (state work v s) ≡ settledWith (making plain) m n work₀ v₀) × (s .begun ≤ k) × (s .turned ≤ k * 4096) × Seen m n (look (s .begun + 1) 0 0) marks work
 
 abbrev μ-loop : tie.MeasureT-loop
-μ-loop work₀ v₀ m n marks₀ s₀ k₀ work v marks s k = 100 - k
+μ-loop work₀ v₀ m n plain marks₀ s₀ k₀ work v marks s k = 100 - k
 
 loop-holds : tie.Need-loop-holds Inv-loop μ-loop
-loop-holds c = (omega arith, refl, refl, refl, settled-start _ _ _ _, omega arith, omega arith, seen-first _ _ _ (c .before .before .pre .columns))
+loop-holds c = (omega arith, refl, refl, refl, settled-start _ _ _ _ _, omega arith, omega arith, seen-first _ _ _ (c .before .before .pre .columns))
 
 slice-aggregate-sweep : tie.Need-slice-aggregate-sweep Inv-loop μ-loop
 slice-aggregate-sweep c = sym (c .before .before .before .before .loop .inv .3)

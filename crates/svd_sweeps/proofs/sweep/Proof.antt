@@ -3,6 +3,7 @@ use mathlib.Core.Path.{_≡_, refl, _∙_}
 use Prim.Native.Nat.{_+_, _-_, _≤_}
 use lib.ListN.{length}
 use native.Mathlib.Omega.{arith}
+use Rattle.svd_pair.specs.Plain.{making}
 use Rattle.sweeps.specs.Sweeping.{state, columnsTo}
 use Rattle.sweeps.proofs.Counts.{pairsBelow, pairs-few, pairs-after, turned-more}
 use Rattle.sweeps.proofs.SweepingLaws.{sweep-made, columns-none, columns-more}
@@ -15,13 +16,13 @@ use Rattle.svd_sweeps.proofs.sweep.Statement.{statement}
 use Rattle.svd_sweeps.proofs.sweep.Tie as tie
 
 abbrev Inv-loop : tie.InvT-loop
-Inv-loop work₀ v₀ marks₀ m n t₀ p₀ work v marks t p = (p ≤ n) × (length work ≡ length work₀) × (length v ≡ length v₀) × (length marks ≡ length marks₀) × (state work v t ≡ columnsTo (svdPairing m n) n p (state work₀ v₀ t₀)) × (t .turned ≤ t₀ .turned + pairsBelow n p) × (t .begun ≡ t₀ .begun) × Seen m n (look (t₀ .begun) p 0) marks work
+Inv-loop work₀ v₀ marks₀ m n plain t₀ p₀ work v marks t p = (p ≤ n) × (length work ≡ length work₀) × (length v ≡ length v₀) × (length marks ≡ length marks₀) × (state work v t ≡ columnsTo (svdPairing (making plain) m n) n p (state work₀ v₀ t₀)) × (t .turned ≤ t₀ .turned + pairsBelow n p) × (t .begun ≡ t₀ .begun) × Seen m n (look (t₀ .begun) p 0) marks work
 
 abbrev μ-loop : tie.MeasureT-loop
-μ-loop work₀ v₀ marks₀ m n t₀ p₀ work v marks t p = n - p
+μ-loop work₀ v₀ marks₀ m n plain t₀ p₀ work v marks t p = n - p
 
-add-t9 : tie.Need-add-t9 Inv-loop μ-loop
-add-t9 c = search needs
+add-t10 : tie.Need-add-t10 Inv-loop μ-loop
+add-t10 c = search needs
 
 loop-holds : tie.Need-loop-holds Inv-loop μ-loop
 loop-holds c =
@@ -79,7 +80,7 @@ returns c =
     let s = c .before .before .before .before .before .before in
     let i = c .before .loop .inv in
     let e : c .before .loop .p ≡ s .args .n = omega (arith, i .0, c .loop-test .left) in
-    (sweep-made (svdPairings _ _) _ _ refl (rw e at (i .4)), seen-at (omega arith) (seen-sweep _ _ (s .args .s .begun + 1) _ _ (s .pre .0 .columns) (seen-at (omega (arith, e)) (i .7))))
+    (sweep-made (svdPairings _ _ _) _ _ refl (rw e at (i .4)), seen-at (omega arith) (seen-sweep _ _ (s .args .s .begun + 1) _ _ (s .pre .0 .columns) (seen-at (omega (arith, e)) (i .7))))
 
 pub sweep-spec : {M : Type 1} → statement M
 sweep-spec =
@@ -87,7 +88,7 @@ sweep-spec =
     (tie.spec
     Inv-loop
     μ-loop
-    add-t9
+    add-t10
     loop-holds
     column-requires
     add-p

@@ -36,7 +36,7 @@ returns c =
     let k = start .pre .1 in
     let old = c .before .unchanged .ensures (c .if1 .taken) in
     let left = seen-old _ _ _ _ _ _ _ (k .begun) (k .rising) (k .within) (old .0) (old .1) (start .pre .2) in
-    (passed-over _ _ _ _ _ left, seen-left _ _ _ _ _ _ _ (start .pre .0 .columns) (k .rising) (k .within) left (start .pre .2))
+    (passed-over _ _ _ _ _ _ left, seen-left _ _ _ _ _ _ _ (start .pre .0 .columns) (k .rising) (k .within) left (start .pre .2))
 
 pair-requires : tie.Need-pair-requires
 pair-requires c κs = search needs
@@ -55,7 +55,7 @@ returns-2 c =
     let start = c .before .before .before .before .before .before .before .before .before .before .before .before .before .before .before .before .before in
     let k = start .pre .1 in
     let done = c .before .before .before .before .before .before .before .pair .ensures in
-    let left = uncounted _ _ _ _ _ done (c .if2 .taken) in
+    let left = uncounted _ _ _ _ _ _ done (c .if2 .taken) in
     (done, seen-same (left .1) (seen-left _ _ _ _ _ _ _ (start .pre .0 .columns) (k .rising) (k .within) (left .0) (start .pre .2)))
 
 mul-marks : tie.Need-mul-marks
@@ -87,7 +87,7 @@ returns-3 c =
     let start = c .before .before .before .before .before .before .before .before .before .before .before .before .before .before .before .before .before in
     let k = start .pre .1 in
     let done = c .before .before .before .before .before .before .before .pair .ensures in
-    (done, seen-turned _ _ _ _ _ _ _ _ (start .pre .0 .columns) (k .rising) (k .within) (k .marks) (done-to _ _ _ _ _ done) (start .pre .2))
+    (done, seen-turned _ _ _ _ _ _ _ _ _ (start .pre .0 .columns) (k .rising) (k .within) (k .marks) (done-to _ _ _ _ _ _ done) (start .pre .2))
 
 pub visit-spec : {M : Type 1} → statement M
 visit-spec =

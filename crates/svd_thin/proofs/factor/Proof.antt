@@ -7,12 +7,6 @@ use borrow.Author.Needs.{needs}
 use Rattle.svd_thin.proofs.factor.Statement.{statement}
 use Rattle.svd_thin.proofs.factor.Tie as tie
 
-mul-w : tie.Need-mul-w
-mul-w c = search needs
-
-mul-w-2 : tie.Need-mul-w-2
-mul-w-2 c = search needs
-
 mul-x : tie.Need-mul-x
 mul-x c = search needs
 
@@ -20,19 +14,13 @@ mul-x-2 : tie.Need-mul-x-2
 mul-x-2 c = search needs
 
 slice-relend-prefix-sweep : tie.Need-slice-relend-prefix-sweep
-slice-relend-prefix-sweep c = search needs
+slice-relend-prefix-sweep c = omega (arith, square-fits (c .before .before .before .before .before .args .rows) (c .before .before .before .before .before .args .side) (c .before .before .before .before .before .pre .0 .tall), c .before .before .before .before .before .pre .1)
 
 slice-aggregate-sweep : tie.Need-slice-aggregate-sweep
-slice-aggregate-sweep c = sym (length-take-le _ _ (omega (arith, c .before .before .before .before .before .pre .0 .scratch-is)))
-
-slice-relend-prefix-sweep-2 : tie.Need-slice-relend-prefix-sweep-2
-slice-relend-prefix-sweep-2 c = omega (arith, square-fits (c .before .before .before .before .before .args .rows) (c .before .before .before .before .before .args .side) (c .before .before .before .before .before .pre .0 .tall), c .before .before .before .before .before .pre .1)
-
-slice-aggregate-sweep-2 : tie.Need-slice-aggregate-sweep-2
-slice-aggregate-sweep-2 c = sym (length-take-le _ _ (omega (arith, square-fits (c .before .before .before .before .before .before .args .rows) (c .before .before .before .before .before .before .args .side) (c .before .before .before .before .before .before .pre .0 .tall), c .before .before .before .before .before .before .pre .1)))
+slice-aggregate-sweep c = sym (length-take-le _ _ (omega (arith, square-fits (c .before .before .before .before .before .before .args .rows) (c .before .before .before .before .before .before .args .side) (c .before .before .before .before .before .before .pre .0 .tall), c .before .before .before .before .before .before .pre .1)))
 
 sweep-requires : tie.Need-sweep-requires
-sweep-requires c κs = record { work = length-take-le _ _ (omega (arith, c .before .before .before .before .before .before .pre .0 .scratch-is)); v = length-take-le _ _ (omega (arith, square-fits (c .before .before .before .before .before .before .args .rows) (c .before .before .before .before .before .before .args .side) (c .before .before .before .before .before .before .pre .0 .tall), c .before .before .before .before .before .before .pre .1)); columns = c .before .before .before .before .before .before .pre .0 .columns; cells = c .before .before .before .before .before .before .pre .0 .cells }
+sweep-requires c κs = record { columns = c .before .before .before .before .before .before .pre .0 .columns; cells = c .before .before .before .before .before .before .pre .0 .cells; scratch-fits = omega (arith, c .before .before .before .before .before .before .pre .0 .scratch-is); v-is = length-take-le _ _ (omega (arith, square-fits (c .before .before .before .before .before .before .args .rows) (c .before .before .before .before .before .before .args .side) (c .before .before .before .before .before .before .pre .0 .tall), c .before .before .before .before .before .before .pre .1)) }
 
 rank-requires : tie.Need-rank-requires
 rank-requires c κs = search needs
@@ -56,8 +44,7 @@ returns : tie.Need-returns
 returns c =
     let start = c .before .before .before .before .before .before .before .before .before .before .before .before .before .before .before .before .before .before .before .before .before .before .before .before .before .before .before .before .before .before in
     let swept = c .before .before .before .before .before .before .before .before .before .before .before .before .before .before .before .before .before .before .before .before .before .before .before in
-    thin-made _ _ _ _ _ _ (start .pre .0 .columns)
-    (swept .sweep .kept .0 ∙ length-take-le _ _ (omega (arith, start .pre .0 .scratch-is)))
+    thin-made _ _ _ _ _ (start .pre .0 .columns)
     (swept .sweep .kept .1 .0 ∙ length-take-le _ _ (omega (arith, square-fits (start .args .rows) (start .args .side) (start .pre .0 .tall), start .pre .1)))
     (swept .sweep .ensures)
     (c .before .before .before .before .before .before .before .before .before .before .before .before .before .before .before .rank .ensures)
@@ -68,14 +55,10 @@ pub factor-spec : {M : Type 1} → statement M
 factor-spec =
     tie.close
     (tie.spec
-    mul-w
-    mul-w-2
     mul-x
     mul-x-2
     slice-relend-prefix-sweep
     slice-aggregate-sweep
-    slice-relend-prefix-sweep-2
-    slice-aggregate-sweep-2
     sweep-requires
     rank-requires
     write-from-requires

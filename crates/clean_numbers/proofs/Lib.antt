@@ -1,0 +1,3 @@
+-- The laws, and what the functions' proofs share.
+pub mod CleanLaws
+pub mod CopyLaws

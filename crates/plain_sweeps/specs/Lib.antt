@@ -1,0 +1,2 @@
+-- What the contracts of `plain_sweeps` cite.
+pub mod Trial
