@@ -4,7 +4,6 @@ use Prim.Native.Nat.{ℕ, zero, suc, _+_, _-_, _*_, _^_, min}
 use lib.Ieee.{Float}
 use Rattle.answers.specs.Paper.{Reply, done, andThen}
 use Rattle.site_ranks.specs.Ranks.{rankOf, discardsOf}
-use Rattle.sweeps.specs.declared.Sweeps.{Sweeps}
 use Rattle.cut_marks.specs.Marks.{oneIf, cutMarks}
 use Rattle.svd.specs.Svd.{sOf, svdSweeps}
 use Rattle.chain_step.specs.Step.{columnwise, stepSite, carriedOn, stepReply}

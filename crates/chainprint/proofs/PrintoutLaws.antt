@@ -1,7 +1,7 @@
 -- From the outcome of `chain_of_sites` to the text. Assumes nothing.
 use mathlib.Core.Path.{_≡_, refl, sym, ap, ap₂, subst, _∙_}
 use mathlib.Core.List.{List, _++_}
-use Prim.Native.Nat.{ℕ, zero, suc, _+_, _-_, _*_, _^_, _≤_, _<_}
+use Prim.Native.Nat.{ℕ, zero, suc, _+_, _-_, _*_, _^_, _≤_}
 use native.Mathlib.Nat.{mul-le-mul}
 use lib.Pow.{pow-mono}
 use native.Mathlib.Numerals.{add-one}
@@ -30,7 +30,7 @@ use Rattle.chain_walk.proofs.ChainLaws.{bounds, room-next}
 use Rattle.chain_checks.specs.Checks.{needSites, needMarks}
 use Rattle.chain_fill.specs.declared.Chained.{Chained}
 use Rattle.chain_fill.specs.Fill.{lastOf, chainOf, bondsOf, startsOf, marksOf, droppedOf}
-use Rattle.chains.specs.Chains.{sitesFilled, chainReply, ChainOfSites}
+use Rattle.chains.specs.Chains.{sitesFilled, ChainOfSites}
 use Rattle.chains.proofs.BondLaws.{start-last}
 use Rattle.chains.proofs.OutcomeLaws.{accepted-of, bond-at, start-at}
 use Rattle.chains.proofs.Theorems.{shapes-chain}

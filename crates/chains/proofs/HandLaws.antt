@@ -1,11 +1,11 @@
 -- The chain by hand: where the calls answer 0, their cells are the call's. Assumes nothing.
 use mathlib.Core.Path.{_≡_, refl, sym, ap, ap₂, _∙_}
 use mathlib.Core.Bool.{Bool, true, false, cond}
-use mathlib.Core.List.{List, [], _∷_, _++_}
+use mathlib.Core.List.{List, _++_}
 use Prim.Native.Nat.{ℕ, zero, suc, _+_, _-_, _*_, _/_, _%_, _^_, _≤_, _<_}
-use native.Mathlib.Nat.{mul-comm, mul-le-mul-right, mul-le-mul-left, suc-mul, le-trans, mod-lt, div-lt-iff-lt-mul, div-add-mod'}
+use native.Mathlib.Nat.{mul-comm, mul-le-mul-right, suc-mul, le-trans, mod-lt, div-lt-iff-lt-mul, div-add-mod'}
 use native.Mathlib.Omega.{arith}
-use lib.ListN.{length, take, drop, getD, List·getD-append}
+use lib.ListN.{length, take, drop, List·getD-append}
 use lib.Seq.{take-at}
 use lib.Dec.{ltb}
 use lib.Ieee.{Float, nan}
@@ -25,7 +25,7 @@ use Rattle.site_ranks.specs.Ranks.{rankOf, discardsOf}
 use Rattle.sweeps.specs.declared.Sweeps.{Sweeps}
 use Rattle.sweeps.specs.Sweeping.{noSweeps}
 use Rattle.svd.specs.Svd.{sideOf, rowsOf, needU, needVt, directions, vColumns, uOf, sOf, vtOf, svdSweeps, svdTests, svdEnd, svdAnswer}
-use Rattle.svd.proofs.SvdLaws.{SvdAccepted, accepted, side-wide, side-tall, side-low}
+use Rattle.svd.proofs.SvdLaws.{accepted, side-wide, side-tall}
 use Rattle.chain_step.specs.Step.{columnwise, stepSite, carriedBy, carriedOn}
 use Rattle.chain_step.proofs.StepLaws.{front-written, rank-fits, side-some}
 use Rattle.chain_walk.specs.Chain.{Links, linked, linksTo}
