@@ -21,14 +21,19 @@ struct Row {
     call: Call,
     /// The plan that stands for the call's list, where it is a planned call.
     plan: Option<[usize; 30]>,
+    /// How many calls of each side one turn makes, and the port's turn where its calls are too short to go by way of `call`: none where
+    /// the library lacks the call.
+    calls: usize,
+    direct: Option<Box<dyn Fn() -> Option<u32>>>,
     rust: Box<dyn Fn()>,
 }
 
 impl Row {
     fn make(&self, ready: &mut port::Ready) -> Option<u32> {
-        match &self.plan {
-            Some(plan) => ready.make_planned(plan),
-            None => ready.make(),
+        match (&self.direct, &self.plan) {
+            (Some(turn), _) => turn(),
+            (None, Some(plan)) => ready.make_planned(plan),
+            (None, None) => ready.make(),
         }
     }
 }
@@ -50,7 +55,7 @@ fn one(x: usize) -> Arg {
 }
 
 fn row(name: &'static str, size: String, entry: Entry, args: Vec<Arg>, rust: impl Fn() + 'static) -> Row {
-    Row { name, size, call: Call::new(entry, args), plan: None, rust: Box::new(rust) }
+    Row { name, size, call: Call::new(entry, args), plan: None, calls: 1, direct: None, rust: Box::new(rust) }
 }
 
 fn svd_row(rng: &mut Random, m: usize, n: usize) -> Row {
@@ -183,11 +188,18 @@ fn chain_row(rng: &mut Random, n: usize, limit: usize) -> Row {
     })
 }
 
-fn sqrt_row(rng: &mut Random) -> Row {
-    let x = rng.unit().abs();
-    row("sqrt", "one".into(), sqrt, vec![Arg::One(x.to_bits())], move || {
-        black_box(black_box(x).sqrt());
-    })
+/// Numbers of 64 exponents and any digits.
+fn numbers_of_many_sizes(rng: &mut Random) -> Vec<f64> {
+    (0..1024).map(|k| (1.0 + rng.unit().abs()) * 2f64.powi(k % 64 - 32)).collect()
+}
+
+/// Roots of these numbers, one after the other and none waiting for another: calls through the C face, and the hardware's instruction, each in
+/// the same loop.
+fn sqrt_row(size: &str, numbers: Vec<f64>) -> Row {
+    let (calls, first, ours) = (numbers.len(), numbers[0].to_bits(), numbers.clone());
+    let turn = move || black_box(&ours).iter().try_for_each(|&x| port::root(x).map(|root| _ = black_box(root))).map(|()| 0);
+    let hardware = move || black_box(&numbers).iter().for_each(|&x| _ = black_box(x.sqrt()));
+    Row { calls, direct: Some(Box::new(turn)), ..row("sqrt", size.into(), sqrt, vec![Arg::One(first)], hardware) }
 }
 
 fn rows() -> Vec<Row> {
@@ -206,7 +218,9 @@ fn rows() -> Vec<Row> {
     }
     rows.extend([16, 64].map(|dim| eigenvalues_row(rng, dim)));
     rows.extend([4, 8, 16, 32, 64].map(|dim| eigen_row(rng, dim)));
-    rows.push(sqrt_row(rng));
+    let x = rng.unit().abs();
+    rows.push(sqrt_row("one", vec![x; 1024]));
+    rows.push(sqrt_row("many", numbers_of_many_sizes(&mut Random::new(12))));
     rows.extend((2..=12).map(|n| chain_row(rng, n, 64)));
     rows.extend([16, 4, 1].map(|limit| chain_row(rng, 12, limit)));
     rows.extend((4..=12).map(|n| profile_row(rng, n)));
@@ -283,7 +297,8 @@ impl<'a> Measured<'a> {
 
     /// The medians of a call of each, in microseconds.
     fn medians(&self) -> (f64, f64) {
-        let each = |times: &[f64]| 1e6 * median(times.to_vec()) / self.turns as f64;
+        let calls = (self.turns * self.row.calls) as f64;
+        let each = |times: &[f64]| 1e6 * median(times.to_vec()) / calls;
         (each(&self.ours), each(&self.theirs))
     }
 }
@@ -385,7 +400,8 @@ fn main() {
     }
     for done in &measured {
         let (row, (ours, theirs)) = (done.row, done.medians());
-        println!("| {} | {} | {ours:.3} | {theirs:.3} | {:.2} |", row.name, row.size, ours / theirs);
+        let digits = if theirs < 0.1 { 5 } else { 3 };
+        println!("| {} | {} | {ours:.digits$} | {theirs:.digits$} | {:.3} |", row.name, row.size, ours / theirs);
         let mut ready = port::Ready::new(&row.call);
         let said = row.make(&mut ready).and_then(|number| ready.outcome(number)).and_then(|outcome| outcome.sweeps);
         if let (Some(said), Some(most)) = (said, ceiling(&row.call)) {

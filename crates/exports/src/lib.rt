@@ -69,7 +69,7 @@ ghost use Rattle.certificate_pages.specs.Pages.{pagesOf, Called};
 pub extern "C" fn zg_sqrt(x: f64) -> f64
     ensures { λ r. ⌜ r ≡ sqrtOf x ⌝ }
 {
-    root_guesses::single_root(x)
+    root_guesses::root_of(x)
 }
 
 // The root, and whether its square is exactly x.

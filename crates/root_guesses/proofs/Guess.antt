@@ -1,6 +1,7 @@
 -- A guess whose digits are nearest to the root of the number's digits, with the root's exponent, is the root. Assumes nothing.
 use mathlib.Core.Path.{_≡_, sym, _∙_, subst}
 use Prim.Native.Nat.{ℕ, _+_, _-_, _*_, _/_, _%_, _^_, _≤_, _<_}
+use native.Mathlib.Nat.{mul-le-mul}
 use native.Mathlib.Omega.{arith}
 use lib.Dec.{T}
 use lib.Ieee.{Float, binary64, fits, ofBits, toBits}
@@ -22,6 +23,24 @@ nearest n q h₁ h₂ h₃ h₄ a b c up down =
     let w = off n q in
     let same : step w q ≡ q = plus-none q (is-up w q) (not-down w q) (omega arith) (omega arith) in
     subst (λ (z : ℕ). NearestWhole (n * 2 ^ 52) z) same (mend n q h₁ h₂ h₃ a b c h₄ (omega arith) (omega arith))
+
+-- the square of the lower digits is below the number
+pub low-square : (q : ℕ) → 2 ^ 52 ≤ q → lo q * lo q ≤ q
+low-square q h =
+    let l : lo q ≤ 2 ^ 26 = omega arith in
+    let s : lo q * lo q ≤ 2 ^ 26 * 2 ^ 26 = mul-le-mul l l in
+    omega (arith, s)
+
+-- the last test of `is_nearest`: with w = s - ll, r is w + q - 2^54 - 1, wrapped round where that is below 0
+pub in-one-test : (s ll q r : ℕ) → q < 2 ^ 53 → ll ≤ q → (r + 0x40_0000_0000_0001) % 2 ^ 64 ≡ s + q - ll → r < 2 * q → (ll ≤ s) × (s - ll ≤ 2 ^ 54 + q) × (2 ^ 54 < s - ll + q)
+in-one-test s ll q r h k e l = (omega arith, omega arith, omega arith)
+
+-- the exponent's half, from the bits of a number with a full exponent
+pub half-most : (b : ℕ) → 2 ^ 52 ≤ b → (b - 2 ^ 52) / 2 ^ 53 < 1023 → b < 2047 * 2 ^ 52
+half-most b h l = omega arith
+
+pub half-exponent : (a b : ℕ) → 2 ^ 52 ≤ b → a / 2 ^ 52 ≡ (b - 2 ^ 52) / 2 ^ 53 + 512 → a / 2 ^ 52 ≡ (b / 2 ^ 52 + 51) / 2 + 486
+half-exponent a b h e = omega arith
 
 -- the bits of the guess are those of the root
 pub is-the-root : (x t : Float) → T (fits binary64 x) → T (fits binary64 t) → 2 ^ 52 ≤ toBits binary64 x → toBits binary64 x < 2047 * 2 ^ 52

@@ -4,7 +4,7 @@
 ghost use mathlib.Core.Path.{_≡_};
 ghost use mathlib.Core.Bool.{true};
 ghost use Prim.Native.Nat.{_-_, _*_, _^_, _≤_, _<_};
-ghost use Rattle.numbers.specs.Root.{Sqrt, sqrtOf};
+ghost use Rattle.numbers.specs.Root.{sqrtOf};
 ghost use Rattle.numbers.specs.Steps.{NearestWhole};
 
 // Whether q is the whole number nearest to the root of n * 2^52. With q = h * 2^26 + l, w is
@@ -20,7 +20,7 @@ fn is_nearest(n: u64, q: u64) -> bool
         return false;
     }
     let d = n + 4 - hh;
-    if d > 0x3f_ffff_ffff {
+    if d > 0x1fff_ffff {
         return false;
     }
     let hl = h * l;
@@ -29,19 +29,14 @@ fn is_nearest(n: u64, q: u64) -> bool
         return false;
     }
     let e = dd - hl;
-    if e > 0xf_ffff_ffff {
+    if e > 0xfff_ffff {
         return false;
     }
+    // v is w + q, and l * l is below q. That 2^54 - q < w and w <= 2^54 + q is one test: below its least value the difference wraps round to a
+    // number that is too large.
     let ll = l * l;
-    let c = e * 0x800_0000;
-    if c < ll {
-        return false;
-    }
-    let w = c - ll;
-    if w > 0x40_0000_0000_0000 + q {
-        return false;
-    }
-    0x40_0000_0000_0000 < w + q
+    let v = e * 0x800_0000 + q - ll;
+    std::num::wrapping_sub_u64(v, 0x40_0000_0000_0001) < 2 * q
 }
 
 // Whether t is the root of x. Only of an x with a full exponent is that ever said.
@@ -58,14 +53,15 @@ pub fn is_root(x: f64, t: f64) -> bool
     if b < 0x10_0000_0000_0000 {
         return false;
     }
-    if b >= 0x7ff0_0000_0000_0000 {
+    let half = (b - 0x10_0000_0000_0000) / 0x20_0000_0000_0000;
+    if half >= 1023 {
         return false;
     }
     let a = f64::to_bits(t);
-    let e = b / 0x10_0000_0000_0000 + 51;
-    if a / 0x10_0000_0000_0000 != e / 2 + 486 {
+    if a / 0x10_0000_0000_0000 != half + 512 {
         return false;
     }
+    let e = b / 0x10_0000_0000_0000 + 51;
     let m = 0x10_0000_0000_0000 + b % 0x10_0000_0000_0000;
     let q = 0x10_0000_0000_0000 + a % 0x10_0000_0000_0000;
     is_nearest(m << (e % 2), q)
@@ -96,16 +92,19 @@ fn first_near(x: f64) -> f64 {
     f64::from_bits(0x5fe6_eb50_c7b5_37a9 - b / 2)
 }
 
-// The same to some 35 digits of 53: the polynomial is close to 1 / √z for the z, near 1, that the first guess leaves. Its parts are summed
-// side by side, so that few steps wait for each other.
-pub fn reciprocal_near(x: f64) -> f64 {
-    let y = first_near(x);
-    let z = (x * y) * y;
+// y / √z to some 35 digits of 53, for a z near 1: the polynomial's parts are summed side by side, so that few steps wait for each other.
+fn over_root(y: f64, z: f64) -> f64 {
     let zz = z * z;
     let low = 2.935010477328131 - 5.877886421492257 * z;
     let middle = 8.825201841196376 - 8.409656699529739 * z;
     let high = (4.906466113583834 - 1.605400247525944 * z) + 0.22626493644073725 * zz;
     (y * low + (y * zz) * middle) + ((y * zz) * zz) * high
+}
+
+// About 1 / √x to some 35 digits.
+pub fn reciprocal_near(x: f64) -> f64 {
+    let y = first_near(x);
+    over_root(y, (x * y) * y)
 }
 
 // A better guess at √x from g, near √x, and y, near 1 / √x, both to some 35 digits. The upper digits s of g have an exact square, so what that is
@@ -116,14 +115,6 @@ pub fn sharpened(x: f64, g: f64, y: f64) -> f64 {
     let s = (g + wide) - wide;
     let factor = 0.5 * y + (0.25 * (y * y)) * (g - s);
     s + (x - s * s) * factor
-}
-
-// The square root of x, by a guess from x alone.
-pub fn root_of(x: f64) -> f64
-    ensures { λ r. ⌜ r ≡ sqrtOf x ⌝ }
-{
-    let y = reciprocal_near(x);
-    root_near(x, sharpened(x, x * y, y))
 }
 
 // Guesses at what the three roots of a Jacobi decision give: nothing is promised of them, and they
@@ -140,10 +131,19 @@ pub struct Guesses {
     pub cosine: f64,
 }
 
-// For a pair with g_qq - g_pp = d and |g_pq|² = off.
+// For a pair with g_qq - g_pp = d and |g_pq|² = off. The modulus is what everything behind it waits for: it is made like `sharpened` makes a guess,
+// but from numbers that are there earlier. `wide` is about 2^27 times the root, and never so small that s would have more than 26 digits;
+// `quarter` is about 1 / (4 off).
 pub fn guess_roots(d: f64, off: f64) -> Guesses {
-    let y = reciprocal_near(off);
-    let modulus = off * y;
+    let first = first_near(off);
+    let near = off * first;
+    let z = near * first;
+    let y = over_root(first, z);
+    let modulus = over_root(near, z);
+    let wide = 147639500.0 * near;
+    let s = (modulus + wide) - wide;
+    let quarter = (first * first) * (0.5 - 0.25 * z);
+    let factor = 0.5 * y + quarter * (modulus - s);
     let square = d * d + 4.0 * off;
     let over = reciprocal_near(square);
     let mut size = d;
@@ -153,7 +153,7 @@ pub fn guess_roots(d: f64, off: f64) -> Guesses {
     let cosine_square = 0.5 + (0.5 * size) * over;
     let secant = reciprocal_near(cosine_square);
     Guesses {
-        modulus: sharpened(off, modulus, y),
+        modulus: s + (off - s * s) * factor,
         root: (square * over) * (0.5 * y),
         root_over: 2.0 * (modulus * over),
         secant,
@@ -161,44 +161,38 @@ pub fn guess_roots(d: f64, off: f64) -> Guesses {
     }
 }
 
-// The square root of x: ±0 and +inf give themselves, a negative x and a NaN give the NaN, and any other x the float nearest to its root. For
-// one root alone, by a guess from x.
-pub fn single_root(x: f64) -> f64
-    ensures is { λ r. ⌜ r ≡ sqrtOf x ⌝ }
-    ensures nearest { λ r. ⌜ Sqrt x r ⌝ }
+// A guess at √x from y, which is off from 1 / √x by 4 parts in 100 at most: `root` has some 20 digits of √x, and s, its upper digits, an exact
+// square. What s lacks then is one quotient, which triples the digits: 2 s (x - s²) / (3 s² + x).
+fn guess_from(x: f64, y: f64) -> f64 {
+    let g = x * y;
+    let z = g * y;
+    let low = 2.1893327346158226 - 2.1917205859270128 * z;
+    let high = 1.3154411523672822 - 0.3130540474310195 * z;
+    let root = g * low + (g * (z * z)) * high;
+    let wide = 147639500.0 * g;
+    let s = (root + wide) - wide;
+    let ss = s * s;
+    s + ((s + s) * (x - ss)) / (3.0 * ss + x)
+}
+
+// The square root of x: ±0 and +inf give themselves, a negative x and a NaN give the NaN, and any other x the float nearest to its root. By a guess
+// from x alone.
+pub fn root_of(x: f64) -> f64
+    ensures { λ r. ⌜ r ≡ sqrtOf x ⌝ }
 {
     if x != x {
         return numbers::sqrt(x);
     }
     let b = f64::to_bits(x);
-    if b < 0x80_0000_0000_0000 {
+    if b < 0x10_0000_0000_0000 {
         return numbers::sqrt(x);
     }
-    if b >= 0x7f00_0000_0000_0000 {
+    if (b - 0x10_0000_0000_0000) / 0x20_0000_0000_0000 >= 1023 {
         return numbers::sqrt(x);
     }
-    let y = f64::from_bits(0x5fe6_eb50_c7b5_37a9 - b / 2);
-    let t = guess_from(x, y);
+    let t = guess_from(x, f64::from_bits(0x5fe6_eb50_c7b5_37a9 - b / 2));
     if is_root(x, t) {
         return t;
     }
     numbers::sqrt(x)
-}
-
-// A guess at √x from y, which is off from 1 / √x by 4 parts in 100 at most: y * p has some 35 digits of 1 / √x, s the upper digits of x * y * p, whose
-// square is exact, and what that is off by is divided by the root twice over.
-fn guess_from(x: f64, y: f64) -> f64 {
-    let g = x * y;
-    let z = g * y;
-    let zz = z * z;
-    let low = 2.9347953868432115 - 5.876594595833624 * z;
-    let mid = 8.821970578975726 - 8.405348099721465 * z;
-    let high = (4.903235985523361 - 1.6041093273345086 * z) + 0.22605007154911624 * zz;
-    let p = low + zz * (mid + zz * high);
-    let root = g * p;
-    let wide = 134217728.0 * root;
-    let s = (root + wide) - wide;
-    let k = (0.5 * y) * p;
-    let u = (x - s * s) * k;
-    s + (u + (u * u) * k)
 }

@@ -86,16 +86,20 @@ turnRows-two g f c a b k xs =
     let right : b + (k + 1) ≡ b + k + 1 = omega arith in
     rw (next, turnRows-more g f c a b (k + 1) xs, turnRows-more g f c a b k xs, left, right)
 
-pub applied-turn : (g : Making) {d : Decision} {cosine sine : Float} {phase : Complex} {f : Factors} {ys : List Float} (c a b m : ℕ) (xs : List Float) → d ≡ Turn cosine sine phase → f ≡ turnFactors cosine sine phase → ys ≡ turnRows g f c a b m xs → ys ≡ applied g d c a b m xs
+pub applied-left : (g : Making) {d : Decision} (c a b m : ℕ) (xs : List Float) → d ≡ Leave → xs ≡ applied g d c a b m xs
 unfolding applied
-applied-turn g c a b m xs e f h = rw (e, ← f) h
+applied-left g c a b m xs e = rw e refl
+
+pub applied-turn : (g : Making) {d : Decision} {cosine sine : Float} {phase : Complex} {ys : List Float} (c a b m : ℕ) (xs : List Float) → d ≡ Turn cosine sine phase → ys ≡ turnRows g (turnFactors cosine sine phase) c a b m xs → ys ≡ applied g d c a b m xs
+unfolding applied
+applied-turn g c a b m xs e h = rw e h
 
 -- of no cells nothing is turned
 turnRow-nothing : (g : Making) (f : Factors) (c i j : ℕ) → turnRow g f c i j [] ≡ []
 unfolding turnRow setPlane
 turnRow-nothing g f c i j = refl
 
-turnRows-nothing : (g : Making) (f : Factors) (c a b k : ℕ) → turnRows g f c a b k [] ≡ []
+pub turnRows-nothing : (g : Making) (f : Factors) (c a b k : ℕ) → turnRows g f c a b k [] ≡ []
 unfolding turnRows
 turnRows-nothing g f c a b zero = refl
 turnRows-nothing g f c a b (suc k) = rw (turnRows-nothing g f c a b k) (turnRow-nothing g f c (a + k) (b + k))

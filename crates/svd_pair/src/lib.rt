@@ -10,7 +10,7 @@ ghost use Rattle.complex.specs.Arithmetic.{scaled};
 ghost use Rattle.complex.specs.Planes.{setPlane};
 ghost use Rattle.complex.specs.Zeros.{zeroFloat};
 ghost use Rattle.svd_pair.specs.Decisions.{verdict, decisionOf, tangentOf, turnAt};
-ghost use Rattle.svd_pair.specs.Turns.{turnFactors, newP, newQ, exact, turnRow, turnRows, applied};
+ghost use Rattle.svd_pair.specs.Turns.{turnFactors, newP, newQ, exact, turnRow, turnRows};
 ghost use Rattle.svd_pair.specs.Plain.{plainP, plainQ, plain, making};
 ghost use Rattle.svd_pair.specs.ZeroProducts.{RealTurn};
 
@@ -239,37 +239,26 @@ fn turn_plainly(xs: &mut [f64], c: usize, a: usize, b: usize, m: usize, f: Facto
     }
 }
 
-// Either.
+// What the turn by this cosine, sine and phase does to two columns of m rows, either way. The numbers are handed on in registers: in memory, as a
+// decision, they would be waited for.
 pub fn turn_columns(
     xs: &mut [f64],
     c: usize,
     a: usize,
     b: usize,
     m: usize,
-    f: Factors,
+    cosine: f64,
+    sine: f64,
+    phase: Complex,
     plainly: bool,
 )
-    requires { ⌜ (length (now xs) ≡ 2 * c) × (a + m ≤ b) × (b + m ≤ c) × RealTurn f ⌝ }
-    ensures { λ _. ⌜ now (xs .exit) ≡ turnRows (making plainly) f c a b m (now (xs .entry)) ⌝ }
+    requires { ⌜ (length (now xs) ≡ 2 * c) × (a + m ≤ b) × (b + m ≤ c) ⌝ }
+    ensures { λ _. ⌜ now (xs .exit) ≡ turnRows (making plainly) (turnFactors cosine sine phase) c a b m (now (xs .entry)) ⌝ }
 {
+    let f = Factors::new(cosine, sine, phase);
     if plainly {
         turn_plainly(xs, c, a, b, m, f);
         return;
     }
     turn_exactly(xs, c, a, b, m, f);
-}
-
-// What is decided is done to two columns of m rows.
-pub fn apply(xs: &mut [f64], c: usize, a: usize, b: usize, m: usize, d: Decision, plainly: bool)
-    requires { ⌜ (length (now xs) ≡ 2 * c) × (a + m ≤ b) × (b + m ≤ c) ⌝ }
-    ensures { λ _. ⌜ now (xs .exit) ≡ applied (making plainly) d c a b m (now (xs .entry)) ⌝ }
-{
-    match d {
-        Decision::Leave => {}
-        Decision::Turn {
-            cosine,
-            sine,
-            phase,
-        } => turn_columns(xs, c, a, b, m, Factors::new(cosine, sine, phase), plainly),
-    }
 }

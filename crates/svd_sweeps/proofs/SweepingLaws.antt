@@ -1,5 +1,5 @@
 -- Laws of what `specs/Sweeping.antt` defines. Assumes nothing.
-use mathlib.Core.Path.{_≡_, refl}
+use mathlib.Core.Path.{_≡_, refl, sym}
 use mathlib.Core.Bool.{false}
 use mathlib.Core.List.{List, [], _∷_}
 use Prim.Native.Nat.{ℕ, _*_}
@@ -7,11 +7,12 @@ use native.Mathlib.Omega.{arith}
 use lib.Ieee.{Float}
 use lib.ListN.{length}
 use Rattle.svd_pair.specs.declared.Decision.{Decision}
+use Rattle.svd_pair.specs.declared.Factors.{Factors}
 use Rattle.svd_gram.specs.Gram.{gramTo}
 use Rattle.svd_pair.specs.Decisions.{decisionOf}
-use Rattle.svd_pair.specs.Turns.{Making, exact, applied}
+use Rattle.svd_pair.specs.Turns.{Making, exact, turnRows, applied}
 use Rattle.svd_pair.specs.Plain.{making}
-use Rattle.svd_pair.proofs.TurnsLaws.{applied-nothing}
+use Rattle.svd_pair.proofs.TurnsLaws.{turnRows-nothing}
 use Rattle.sweeps.specs.declared.Sweeps.{Sweeps}
 use Rattle.sweeps.specs.Sweeping.{State, state, counted, noSweeps, pairStep, sweepsTo}
 use Rattle.sweeps.proofs.SweepingLaws.{pair-made as made, settled-start as start}
@@ -25,9 +26,9 @@ pub v-kept : {n k l : ℕ} → k ≡ l → VRoom n l → VRoom n k
 v-kept e h = rw e h
 
 -- where there is no V nothing is done to it
-pub v-none : (g : Making) (d : Decision) (c a b m : ℕ) (v : List Float) → length v ≡ 0 → v ≡ applied g d c a b m v
-v-none g d c a b m [] h = applied-nothing g d c a b m
-v-none g d c a b m (x ∷ v) h = absurd (omega arith)
+pub v-none : (g : Making) (f : Factors) (c a b m : ℕ) (v : List Float) → length v ≡ 0 → v ≡ turnRows g f c a b m v
+v-none g f c a b m [] h = sym (turnRows-nothing g f c a b m)
+v-none g f c a b m (x ∷ v) h = absurd (omega arith)
 
 -- ---- the laws that the proofs cite
 

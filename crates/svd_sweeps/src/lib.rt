@@ -1,5 +1,6 @@
 // Inner: the one-sided Jacobi sweeps of the SVD, over a work matrix and V that are lent as planes.
 // Row r of column p of a matrix of m rows is its cell p * m + r.
+use complex::Complex;
 use svd_pair::Decision;
 use sweeps::Sweeps;
 ghost use mathlib.Core.Path.{_≡_};
@@ -7,7 +8,7 @@ ghost use mathlib.Core.Bool.{true};
 ghost use mathlib.Core.List.{[]};
 ghost use Prim.Native.Nat.{_+_, _-_, _*_, _<_, _≤_};
 ghost use lib.ListN.{length, getD};
-ghost use Rattle.svd_pair.specs.Turns.{applied};
+ghost use Rattle.svd_pair.specs.Turns.{turnFactors, turnRows, applied};
 ghost use Rattle.svd_pair.specs.Plain.{making};
 ghost use Rattle.sweeps.specs.Sweeping.{state, pairStep, pairsTo, sweepOf};
 ghost use Rattle.svd_sweeps.specs.Sweeping.{ValueRoom, VRoom, SweepRoom, svdPairing, svdPairings, settledWith};
@@ -15,15 +16,52 @@ ghost use Rattle.svd_sweeps.specs.Marks.{look, Marked, Seen};
 
 const MAX_SVD_SWEEPS: usize = 100;
 
-// What is decided for the pair p, q is done to V too, where there is one.
-fn apply_to_v(v: &mut [f64], n: usize, p: usize, q: usize, d: Decision, plain: bool)
+// The columns p and q of V are turned too, where there is a V.
+fn turn_v(
+    v: &mut [f64],
+    n: usize,
+    p: usize,
+    q: usize,
+    cosine: f64,
+    sine: f64,
+    phase: Complex,
+    plain: bool,
+)
     requires { ⌜ VRoom n (length (now v)) × (n ≤ 64) × (p < q) × (q < n) ⌝ }
-    ensures { λ _. ⌜ now (v .exit) ≡ applied (making plain) d (n * n) (p * n) (q * n) n (now (v .entry)) ⌝ }
+    ensures { λ _. ⌜ now (v .exit) ≡ turnRows (making plain) (turnFactors cosine sine phase) (n * n) (p * n) (q * n) n (now (v .entry)) ⌝ }
 {
     if v.len() == 0 {
         return;
     }
-    svd_pair::apply(v, n * n, p * n, q * n, n, d, plain);
+    svd_pair::turn_columns(v, n * n, p * n, q * n, n, cosine, sine, phase, plain);
+}
+
+// What is decided for the pair p, q is done to the work matrix and to V.
+fn apply(
+    work: &mut [f64],
+    v: &mut [f64],
+    m: usize,
+    n: usize,
+    p: usize,
+    q: usize,
+    d: Decision,
+    plain: bool,
+)
+    requires { ⌜ SweepRoom m n (length (now work)) (length (now v)) × (p < q) × (q < n) ⌝ }
+    ensures { λ _. ⌜ (now (work .exit) ≡ applied (making plain) d (n * m) (p * m) (q * m) m (now (work .entry)))
+        × (now (v .exit) ≡ applied (making plain) d (n * n) (p * n) (q * n) n (now (v .entry))) ⌝ }
+{
+    match d {
+        Decision::Leave => {}
+        Decision::Turn {
+            cosine,
+            sine,
+            phase,
+        } => {
+            svd_pair::turn_columns(work, n * m, p * m, q * m, m, cosine, sine, phase, plain);
+            turn_v(v, n, p, q, cosine, sine, phase, plain);
+        }
+    }
 }
 
 // The pair p, q.
@@ -40,11 +78,8 @@ fn pair(
     requires { ⌜ SweepRoom m n (length (now work)) (length (now v)) × (p < q) × (q < n) × (s .turned < 1000000) ⌝ }
     ensures { λ r. ⌜ state (now (work .exit)) (now (v .exit)) r ≡ pairStep (svdPairing (making plain) m n) p q (state (now (work .entry)) (now (v .entry)) s) ⌝ }
 {
-    let a = p * m;
-    let b = q * m;
-    let d = svd_pair::decide(svd_gram::gram_of(work, n * m, a, b, m));
-    svd_pair::apply(work, n * m, a, b, m, d, plain);
-    apply_to_v(v, n, p, q, d, plain);
+    let d = svd_pair::decide(svd_gram::gram_of(work, n * m, p * m, q * m, m));
+    apply(work, v, m, n, p, q, d, plain);
     sweeps::count(d, s)
 }
 

@@ -241,6 +241,17 @@ impl Ready<'_> {
     }
 }
 
+/// One root by the port; none where the library lacks it.
+#[inline]
+#[allow(unused_variables)]
+pub fn root(x: f64) -> Option<f64> {
+    #[cfg(has_zg_sqrt)]
+    // SAFETY: a number is handed over and one comes back.
+    return Some(unsafe { zg_sqrt(x) });
+    #[allow(unreachable_code)]
+    None
+}
+
 /// The sheet of a lot by the port; none where the library lacks it or refuses the lot.
 #[allow(unused_variables)]
 pub fn lot_sheet(lot: &[u8]) -> Option<[usize; 32]> {

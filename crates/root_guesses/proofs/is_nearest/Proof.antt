@@ -3,7 +3,7 @@ use native.Mathlib.Omega.{arith}
 use mathlib.Core.Bool.{false≢true}
 use borrow.Author.Tests.{ltb-true}
 use Rattle.numbers.proofs.Mending.{product-fits}
-use Rattle.root_guesses.proofs.Guess.{nearest}
+use Rattle.root_guesses.proofs.Guess.{low-square, in-one-test, nearest}
 use borrow.Author.Needs.{needs}
 use Rattle.root_guesses.proofs.is_nearest.Statement.{statement}
 use Rattle.root_guesses.proofs.is_nearest.Tie as tie
@@ -41,23 +41,26 @@ returns-4 c = λ h. absurd (false≢true h)
 mul-ll : tie.Need-mul-ll
 mul-ll c = record { fits = product-fits _ _ (omega arith) (omega arith) }
 
-mul-c : tie.Need-mul-c
-mul-c c = search needs
+mul-v : tie.Need-mul-v
+mul-v c = search needs
+
+add-v : tie.Need-add-v
+add-v c = search needs
+
+sub-v : tie.Need-sub-v
+sub-v c = omega (arith, low-square _ (c .before .before .before .before .pre .2))
+
+wrapping-sub-u64-requires : tie.Need-wrapping-sub-u64-requires
+wrapping-sub-u64-requires c κs = search needs
+
+mul-result : tie.Need-mul-result
+mul-result c = search needs
 
 returns-5 : tie.Need-returns-5
-returns-5 c = λ h. absurd (false≢true h)
-
-add-if6 : tie.Need-add-if6
-add-if6 c = search needs
-
-returns-6 : tie.Need-returns-6
-returns-6 c = λ h. absurd (false≢true h)
-
-add-result : tie.Need-add-result
-add-result c = search needs
-
-returns-7 : tie.Need-returns-7
-returns-7 c = λ h. nearest _ _ (c .before .before .before .before .before .before .pre .0) (c .before .before .before .before .before .before .pre .1) (c .before .before .before .before .before .before .pre .2) (c .before .before .before .before .before .before .pre .3) (c .before .before .before .before .before .if1 .left) (c .before .before .before .if3 .left) (c .before .if5 .left) (c .if6 .left) (ltb-true _ _ h)
+returns-5 c = λ h.
+    let start = c .before .before .before .before .before .pre in
+    let told = in-one-test _ _ _ _ (start .3) (low-square _ (start .2)) (c .wrapping-sub-u64 .ensures) (ltb-true _ _ h) in
+    nearest _ _ (start .0) (start .1) (start .2) (start .3) (c .before .before .before .before .if1 .left) (c .before .before .if3 .left) (told .0) (told .1) (told .2)
 
 pub is-nearest-spec : {M : Type 1} → statement M
 is-nearest-spec =
@@ -74,9 +77,9 @@ is-nearest-spec =
     returns-3
     returns-4
     mul-ll
-    mul-c
-    returns-5
-    add-if6
-    returns-6
-    add-result
-    returns-7)
+    mul-v
+    add-v
+    sub-v
+    wrapping-sub-u64-requires
+    mul-result
+    returns-5)

@@ -15,14 +15,14 @@ work-p c = column-fits _ _ _ (c .pre .1)
 work-q : (c : tie.Start) → c .args .q * c .args .m + c .args .m ≤ c .args .n * c .args .m
 work-q c = column-fits _ _ _ (c .pre .2)
 
-mul-a : tie.Need-mul-a
-mul-a c = omega (arith, work-p (c .before .before), work-q (c .before .before))
-
-mul-b : tie.Need-mul-b
-mul-b c = omega (arith, work-q (c .before .before))
-
 mul-gram-of : tie.Need-mul-gram-of
-mul-gram-of c = search needs
+mul-gram-of c = omega (arith, work-p (c .before .before .before), work-q (c .before .before .before))
+
+mul-gram-of-2 : tie.Need-mul-gram-of-2
+mul-gram-of-2 c = omega (arith, work-p (c .before .before .before), work-q (c .before .before .before))
+
+mul-gram-of-3 : tie.Need-mul-gram-of-3
+mul-gram-of-3 c = omega (arith, work-p (c .before .before .before), work-q (c .before .before .before))
 
 gram-of-requires : tie.Need-gram-of-requires
 gram-of-requires c κs = omega (arith, work-p (c .before .before .before), work-q (c .before .before .before))
@@ -30,14 +30,8 @@ gram-of-requires c κs = omega (arith, work-p (c .before .before .before), work-
 decide-requires : tie.Need-decide-requires
 decide-requires c κs = search needs
 
-mul-apply : tie.Need-mul-apply
-mul-apply c = search needs
-
 apply-requires : tie.Need-apply-requires
-apply-requires c κs = omega (arith, work-p (c .before .before .before .before .before .before), work-q (c .before .before .before .before .before .before))
-
-apply-to-v-requires : tie.Need-apply-to-v-requires
-apply-to-v-requires c κs = search needs
+apply-requires c κs = search needs
 
 count-requires : tie.Need-count-requires
 count-requires c κs = search needs
@@ -49,20 +43,20 @@ same-length-2 : tie.Need-same-length-2
 same-length-2 c = search needs
 
 returns : tie.Need-returns
-returns c = pair-made _ _ _ _ _ _ _ _ _ _ (verdict-one _ _ (rw (c .before .before .before .before .before .before .before .before .before .before .gram-of .ensures) at (c .before .before .before .before .before .before .before .before .before .decide .ensures))) (c .before .before .before .before .before .before .before .apply .ensures) (c .before .before .before .apply-to-v .ensures) (c .count .ensures)
+returns c =
+    let applied = c .before .before .before .before .before .apply .ensures in
+    pair-made _ _ _ _ _ _ _ _ _ _ (verdict-one _ _ (rw (c .before .before .before .before .before .before .before .before .before .gram-of .ensures) at (c .before .before .before .before .before .before .before .before .decide .ensures))) (applied .0) (applied .1) (c .count .ensures)
 
 pub pair-spec : {M : Type 1} → statement M
 pair-spec =
     tie.close
     (tie.spec
-    mul-a
-    mul-b
     mul-gram-of
+    mul-gram-of-2
+    mul-gram-of-3
     gram-of-requires
     decide-requires
-    mul-apply
     apply-requires
-    apply-to-v-requires
     count-requires
     same-length
     same-length-2
