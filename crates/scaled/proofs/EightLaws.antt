@@ -68,23 +68,25 @@ eight-at s i j a h g = pick (j - i) (omega arith)
 before-or-from : (j i : ℕ) → (j < i) ⊎ (i ≤ j)
 before-or-from j i = elim (ltb j i) as (λ (x : Bool). ltb j i ≡ x → (j < i) ⊎ (i ≤ j)) [ true ↦ λ h. inl (ltb-true j i h) | false ↦ λ h. inr (ltb-false j i h) ] refl
 
--- The sums hold the numbers before i and the eight from `last` on: where all sums are finite those numbers are allowed.
-pub record Holds (s : List Float) (last i : ℕ) (q : Sums) : Type 0 where
-  back : Finite (listOf q) → Allowed (eight s last)
-  front : Finite (listOf q) → (j : ℕ) → j < i → allowed (getD s j nan) ≡ true
+-- The sums hold n numbers from place `from` on: where all sums are finite those numbers are allowed.
+pub record Holds (s : List Float) (from n : ℕ) (q : Sums) : Type 0 where
+  each : Finite (listOf q) → (j : ℕ) → from ≤ j → j < from + n → allowed (getD s j nan) ≡ true
 
 eight-finite : (q : Sums) (s : List Float) (i : ℕ) → Finite (listOf (withEight q s i)) → Finite (listOf q) × Allowed (eight s i)
 eight-finite q s i b = more-finite (listOf q) (eight s i) (omega arith) b
 
-pub holds-first : (s : List Float) (last : ℕ) (n : Sums) {q : Sums} → q ≡ withEight n s last → Holds s last 0 q
-holds-first s last n e = rw e record { back = λ b. eight-finite n s last b .1; front = λ b j h. absurd (omega arith) }
+pub holds-none : {s : List Float} {from : ℕ} {q : Sums} → Holds s from 0 q
+holds-none = record { each = λ b j l g. absurd (omega arith) }
 
-pub holds-more : (s : List Float) (last i : ℕ) (q : Sums) {r : Sums} → Holds s last i q → r ≡ withEight q s i → Holds s last (i + 8) r
-holds-more s last i q h e =
+-- What sums hold they still hold with eight more, and the eight as well where these come next.
+pub holds-still : {s : List Float} {from n : ℕ} (i : ℕ) {q r : Sums} → Holds s from n q → r ≡ withEight q s i → Holds s from n r
+holds-still {s} i {q} h e = rw e record { each = λ b. h .each (eight-finite q s i b .0) }
+
+pub holds-more : {s : List Float} {from n : ℕ} (i : ℕ) {q r : Sums} → Holds s from n q → r ≡ withEight q s i → i ≡ from + n → Holds s from (n + 8) r
+holds-more {s} i {q} h e p =
     rw e
     record {
-      back = λ b. h .back (eight-finite q s i b .0);
-      front = λ b j g. let a = eight-finite q s i b in elim (before-or-from j i) [ inl p ↦ h .front (a .0) j p | inr p ↦ eight-at s i j (a .1) p g ];
+      each = λ b j l g. let a = eight-finite q s i b in elim (before-or-from j i) [ inl k ↦ h .each (a .0) j l (omega arith) | inr k ↦ eight-at s i j (a .1) k (omega arith) ];
     }
 
 -- ---- the eight sums joined
@@ -103,7 +105,17 @@ joined-finite q h =
     let v = four-finite (q .sum1) (q .sum5) (q .sum3) (q .sum7) (t .1) in
     (u .0, (v .0, (u .1 .1 .0, (v .1 .1 .0, (u .1 .0, (v .1 .0, (u .1 .1 .1 .0, (v .1 .1 .1 .0, tt))))))))
 
-pub holds-all : (s : List Float) (last i : ℕ) (q : Sums) → length s ≡ last + 8 → last ≤ i → Holds s last i q → isFinite (joined q) ≡ true → EachAllowed s
-holds-all s last i q e l h b j g =
-    let d = joined-finite q b in
-    elim (before-or-from j i) [ inl p ↦ h .front d j p | inr p ↦ eight-at s last j (h .back d) (omega arith) (omega arith) ]
+-- One set of sums holds the last eight numbers and the first half, another the second half: where both joined are finite, every number is allowed.
+pub holds-all :
+    {s : List Float} {last half i : ℕ} {q r : Sums} →
+    Holds s last 8 q → Holds s 0 i q → Holds s half i r → length s ≡ last + 8 → half ≤ i → last ≤ half + i → isFinite (add binary64 (joined q) (joined r)) ≡ true → EachAllowed s
+holds-all {s} {last} {half} {i} {q} {r} back front others e l m b j g =
+    let t = sum-finite (joined q) (joined r) b in
+    let c = joined-finite q (t .0) in
+    elim (before-or-from j i) [
+      | inl p ↦ front .each c j (omega arith) (omega arith)
+      | inr p ↦ elim (before-or-from j (half + i)) [
+        | inl n ↦ others .each (joined-finite r (t .1)) j (omega arith) n
+        | inr n ↦ back .each c j (omega arith) (omega arith)
+      ]
+    ]

@@ -9,7 +9,7 @@ ghost use Rattle.scaled.specs.Eight.{noSums, withEight, joined};
 // 2^824
 const SCALE: f64 = 1.1187071843154282e248;
 
-// Eight sums, so that no addition waits for the one before it. The back end takes two at once.
+// Eight sums, none of which waits for another. The back end takes two at once.
 pub struct Sums {
     pub sum0: f64,
     pub sum1: f64,
@@ -105,8 +105,9 @@ fn looks_slow(s: &[f64]) -> bool {
 }
 
 // Whether the numbers of s, each times 2^824, have a finite sum. Where they have, every number is allowed: one above 2^200 becomes an infinity,
-// which stays, as a NaN does. Where not, or where s has fewer than eight numbers or looks subnormal, nothing is known. The sums begin with the
-// last eight, so that the loop leaves none over. It may take some again.
+// which stays, as a NaN does. Where not, or where s has fewer than eight numbers or looks subnormal, nothing is known. Two sets of eight sums, one
+// for each half, so that no addition waits for the one before it. The first begins with the last eight, so that the loop leaves none over. It may
+// take some again.
 pub fn scaled_sum_finite(s: &[f64]) -> bool
     ensures { λ r. ⌜ (r ≡ true → EachAllowed (now (s .entry))) ⌝ }
 {
@@ -117,12 +118,15 @@ pub fn scaled_sum_finite(s: &[f64]) -> bool
         return false;
     }
     let last = s.len() - 8;
+    let half = last - last / 2;
     let none = Sums::none();
     let mut sums = none.with_eight(s, last);
+    let mut others = none;
     let mut i = 0;
-    while i < last {
+    while i < half {
         sums = sums.with_eight(s, i);
+        others = others.with_eight(s, half + i);
         i += 8;
     }
-    numbers::is_finite(sums.join())
+    numbers::is_finite(sums.join() + others.join())
 }

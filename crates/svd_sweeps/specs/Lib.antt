@@ -2,3 +2,4 @@
 pub mod Sweeping
 pub mod Untouched
 pub mod Marks
+pub mod Late

@@ -1,7 +1,7 @@
--- `svd_sweeps::pair` meets its contract: the decision is that of the definition, since its number and values are, and both matrices and the counts follow it. Assumes nothing.
+-- `svd_sweeps::pair` meets its contract: the decision is that of the definition, since its number and values are; a case of the definition for each case of it. Assumes nothing.
 use Rattle.svd_pair.proofs.Theorems.{verdict-one}
 use Rattle.whole_numbers.proofs.WholeLaws.{column-fits}
-use Rattle.svd_sweeps.proofs.SweepingLaws.{pair-made}
+use Rattle.svd_sweeps.proofs.LateLaws.{pair-left, pair-turned}
 use native.Mathlib.Omega.{arith}
 use Prim.Native.Nat.{_+_, _*_, _≤_}
 use borrow.Author.Needs.{needs}
@@ -30,8 +30,26 @@ gram-of-requires c κs = omega (arith, work-p (c .before .before .before), work-
 decide-requires : tie.Need-decide-requires
 decide-requires c κs = search needs
 
-apply-requires : tie.Need-apply-requires
-apply-requires c κs = search needs
+enum-told : tie.Need-enum-told
+enum-told c = search needs
+
+enum-known-d : tie.Need-enum-known-d
+enum-known-d c = search needs
+
+catch-up-requires : tie.Need-catch-up-requires
+catch-up-requires c κs = search needs
+
+mul-turn-columns : tie.Need-mul-turn-columns
+mul-turn-columns c = omega (arith, work-p (c .before .before .before .before .before .before .before .before .before .before .before .before .before), work-q (c .before .before .before .before .before .before .before .before .before .before .before .before .before))
+
+mul-turn-columns-2 : tie.Need-mul-turn-columns-2
+mul-turn-columns-2 c = omega (arith, work-p (c .before .before .before .before .before .before .before .before .before .before .before .before .before), work-q (c .before .before .before .before .before .before .before .before .before .before .before .before .before))
+
+mul-turn-columns-3 : tie.Need-mul-turn-columns-3
+mul-turn-columns-3 c = omega (arith, work-p (c .before .before .before .before .before .before .before .before .before .before .before .before .before), work-q (c .before .before .before .before .before .before .before .before .before .before .before .before .before))
+
+turn-columns-requires : tie.Need-turn-columns-requires
+turn-columns-requires c κs = omega (arith, work-p (c .before .before .before .before .before .before .before .before .before .before .before .before .before), work-q (c .before .before .before .before .before .before .before .before .before .before .before .before .before))
 
 count-requires : tie.Need-count-requires
 count-requires c κs = search needs
@@ -44,8 +62,19 @@ same-length-2 c = search needs
 
 returns : tie.Need-returns
 returns c =
-    let applied = c .before .before .before .before .before .apply .ensures in
-    pair-made _ _ _ _ _ _ _ _ _ _ (verdict-one _ _ (rw (c .before .before .before .before .before .before .before .before .before .gram-of .ensures) at (c .before .before .before .before .before .before .before .before .decide .ensures))) (applied .0) (applied .1) (c .count .ensures)
+    let start = c .before .before .before .before .before .before .before .before .before .before .before .before .before .before .before .before .before .before .pre in
+    let decided = verdict-one _ _ (rw (c .before .before .before .before .before .before .before .before .before .before .before .before .before .before .gram-of .ensures) at (c .before .before .before .before .before .before .before .before .before .before .before .before .before .decide .ensures)) in (
+      pair-turned _ _ _ _ _ _ _ _ _ decided (c .before .before .before .before .before .before .before .before .before .before .before .d .given .1) (c .before .before .before .before .before .before .before .before .catch-up .ensures) (c .before .before .before .before .turn-columns .ensures) (c .count .ensures),
+      record { rising = λ h. start .1; within = λ h. start .2 },
+    )
+
+same-length-3 : tie.Need-same-length-3
+same-length-3 c = search needs
+
+returns-2 : tie.Need-returns-2
+returns-2 c =
+    let decided = verdict-one _ _ (rw (c .before .before .before .gram-of .ensures) at (c .before .before .decide .ensures)) in
+    (pair-left _ _ _ _ _ _ _ _ _ decided (c .enum-told .given .1), c .before .before .before .before .before .before .before .pre .4)
 
 pub pair-spec : {M : Type 1} → statement M
 pair-spec =
@@ -56,8 +85,16 @@ pair-spec =
     mul-gram-of-3
     gram-of-requires
     decide-requires
-    apply-requires
+    enum-told
+    enum-known-d
+    catch-up-requires
+    mul-turn-columns
+    mul-turn-columns-2
+    mul-turn-columns-3
+    turn-columns-requires
     count-requires
     same-length
     same-length-2
-    returns)
+    returns
+    same-length-3
+    returns-2)

@@ -1,100 +1,27 @@
--- `svd_sweeps::settle` meets its contract. The loop's invariant: the sweeps that are left lead to the same end, and the marks tell of the turns. Assumes nothing.
-use mathlib.Core.Path.{_≡_, refl, sym, _∙_}
-use Prim.Native.Nat.{_+_, _-_, _*_, _≤_}
-use lib.ListN.{length}
-use native.Mathlib.Omega.{arith}
-use Rattle.svd_pair.specs.Plain.{making}
-use Rattle.sweeps.specs.Sweeping.{state, sweepsTo}
-use Rattle.sweeps.proofs.Counts.{sweep-after, pairs-few}
-use Rattle.sweeps.proofs.SweepingLaws.{sweeps-done, sweeps-more, sweeps-quiet}
-use Rattle.svd_sweeps.specs.Sweeping.{svdPairings, settledWith}
-use Rattle.svd_sweeps.proofs.SweepingLaws.{settled-start, v-kept}
-use Rattle.svd_sweeps.specs.Marks.{look, Seen}
-use Rattle.svd_sweeps.proofs.MarksLaws.{seen-first, seen-at}
+-- `svd_sweeps::settle` meets its contract: the sweeps, and V catches up. Assumes nothing.
 use borrow.Author.Needs.{needs}
+use Rattle.svd_sweeps.proofs.SweepingLaws.{v-kept}
+use Rattle.svd_sweeps.proofs.LateLaws.{caught-state}
 use Rattle.svd_sweeps.proofs.settle.Statement.{statement}
 use Rattle.svd_sweeps.proofs.settle.Tie as tie
 
-abbrev Inv-loop : tie.InvT-loop
-Inv-loop work₀ v₀ m n plain marks₀ s₀ k₀ work v marks s k = (k ≤ 100) × (length work ≡ length work₀) × (length v ≡ length v₀) × (length marks ≡ 64) × (sweepsTo (svdPairings (making plain) m n) n (100 - k) (state work v s) ≡ settledWith (making plain) m n work₀ v₀) × (s .begun ≤ k) × (s .turned ≤ k * 4096) × Seen m n (look (s .begun + 1) 0 0) marks work
+sweep-all-requires : tie.Need-sweep-all-requires
+sweep-all-requires c κs = search needs
 
-abbrev μ-loop : tie.MeasureT-loop
-μ-loop work₀ v₀ m n plain marks₀ s₀ k₀ work v marks s k = 100 - k
+catch-up-requires : tie.Need-catch-up-requires
+catch-up-requires c κs =
+    let start = c .before .before .before .before .before .before .before .before .before .before .pre in
+    let swept = c .before .before .before .before .before .sweep-all in
+    (v-kept (swept .kept .1 .0) (start .v), start .columns, swept .ensures .1)
 
-loop-holds : tie.Need-loop-holds Inv-loop μ-loop
-loop-holds c = (omega arith, refl, refl, refl, settled-start _ _ _ _ _, omega arith, omega arith, seen-first _ _ _ (c .before .before .pre .columns))
-
-slice-aggregate-sweep : tie.Need-slice-aggregate-sweep Inv-loop μ-loop
-slice-aggregate-sweep c = sym (c .before .before .before .before .loop .inv .3)
-
-sweep-requires : tie.Need-sweep-requires Inv-loop μ-loop
-sweep-requires c κs =
-    let s = c .before .before .before .before .before .before .before .pre in
-    let i = c .before .before .before .before .loop .inv in
-    let l = c .before .before .before .loop-test .taken in (
-      record { work = i .1 ∙ s .work; v = v-kept (i .2) (s .v); columns = s .columns; cells = s .cells },
-      omega (arith, i .5, l),
-      omega (arith, i .6, l),
-      i .3,
-      i .7,
-    )
-
-add-k : tie.Need-add-k Inv-loop μ-loop
-add-k c = search needs
-
-loop-less : tie.Need-loop-less Inv-loop μ-loop
-loop-less c = search needs
-
-loop-again : tie.Need-loop-again Inv-loop μ-loop
-loop-again c =
-    let i = c .before .before .before .before .before .before .before .before .before .before .before .loop .inv in
-    let l = c .before .before .before .before .before .before .before .before .before .before .loop-test .taken in
-    let r = c .before .before .before .before .before .before .sweep in
-    let s = c .before .before .before .before .before .before .before .before .before .before .before .before .before .before in
-    let w = sweep-after _ _ _ (r .ensures .0) in (
-      omega (arith, l),
-      r .kept .0 ∙ i .1,
-      r .kept .1 .0 ∙ i .2,
-      r .kept .1 .1 .0 ∙ i .3,
-      sweeps-more _ _ 100 _ _ l (i .4) (r .ensures .0) (c .if1 .left),
-      omega (arith, w .begun, i .5),
-      omega (arith, w .turned, i .6, pairs-few _ (s .args .n) (s .pre .columns), s .pre .columns),
-      seen-at (omega (arith, w .begun)) (r .ensures .1),
-    )
-
-same-length : tie.Need-same-length Inv-loop μ-loop
+same-length : tie.Need-same-length
 same-length c = search needs
 
-same-length-2 : tie.Need-same-length-2 Inv-loop μ-loop
+same-length-2 : tie.Need-same-length-2
 same-length-2 c = search needs
 
-returns : tie.Need-returns Inv-loop μ-loop
-returns c = sweeps-done _ _ 100 _ (c .loop-test .left) (c .before .loop .inv .4)
-
-same-length-3 : tie.Need-same-length-3 Inv-loop μ-loop
-same-length-3 c = c .before .before .before .before .before .before .sweep .kept .0 ∙ c .before .before .before .before .before .before .before .before .before .before .before .loop .inv .1
-
-same-length-4 : tie.Need-same-length-4 Inv-loop μ-loop
-same-length-4 c = c .before .before .before .before .before .before .sweep .kept .1 .0 ∙ c .before .before .before .before .before .before .before .before .before .before .before .loop .inv .2
-
-returns-2 : tie.Need-returns-2 Inv-loop μ-loop
-returns-2 c = sweeps-quiet _ _ 100 _ _ (c .before .before .before .before .before .before .before .before .before .before .loop-test .taken) (c .before .before .before .before .before .before .before .before .before .before .before .loop .inv .4) (c .before .before .before .before .before .before .sweep .ensures .0) (c .if1 .taken)
+returns : tie.Need-returns
+returns c = caught-state _ _ _ _ _ (c .before .before .before .catch-up .ensures) (c .before .before .before .before .before .before .before .before .before .sweep-all .ensures .0)
 
 pub settle-spec : {M : Type 1} → statement M
-settle-spec =
-    tie.close
-    (tie.spec
-    Inv-loop
-    μ-loop
-    loop-holds
-    slice-aggregate-sweep
-    sweep-requires
-    add-k
-    loop-less
-    loop-again
-    same-length
-    same-length-2
-    returns
-    same-length-3
-    same-length-4
-    returns-2)
+settle-spec = tie.close (tie.spec sweep-all-requires catch-up-requires same-length same-length-2 returns)

@@ -32,11 +32,11 @@ same-length c = search needs
 
 returns : tie.Need-returns
 returns c =
-    let start = c .before .before .before .before .before .before .before in
+    let start = c .before .before .before .before .before .before .before .before in
     let k = start .pre .1 in
     let old = c .before .unchanged .ensures (c .if1 .taken) in
     let left = seen-old _ _ _ _ _ _ _ (k .begun) (k .rising) (k .within) (old .0) (old .1) (start .pre .2) in
-    (passed-over _ _ _ _ _ _ left, seen-left _ _ _ _ _ _ _ (start .pre .0 .columns) (k .rising) (k .within) left (start .pre .2))
+    (passed-over _ _ _ _ _ _ left, (seen-left _ _ _ _ _ _ _ (start .pre .0 .columns) (k .rising) (k .within) left (start .pre .2), start .pre .3))
 
 pair-requires : tie.Need-pair-requires
 pair-requires c κs = search needs
@@ -52,26 +52,26 @@ same-length-4 c = search needs
 
 returns-2 : tie.Need-returns-2
 returns-2 c =
-    let start = c .before .before .before .before .before .before .before .before .before .before .before .before .before .before .before .before .before in
+    let start = c .before .before .before .before .before .before .before .before .before .before .before .before .before .before .before .before .before .before .before in
     let k = start .pre .1 in
-    let done = c .before .before .before .before .before .before .before .pair .ensures in
-    let left = uncounted _ _ _ _ _ _ done (c .if2 .taken) in
-    (done, seen-same (left .1) (seen-left _ _ _ _ _ _ _ (start .pre .0 .columns) (k .rising) (k .within) (left .0) (start .pre .2)))
+    let done = c .before .before .before .before .before .before .before .before .pair .ensures in
+    let left = uncounted _ _ _ _ _ _ (done .0) (c .if2 .taken) in
+    (done .0, (seen-same (left .1) (seen-left _ _ _ _ _ _ _ (start .pre .0 .columns) (k .rising) (k .within) (left .0) (start .pre .2)), done .1))
 
 mul-marks : tie.Need-mul-marks
-mul-marks c = search needs
+mul-marks c = omega (arith, c .before .before .before .before .before .before .before .before .before .before .before .before .before .before .before .before .before .before .before .pre .1 .rising, c .before .before .before .before .before .before .before .before .before .before .before .before .before .before .before .before .before .before .before .pre .1 .within, c .before .before .before .before .before .before .before .before .before .before .before .before .before .before .before .before .before .before .before .pre .0 .columns)
 
 slice-write-marks : tie.Need-slice-write-marks
-slice-write-marks c = search needs
+slice-write-marks c = omega (arith, c .before .before .before .before .before .before .before .before .before .before .before .before .before .before .before .before .before .before .before .pre .1 .marks, c .before .before .before .before .before .before .before .before .before .before .before .before .before .before .before .before .before .before .before .pre .1 .rising, c .before .before .before .before .before .before .before .before .before .before .before .before .before .before .before .before .before .before .before .pre .1 .within, c .before .before .before .before .before .before .before .before .before .before .before .before .before .before .before .before .before .before .before .pre .0 .columns)
 
 mul-marks-2 : tie.Need-mul-marks-2
-mul-marks-2 c = search needs
+mul-marks-2 c = omega (arith, c .before .before .before .before .before .before .before .before .before .before .before .before .before .before .before .before .before .before .before .pre .1 .rising, c .before .before .before .before .before .before .before .before .before .before .before .before .before .before .before .before .before .before .before .pre .1 .within, c .before .before .before .before .before .before .before .before .before .before .before .before .before .before .before .before .before .before .before .pre .0 .columns)
 
 slice-write-marks-2 : tie.Need-slice-write-marks-2
 slice-write-marks-2 c =
-    let start = c .before .before .before .before .before .before .before .before .before .before .before .before .before .before .before .before .before in
+    let start = c .before .before .before .before .before .before .before .before .before .before .before .before .before .before .before .before .before .before .before in
     let h : start .args .q < length (now (start .args .marks)) = omega (arith, start .pre .1 .marks, start .pre .1 .within, start .pre .0 .columns) in
-    lt-length-set (now (start .args .marks)) (start .args .p) (start .args .s .begun * 4096 + start .args .p * 64 + start .args .q) h
+    lt-length-set (now (start .args .marks)) (start .args .p) (start .args .w .s .begun * 4096 + start .args .p * 64 + start .args .q) h
 
 same-length-5 : tie.Need-same-length-5
 same-length-5 c = search needs
@@ -84,10 +84,11 @@ same-length-7 c = search needs
 
 returns-3 : tie.Need-returns-3
 returns-3 c =
-    let start = c .before .before .before .before .before .before .before .before .before .before .before .before .before .before .before .before .before in
+    let start = c .before .before .before .before .before .before .before .before .before .before .before .before .before .before .before .before .before .before .before in
     let k = start .pre .1 in
-    let done = c .before .before .before .before .before .before .before .pair .ensures in
-    (done, seen-turned _ _ _ _ _ _ _ _ _ (start .pre .0 .columns) (k .rising) (k .within) (k .marks) (done-to _ _ _ _ _ _ done) (start .pre .2))
+    let done = c .before .before .before .before .before .before .before .before .pair .ensures in
+    let seen = seen-turned _ _ _ _ _ _ _ _ _ (start .pre .0 .columns) (k .rising) (k .within) (k .marks) (done-to _ _ _ _ _ _ (done .0)) (start .pre .2) in
+    (done .0, (seen, done .1))
 
 pub visit-spec : {M : Type 1} → statement M
 visit-spec =
