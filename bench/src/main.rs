@@ -1,8 +1,13 @@
 //! Times the port's entry points and the published Rust on the same inputs, in one process: rounds interleaved, all rows in each, buffers
 //! warm, both built for release, the thread's own processor time. A row is a call at a size: the medians in microseconds
-//! and the port's time as a part of the Rust's. An entry point that the library lacks is left out. A second table has, of the
-//! calls that sweep, the sweeps, the turned pairs, the time for one and the ceiling on them.
+//! and the port's time as a part of the Rust's. An entry point that the library lacks is left out. Where the Rust has no such call, a plain
+//! Rust version stands for it: of `countersign` and the slab in a file each. A second table has, of the calls that sweep, the sweeps,
+//! the turned pairs, the time for one and the ceiling on them.
 
+mod countersign;
+mod slab;
+
+use std::cell::RefCell;
 use std::hint::black_box;
 
 use harness::call::{Arg, Call, Entry, Entry::*};
@@ -14,26 +19,43 @@ use published::backend::reduced_density::door as density;
 use published::backend::schmidt::door as schmidt;
 use published::gates::spectral::door as spectral;
 
-/// A call of the port, and the same work by the Rust.
+/// How the port does a row's work.
+enum Ours {
+    Call(Call),
+    /// With the plan that stands for the call's list.
+    Planned(Call, [usize; 30]),
+    /// What does not go by way of `Call`: the number of its answer, or none where the library lacks it.
+    Turn(Box<dyn Fn() -> Option<u32>>),
+}
+
+/// Work of the port, and the same work by the Rust.
 struct Row {
     name: &'static str,
     size: String,
-    call: Call,
-    /// The plan that stands for the call's list, where it is a planned call.
-    plan: Option<[usize; 30]>,
-    /// How many calls of each side one turn makes, and the port's turn where its calls are too short to go by way of `call`: none where
-    /// the library lacks the call.
+    /// How many calls of each side one turn makes.
     calls: usize,
-    direct: Option<Box<dyn Fn() -> Option<u32>>>,
+    ours: Ours,
     rust: Box<dyn Fn()>,
 }
 
 impl Row {
-    fn make(&self, ready: &mut port::Ready) -> Option<u32> {
-        match (&self.direct, &self.plan) {
-            (Some(turn), _) => turn(),
-            (None, Some(plan)) => ready.make_planned(plan),
-            (None, None) => ready.make(),
+    fn call(&self) -> Option<&Call> {
+        match &self.ours {
+            Ours::Call(call) | Ours::Planned(call, _) => Some(call),
+            Ours::Turn(_) => None,
+        }
+    }
+
+    fn ready(&self) -> Option<port::Ready<'_>> {
+        self.call().map(port::Ready::new)
+    }
+
+    fn make(&self, ready: &mut Option<port::Ready>) -> Option<u32> {
+        match (&self.ours, ready) {
+            (Ours::Turn(turn), _) => turn(),
+            (Ours::Planned(_, plan), Some(ready)) => ready.make_planned(plan),
+            (Ours::Call(_), Some(ready)) => ready.make(),
+            (_, None) => None,
         }
     }
 }
@@ -55,7 +77,11 @@ fn one(x: usize) -> Arg {
 }
 
 fn row(name: &'static str, size: String, entry: Entry, args: Vec<Arg>, rust: impl Fn() + 'static) -> Row {
-    Row { name, size, call: Call::new(entry, args), plan: None, calls: 1, direct: None, rust: Box::new(rust) }
+    Row { name, size, calls: 1, ours: Ours::Call(Call::new(entry, args)), rust: Box::new(rust) }
+}
+
+fn turn_row(name: &'static str, size: String, ours: impl Fn() -> Option<u32> + 'static, rust: impl Fn() + 'static) -> Row {
+    Row { name, size, calls: 1, ours: Ours::Turn(Box::new(ours)), rust: Box::new(rust) }
 }
 
 fn svd_row(rng: &mut Random, m: usize, n: usize) -> Row {
@@ -92,7 +118,9 @@ fn values_row(rng: &mut Random, n: usize, k: usize) -> Row {
 /// The values by a plan that is kept, against the Rust's call of its list.
 fn planned_row(rng: &mut Random, n: usize, k: usize) -> Option<Row> {
     let plan = port::plan_of(&(0..k).collect::<Vec<_>>(), n)??;
-    Some(Row { name: "planned_schmidt_values", plan: Some(plan), ..values_row(rng, n, k) })
+    let row = values_row(rng, n, k);
+    let call = row.call()?.clone();
+    Some(Row { name: "planned_schmidt_values", ours: Ours::Planned(call, plan), ..row })
 }
 
 /// The page of all cuts, against the Rust's loop over them.
@@ -196,10 +224,10 @@ fn numbers_of_many_sizes(rng: &mut Random) -> Vec<f64> {
 /// Roots of these numbers, one after the other and none waiting for another: calls through the C face, and the hardware's instruction, each in
 /// the same loop.
 fn sqrt_row(size: &str, numbers: Vec<f64>) -> Row {
-    let (calls, first, ours) = (numbers.len(), numbers[0].to_bits(), numbers.clone());
+    let (calls, ours) = (numbers.len(), numbers.clone());
     let turn = move || black_box(&ours).iter().try_for_each(|&x| port::root(x).map(|root| _ = black_box(root))).map(|()| 0);
     let hardware = move || black_box(&numbers).iter().for_each(|&x| _ = black_box(x.sqrt()));
-    Row { calls, direct: Some(Box::new(turn)), ..row("sqrt", size.into(), sqrt, vec![Arg::One(first)], hardware) }
+    Row { calls, ..turn_row("sqrt", size.into(), turn, hardware) }
 }
 
 fn rows() -> Vec<Row> {
@@ -225,6 +253,10 @@ fn rows() -> Vec<Row> {
     rows.extend([16, 4, 1].map(|limit| chain_row(rng, 12, limit)));
     rows.extend((4..=12).map(|n| profile_row(rng, n)));
     rows.extend([4, 8].map(|dim| eigenvalues_row(&mut Random::new(3), dim)));
+    rows.extend(lot_row());
+    rows.extend([(4, 2), (8, 4), (12, 6)].into_iter().filter_map(|(n, k)| entropy_row(n, k)));
+    rows.extend([(4, 4), (16, 16), (256, 16), (16, 256)].into_iter().filter_map(|(m, n)| countersign_row(m, n)));
+    rows.extend(slab_rows());
     rows
 }
 
@@ -265,7 +297,7 @@ fn median(mut times: Vec<f64>) -> f64 {
 /// A row with what it lends, how many calls a round has, and the times of its rounds: the port's and the Rust's.
 struct Measured<'a> {
     row: &'a Row,
-    ready: port::Ready<'a>,
+    ready: Option<port::Ready<'a>>,
     turns: usize,
     ours: Vec<f64>,
     theirs: Vec<f64>,
@@ -274,7 +306,7 @@ struct Measured<'a> {
 impl<'a> Measured<'a> {
     /// None where the library lacks the call or refuses it.
     fn new(row: &'a Row) -> Option<Self> {
-        let mut ready = port::Ready::new(&row.call);
+        let mut ready = row.ready();
         if row.make(&mut ready)? != 0 {
             eprintln!("bench: {} {} was refused", row.name, row.size);
             return None;
@@ -314,14 +346,13 @@ fn lot(rng: &mut Random) -> Vec<Vec<u8>> {
     (0..1000).map(|_| file(rng)).collect()
 }
 
-/// The medians of the sheet of a lot in microseconds: the port's call, and a loop of the published Rust over the same files.
-fn lot_medians(rounds: usize) -> Option<(f64, f64)> {
+/// The sheet of a lot, beside a loop of the published Rust over the same files.
+fn lot_row() -> Option<Row> {
     let files = lot(&mut Random::new(24));
     let lengths = files.iter().map(|file| file.len() as u32);
     let head = [1000].into_iter().chain(lengths).flat_map(u32::to_le_bytes);
     let whole: Vec<u8> = head.chain(files.iter().flatten().copied()).collect();
-    let sheet = port::lot_sheet(&whole)?;
-    let ranks = || {
+    let ranks = move || {
         let mut ranks = [0; 16];
         for file in &files {
             let numbers: Vec<f64> = file[40..].chunks(8).map(|x| f64::from_le_bytes(x.try_into().expect("eight bytes"))).collect();
@@ -330,47 +361,85 @@ fn lot_medians(rounds: usize) -> Option<(f64, f64)> {
         }
         ranks
     };
-    assert_eq!(ranks(), sheet[11..27], "the Rust keeps other ranks");
-    let (mut ours, mut theirs) = (vec![], vec![]);
-    for _ in 0..rounds.clamp(1, 9) {
-        ours.push(timed(1, || {
-            black_box(port::lot_sheet(black_box(&whole)));
-        }));
-        theirs.push(timed(1, || {
-            black_box(ranks());
-        }));
-    }
-    Some((1e6 * median(ours), 1e6 * median(theirs)))
+    assert_eq!(ranks(), port::lot_sheet(&whole)?[11..27], "the Rust keeps other ranks");
+    let sheet = move || black_box(port::lot_sheet(black_box(&whole))).map(|_| 0);
+    Some(turn_row("lot_sheet", "1,000 files, n=9 k=4".into(), sheet, move || _ = black_box(ranks())))
 }
 
-/// The medians of the entropy band of the first k of n qubits in microseconds, beside the Rust's values and the entropy of their squares in
-/// floats.
-fn entropy_medians(n: usize, k: usize, rounds: usize) -> Option<(f64, f64)> {
+/// The entropy band of the first k of n qubits, beside the Rust's values and the entropy of their squares in floats.
+fn entropy_row(n: usize, k: usize) -> Option<Row> {
     let (state, named, side) = (drawn(&mut Random::new(23), 2 << n), (0..k).collect::<Vec<usize>>(), 1 << k.min(n - k));
-    let (mut bands, mut scratch) = (vec![0; 3 * side], vec![0.0; (8 << n) + 2 * side]);
-    let amplitudes: Vec<Complex64> = cells(&state);
-    let in_floats = || -> f64 {
+    let (list, amplitudes): (_, Vec<Complex64>) = (named.clone(), cells(&state));
+    let lent = RefCell::new((vec![0; 3 * side], vec![0.0; (8 << n) + 2 * side]));
+    let in_floats = move || -> f64 {
         let values = schmidt::dense_schmidt_values(black_box(&amplitudes), n, &named, 13).expect("an accepted state");
         let weights = values.iter().map(|value| value * value);
         let whole: f64 = weights.clone().sum();
         weights.map(|weight| weight / whole).map(|part| -part * part.log2()).sum()
     };
-    let (number, [low, high, whole]) = port::entropy_band(&state, n, &named, &mut bands, &mut scratch)?;
+    let band = move || {
+        let (bands, scratch) = &mut *lent.borrow_mut();
+        port::entropy_band(black_box(&state), n, &list, bands, scratch)
+    };
+    let (number, [low, high, whole]) = band()?;
     let (entropy, bits) = (in_floats(), |sum: u64| sum as f64 / whole as f64);
     // a weight is the floor of 2^24 squares, so the entropy of the squares may miss the weights' band by a little
     assert!(number == 0 && bits(low) - 1e-3 <= entropy && entropy <= bits(high) + 1e-3, "{number}: {entropy} for {low} to {high} of {whole}");
-    let turns = ((2e-3 / timed(1, || _ = black_box(in_floats()))) as usize).clamp(1, 100_000);
-    let (mut ours, mut theirs) = (vec![], vec![]);
-    for _ in 0..rounds {
-        ours.push(timed(turns, || {
-            black_box(port::entropy_band(black_box(&state), n, &named, &mut bands, &mut scratch));
-        }));
-        theirs.push(timed(turns, || {
-            black_box(in_floats());
-        }));
+    Some(turn_row("entropy_band", format!("n={n} k={k}"), move || black_box(band()).map(|said| said.0), move || _ = black_box(in_floats())))
+}
+
+/// Factors of someone else's package countersigned, beside the same tests in plain Rust, which must find the same at every tolerance.
+fn countersign_row(m: usize, n: usize) -> Option<Row> {
+    let factors = countersign::Factors::drawn(&mut Random::new(13), m, n);
+    let plain = factors.clone();
+    let found = move |tolerance| port::countersign(&factors.a, m, n, &factors.u, &factors.s, &factors.vt, black_box(tolerance));
+    for tolerance in [0, u64::MAX].into_iter().chain((30..60).map(|power| 1 << power)) {
+        assert_eq!(found(tolerance)?, (0, plain.verdict(tolerance)?), "{m}×{n}, tolerance {tolerance}");
     }
-    let each = |times| 1e6 * median(times) / turns as f64;
-    Some((each(ours), each(theirs)))
+    let all = move || black_box(found(u64::MAX)).map(|(number, _)| number);
+    Some(turn_row("countersign", format!("{m}×{n}"), all, move || _ = black_box(plain.verdict(black_box(u64::MAX)))))
+}
+
+/// Calls on a slab that 64 sites of 64 cells fill, beside the same in plain Rust, which must leave the same slab and the same answer. A site's
+/// number is seven on from the last one's.
+fn slab_row(
+    name: &'static str,
+    size: &str,
+    ours: fn(&mut port::Slab, u32, &[u64]) -> Option<u32>,
+    theirs: fn(&mut slab::Plain, u32, &[u64]) -> u32,
+) -> Option<Row> {
+    let data = [1.5f64.to_bits(), (-2.5f64).to_bits()].repeat(64);
+    let (mut full, mut plain) = (port::Slab::new(), slab::Plain::new());
+    for site in 0..64 {
+        assert_eq!(full.put(site, &data)?, plain.put(site, &data));
+    }
+    for site in (0..64).map(|k| 7 * k % 64) {
+        assert_eq!(ours(&mut full, site, &data)?, theirs(&mut plain, site, &data));
+        assert!(full.cells == plain.cells && full.index == plain.index, "the plain slab is another after {name}");
+    }
+    let (full, plain, theirs_data) = (RefCell::new((full, 0)), RefCell::new((plain, 0)), data.clone());
+    let turn = move || {
+        let (full, site) = &mut *full.borrow_mut();
+        *site = (*site + 7) % 64;
+        ours(full, *site, black_box(&data)).map(|_| 0)
+    };
+    let plain_turn = move || {
+        let (plain, site) = &mut *plain.borrow_mut();
+        *site = (*site + 7) % 64;
+        black_box(theirs(plain, *site, black_box(&theirs_data)));
+    };
+    Some(turn_row(name, size.into(), turn, plain_turn))
+}
+
+fn slab_rows() -> Vec<Row> {
+    let again = |full: &mut port::Slab, site: u32, data: &[u64]| Some(full.drop(site)? | full.put(site, data)?);
+    let plain_again = |plain: &mut slab::Plain, site: u32, data: &[u64]| plain.drop(site) | plain.put(site, data);
+    let rows = [
+        slab_row("slab_drop, slab_put", "64 sites of 64 cells", again, plain_again),
+        slab_row("slab_replace", "64 sites of 64 cells", port::Slab::replace, slab::Plain::replace),
+        slab_row("slab_put", "no room", |full, site, data| full.put(64 + site, data), |plain, site, data| plain.put(64 + site, data)),
+    ];
+    rows.into_iter().flatten().collect()
 }
 
 /// The most pairs that a call that sweeps can turn: its cap times the pairs of its smaller side.
@@ -402,22 +471,13 @@ fn main() {
         let (row, (ours, theirs)) = (done.row, done.medians());
         let digits = if theirs < 0.1 { 5 } else { 3 };
         println!("| {} | {} | {ours:.digits$} | {theirs:.digits$} | {:.3} |", row.name, row.size, ours / theirs);
-        let mut ready = port::Ready::new(&row.call);
-        let said = row.make(&mut ready).and_then(|number| ready.outcome(number)).and_then(|outcome| outcome.sweeps);
-        if let (Some(said), Some(most)) = (said, ceiling(&row.call)) {
+        let Some(call) = row.call() else { continue };
+        let mut ready = row.ready();
+        let said = row.make(&mut ready).and_then(|number| ready?.outcome(number)).and_then(|outcome| outcome.sweeps);
+        if let (Some(said), Some(most)) = (said, ceiling(call)) {
             let (begun, turned) = (said.begun, said.turned);
             let each = 1e3 * ours / turned as f64;
             turns.push(format!("| {} | {} | {begun} | {turned} | {each:.0} | {most} |", row.name, row.size));
-        }
-    }
-    if "lot_sheet".contains(&wanted) {
-        if let Some((ours, theirs)) = lot_medians(rounds) {
-            println!("| lot_sheet | 1,000 files, n=9 k=4 | {ours:.0} | {theirs:.0} | {:.2} |", ours / theirs);
-        }
-    }
-    for (n, k) in [(4, 2), (8, 4), (12, 6)].into_iter().filter(|_| "entropy_band".contains(&wanted)) {
-        if let Some((ours, theirs)) = entropy_medians(n, k, rounds) {
-            println!("| entropy_band | n={n} k={k} | {ours:.3} | {theirs:.3} | {:.2} |", ours / theirs);
         }
     }
     println!("\n| call | size | sweeps | turned pairs | ns for each | ceiling |");

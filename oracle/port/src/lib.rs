@@ -266,6 +266,62 @@ pub fn lot_sheet(lot: &[u8]) -> Option<[usize; 32]> {
     None
 }
 
+/// Factors countersigned by the port: the answer's number, and yes or no, the test, its first failing cell; none where the library lacks it.
+#[allow(unused_variables)]
+pub fn countersign(a: &[f64], m: usize, n: usize, u: &[f64], s: &[f64], vt: &[f64], tolerance: u64) -> Option<(u32, (bool, usize, usize))> {
+    #[cfg(has_zg_countersign)]
+    {
+        let (mut place, mut yes, mut test, mut cell) = (0, false, 0, 0);
+        let [(a, a_len), (u, u_len), (s, s_len), (vt, vt_len)] = [a, u, s, vt].map(|slice| (slice.as_ptr(), slice.len()));
+        let (p, y, t, c) = (&raw mut place, &raw mut yes, &raw mut test, &raw mut cell);
+        // SAFETY: every slice is borrowed with its length, and the results are stored in locals.
+        let number = unsafe { zg_countersign(a, a_len, m, n, u, u_len, s, s_len, vt, vt_len, tolerance, p, y, t, c) };
+        return Some((number, (yes, test, cell)));
+    }
+    #[allow(unreachable_code)]
+    None
+}
+
+/// A slab: its numbers as their bits, and its index. A call gives the answer's number, or none where the library lacks it.
+pub struct Slab {
+    pub cells: Vec<u64>,
+    pub index: [u32; 193],
+}
+
+#[allow(unused_variables)]
+impl Slab {
+    #[allow(clippy::new_without_default)]
+    pub fn new() -> Slab {
+        Slab { cells: vec![0; 8192], index: [0; 193] }
+    }
+
+    /// The pointers that a call takes: to 8,192 numbers, and to 193.
+    #[allow(dead_code)]
+    fn lent(&mut self) -> (*mut f64, *mut u32) {
+        assert_eq!(self.cells.len(), 8192);
+        (self.cells.as_mut_ptr().cast(), self.index.as_mut_ptr())
+    }
+
+    // SAFETY of all three: a slab has the 8,192 numbers and the index of 193 that are read and written, and data is borrowed with its length.
+    pub fn put(&mut self, site: u32, data: &[u64]) -> Option<u32> {
+        #[cfg(has_zg_slab_put)]
+        let ((cells, index), mut place) = (self.lent(), 0);
+        ask!(has_zg_slab_put, zg_slab_put(cells, index, site, data.as_ptr().cast(), data.len(), &raw mut place))
+    }
+
+    pub fn drop(&mut self, site: u32) -> Option<u32> {
+        #[cfg(has_zg_slab_drop)]
+        let ((cells, index), mut place) = (self.lent(), 0);
+        ask!(has_zg_slab_drop, zg_slab_drop(cells, index, site, &raw mut place))
+    }
+
+    pub fn replace(&mut self, site: u32, data: &[u64]) -> Option<u32> {
+        #[cfg(has_zg_slab_replace)]
+        let ((cells, index), mut place) = (self.lent(), 0);
+        ask!(has_zg_slab_replace, zg_slab_replace(cells, index, site, data.as_ptr().cast(), data.len(), &raw mut place))
+    }
+}
+
 /// A call of the entropy band under cap 13, in buffers that are lent: the answer's number, and the band's ends and whole; none where the
 /// library lacks it.
 #[allow(unused_variables)]
