@@ -1,6 +1,6 @@
 # shellcheck shell=bash
 # What ./certify and tools/library share, to be sourced: which crates a crate stands on, whether what was proved still stands,
-# and a run of `rt check` under a lock that says how far it is. Each needs $who, the name that its sentences begin with.
+# a run of `rt check` under a lock that says how far it is, and what starts a program on this machine. Each needs $who, the name that its sentences begin with.
 # Paths are relative to a base folder, which has crates.txt and crates/; the sums are of the files' contents.
 
 # The crate NAME and those of crates.txt that it stands on, one to a line.
@@ -78,4 +78,16 @@ prove() { # BASE FOLDER LOG NAME COMMAND..
   [ "$status" -eq 0 ] || return "$status"
   echo "$sum" >"$folder/sum" && rt version >"$folder/kit" 2>/dev/null
   echo "$who: ${#names[@]} of ${#names[@]} crates proved" >&2
+}
+
+# The words that start PROGRAM here, in `by`: none where the machine runs it itself; the kit's emulator where the program is for x86-64 and
+# the machine is another one, as `rt` starts a proved program.
+starter() { # PROGRAM
+  local kit=${RATTLE_HOME:-}
+  by=()
+  [ "$HOSTTYPE" != x86_64 ] && [ "$(head -c 4 -- "$1" 2>/dev/null)" = $'\177ELF' ] || return 0
+  [ -n "$kit" ] || { kit=$(readlink -f -- "$(command -v rt)") && kit=${kit%/bin/rt}; } || return 1
+  kit=$kit/on/$HOSTTYPE/toolchain
+  [ -x "$kit/bin/qemu-x86_64" ] || return 1
+  by=("$kit/bin/qemu-x86_64" "$kit/lib/ld-linux-x86-64.so.2" --library-path "$kit/lib")
 }

@@ -14,6 +14,9 @@ CERTIFY = pathlib.Path(os.environ.get('CERTIFY') or ROOT / 'certify')
 PAPER = ROOT / 'examples' / 'paper.cut'
 PRINTED = (ROOT / 'examples' / 'paper.txt').read_bytes()
 REFUSED = b'refused 10 0\n'
+EMULATED = os.uname().machine != 'x86_64'  # by the kit's emulator, which the stand-in for `rt` does not lead to
+if EMULATED and shutil.which('rt'):
+    os.environ.setdefault('RATTLE_HOME', str(pathlib.Path(shutil.which('rt')).resolve().parents[1]))
 
 # It proves three crates by waiting, counts its runs, and fails where crates/low/src/lib.rt says so.
 RT = r'''#!/bin/sh
@@ -175,7 +178,7 @@ class Use(Case):
         took = (ended.children_user + ended.children_system - began.children_user - began.children_system) / files
         print('certify: %.1f ms of processor time a file' % (1000 * took))
         self.assertEqual((done.returncode, done.stdout.count(PRINTED)), (0, files))
-        self.assertLess(took, 0.02)
+        self.assertLess(took, 0.2 if EMULATED else 0.02)
 
 
 def checkout(folder, built=False, program=None):

@@ -159,7 +159,7 @@ class Chains(unittest.TestCase):
         with tempfile.TemporaryDirectory() as folder:
             for cut in ['ghz', 'paper', 'product', 'refused-7', 'refused-8', 'refused-10']:
                 shutil.copy(os.path.join(ROOT, 'examples', cut + '.cut'), os.path.join(folder, 'state.bin'))
-                said = subprocess.run([os.path.abspath(PROGRAM)], cwd=folder, capture_output=True, text=True, check=True).stdout
+                said = subprocess.run([os.path.join(ROOT, 'tools', 'start'), os.path.abspath(PROGRAM)], cwd=folder, capture_output=True, text=True, check=True).stdout
                 self.assertEqual(said, self.run_tools(cut=cut)[1] or 'refused 10 0\n', cut)
 
     def test_broken_printouts(self):

@@ -10,7 +10,9 @@ import unittest
 
 import numpy
 
-PROGRAM = os.environ.get('CUTPRINT') or pathlib.Path(__file__).resolve().parents[2] / 'target' / 'bin' / 'cutprint'
+ROOT = pathlib.Path(__file__).resolve().parents[2]
+START = ROOT / 'tools' / 'start'
+PROGRAM = os.environ.get('CUTPRINT') or ROOT / 'target' / 'bin' / 'cutprint'
 SEED = 20261116
 CIRCUITS = 80       # of each width
 NEAR = 1e-12
@@ -52,7 +54,7 @@ def printed(folder, state, n, named):
     start = (24 + 4 * k + 7) // 8 * 8
     head = struct.pack('<4s5I%dI' % k, b'CUT1', n, k, 24, start, start + 16 * 2 ** n, *named)
     (folder / 'state.bin').write_bytes(head.ljust(start, b'\0') + state.astype('<c16').tobytes())
-    lines = subprocess.run([PROGRAM], cwd=folder, capture_output=True, text=True, check=True).stdout.splitlines()
+    lines = subprocess.run([START, PROGRAM], cwd=folder, capture_output=True, text=True, check=True).stdout.splitlines()
     values = [struct.unpack('>d', bytes.fromhex(line.split()[2]))[0] for line in lines if line.startswith('value ')]
     end, count, sweeps, quiet = lines[-1].split(' ')
     assert (end, count) == ('end', str(len(values))) and quiet in ('yes', 'no') and (quiet == 'yes' or sweeps == '100'), lines

@@ -10,6 +10,7 @@ import unittest
 
 ROOT = pathlib.Path(__file__).resolve().parents[2]
 TOOL = ROOT / 'tools' / 'lot'
+START = ROOT / 'tools' / 'start'
 PROGRAM = ROOT / 'target' / 'bin' / 'nightbatch'
 sys.dont_write_bytecode = True
 spec = importlib.util.spec_from_file_location('lots', ROOT / 'tools' / 'vectors' / 'lots.py')
@@ -68,12 +69,12 @@ class Program(unittest.TestCase):
         with tempfile.TemporaryDirectory() as folder:
             for name, lot in lots.cases():
                 (pathlib.Path(folder) / 'lot.bin').write_bytes(lot)
-                done = subprocess.run([str(PROGRAM)], cwd=folder, capture_output=True, text=True)
+                done = subprocess.run([START, PROGRAM], cwd=folder, capture_output=True, text=True)
                 self.assertEqual(done.stdout, lots.sheet(lot), name)
 
     def test_a_missing_lot_is_empty(self):
         with tempfile.TemporaryDirectory() as folder:
-            self.assertEqual(subprocess.run([str(PROGRAM)], cwd=folder, capture_output=True, text=True).stdout, 'refused 16 0\n')
+            self.assertEqual(subprocess.run([START, PROGRAM], cwd=folder, capture_output=True, text=True).stdout, 'refused 16 0\n')
 
 
 @unittest.skipUnless(PROGRAM.exists(), 'nightbatch is not built')

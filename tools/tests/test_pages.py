@@ -23,6 +23,7 @@ from unittest import mock
 
 ROOT = pathlib.Path(__file__).resolve().parents[2]
 MAKER = ROOT / 'tools' / 'vectors'
+START = ROOT / 'tools' / 'start'
 PROGRAM = ROOT / 'target' / 'bin' / 'pageprint'
 CIRCUIT = ROOT / 'examples' / 'circuit.cut'
 PRINTED = (ROOT / 'examples' / 'circuit.pages.txt').read_text()
@@ -120,7 +121,7 @@ class Proved(Case):
 
     def printed(self, file):
         self.file('state.bin', file)
-        return subprocess.run([PROGRAM], cwd=self.path, capture_output=True, text=True, timeout=60, check=True).stdout
+        return subprocess.run([START, PROGRAM], cwd=self.path, capture_output=True, text=True, timeout=60, check=True).stdout
 
     def test_cases(self):
         for name, file in pages.cases():

@@ -12,6 +12,7 @@ import os  # noqa: E402
 import random  # noqa: E402
 import struct  # noqa: E402
 
+BLOCK = 98304  # bytes that crates/countersign_cases reads at a time
 SEED = 20261115
 HERE = os.path.dirname(os.path.abspath(__file__))
 FOLDER = os.path.join(HERE, '..', '..', 'crates', 'countersign_cases')
@@ -315,10 +316,21 @@ def text_of(case):
     return ' '.join('%X' % w for w in words)
 
 
+def in_blocks(lines):
+    """The lines in blocks as the program reads them: none goes from one block into the next, and spaces fill up each but the last."""
+    blocks = ['']
+    for line in lines:
+        assert len(line) <= BLOCK
+        if len(blocks[-1]) + len(line) > BLOCK:
+            blocks.append('')
+        blocks[-1] += line
+    return ''.join(block[:-1].ljust(BLOCK - 1) + '\n' for block in blocks[:-1]) + blocks[-1]
+
+
 def main():
     cases = list(all_cases(random.Random(SEED)))
     head = '# Cases of countersign, made by tools/vectors/countersign.py, seed %d.\n' % SEED
-    stdin = head + ''.join(text_of(c) + '\n' for c in cases)
+    stdin = in_blocks([head] + [text_of(c) + '\n' for c in cases])
     stdout = ''.join(''.join('%016X ' % w for w in expected(*c)) + '\n' for c in cases)
     files = [(os.path.join(FOLDER, 'stdin'), stdin), (os.path.join(FOLDER, 'stdout'), stdout)]
     if '--check' in sys.argv[1:]:

@@ -74,8 +74,18 @@ fn run(text: &[u8]) {
     }
 }
 
+// The text comes in blocks, each of whole cases and filled up with spaces: the proof of a long array takes long.
+fn blocks(text: &mut [u8]) {
+    for _ in 0..100usize {
+        let n = io::read_full(0, text);
+        if n == 0 {
+            return;
+        }
+        run(&text[..n]);
+    }
+}
+
 fn main() {
-    let mut text = [0u8; 655360];
-    let n = io::read_full(0, &mut text);
-    run(&text[..n]);
+    let mut text = [0u8; 98304];
+    blocks(&mut text);
 }
