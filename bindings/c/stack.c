@@ -194,7 +194,7 @@ static const struct {
              {"ranks", ranks, 16 * KB},
              {"the four fills", fills, 16 * KB},
              {"zg_chain_of_sites", chain, 16 * KB},
-             {"zg_countersign", signed_factors, 16 * KB},
+             {"zg_countersign", signed_factors, 96 * KB},
              {"zg_slab_put, replace, drop", slab, 16 * KB},
              {"zg_lot_sheet", lot, 96 * KB},
              {"zg_cut_plan, add, drop, switch", plan, 16 * KB},

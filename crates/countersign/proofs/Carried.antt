@@ -12,8 +12,8 @@ use lib.Signed.{leZ}
 use lib.Ieee.{Float}
 use Rattle.countersign_sums.specs.Wholes.{wholeOf, atMost}
 use Rattle.countersign_sums.specs.Gaussians.{zeroOf, sumOf, byWhole, conjugateOf}
-use Rattle.countersign_sums.specs.Integers.{value, Pair, plusPair, minusPair, timesPair, scalePair, conjugatePair, total}
-use Rattle.countersign_sums.proofs.Integers.{values, values-sum, values-difference, values-product, values-by, values-conjugate, value-pos, near-of-times, times-of-near, once, at-most-is}
+use Rattle.countersign_sums.specs.Integers.{value, values, Pair, plusPair, minusPair, timesPair, scalePair, conjugatePair, total}
+use Rattle.countersign_sums.proofs.Integers.{values-sum, values-difference, values-product, values-by, values-conjugate, value-pos, near-of-times, times-of-near, once, at-most-is}
 use Rattle.countersign_cells.specs.Cells.{valueAt, wholeCell}
 use Rattle.countersign_products.specs.Products.{term, termsOf, productGap, productFits}
 use Rattle.countersign_products.proofs.Bounds.{rows-some, column-in}

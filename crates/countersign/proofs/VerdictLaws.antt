@@ -69,6 +69,23 @@ module _ (m n k a u s vt : ℕ) (x : Accepted m n k a u s vt) where
   pub right-most : k * n ≤ 4096
   right-most = omega (arith, side-cells m n k (x .side) .1, x .cells)
 
+  -- the room that the numbers of U, S and V† need
+  pub left-room : u ≤ 8192
+  left-room = omega (arith, left-is, left-most)
+
+  pub values-room : s ≤ 16
+  values-room = omega (arith, x .s-is, x .most)
+
+  pub right-room : vt ≤ 8192
+  right-room = omega (arith, x .vt-is, right-most)
+
+  -- and that of at most 256 cells
+  pub few-left : a ≤ 512 → u ≤ 512
+  few-left h = omega (arith, left-is, side-cells m n k (x .side) .0, mul-comm m k, x .a-is)
+
+  pub few-right : a ≤ 512 → vt ≤ 512
+  few-right h = omega (arith, x .vt-is, side-cells m n k (x .side) .1, x .a-is)
+
   pub square : k * k ≤ 256
   square = mul-le-mul {n₁ = k} {m₁ = k} {n₂ = 16} {m₂ = 16} (x .most) (x .most)
 

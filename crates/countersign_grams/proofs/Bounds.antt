@@ -1,5 +1,5 @@
--- No sum of a Gram matrix wraps: a place adds at most 2^38, 4,096 of them 2^50, the gap 2^50 + 2^36. Assumes nothing.
-use mathlib.Core.Path.{_≡_, refl, sym, ap, ap₂, _∙_}
+-- No sum of a Gram matrix wraps: a place adds at most 9 * 2^38, 4,096 of them 9 * 2^50. Assumes nothing.
+use mathlib.Core.Path.{_≡_, sym, ap, subst, _∙_}
 use mathlib.Core.Bool.{Bool, true, false, cond}
 use mathlib.Core.List.{List}
 use Prim.Native.Nat.{ℕ, zero, suc, _+_, _*_, _/_, _%_, _^_, _≤_, _<_}
@@ -12,74 +12,52 @@ use borrow.Author.Tests.{eq-eqb, ne-eqb}
 use Rattle.countersign_sums.specs.declared.Gaussian.{Gaussian}
 use Rattle.countersign_sums.specs.Wholes.{wholeOf}
 use Rattle.countersign_sums.specs.Gaussians.{gaussianOf, zeroOf, sumOf, differenceOf, productOf, conjugateOf, bothWithin, heft}
-use Rattle.countersign_sums.proofs.Weights.{heft-sum, heft-difference, heft-product, heft-conjugate}
+use Rattle.countersign_sums.specs.Integers.{Alike}
+use Rattle.countersign_sums.proofs.Alikes.{alike-self, lighter, alike-conjugate, alike-product, alike-sum, alike-difference, product-light, sum-light, within-alike}
 use Rattle.countersign_sums.proofs.Parts.{within-divided}
 use Rattle.countersign_cells.specs.Cells.{wholeCell}
-use Rattle.countersign_cells.proofs.CellBounds.{cell-small}
 use Rattle.countersign_grams.specs.Grams.{inner, innersOf, identityAt, innerGap, gramGap, innerFits, gramFits}
-
--- ---- how large
-
-two-small : (x y : ℕ) → x ≤ 2 ^ 19 → y ≤ 2 ^ 19 → x * y ≤ 2 ^ 38
-two-small x y p q = mul-le-mul {n₁ = x} {m₁ = y} {n₂ = 2 ^ 19} {m₂ = 2 ^ 19} p q
-
-cells-small : (x : List Float) (a b : ℕ) → heft (conjugateOf (wholeCell x a)) * heft (wholeCell x b) ≤ 2 ^ 38
-cells-small x a b = two-small (heft (conjugateOf (wholeCell x a))) (heft (wholeCell x b)) (omega (arith, heft-conjugate (wholeCell x a), cell-small x a)) (cell-small x b)
-
-product-small : (a b : Gaussian) → heft a ≤ 2 ^ 19 → heft b ≤ 2 ^ 19 → heft (productOf a b) ≤ 2 ^ 38
-product-small a b h l = omega (arith, heft-product a b, two-small (heft a) (heft b) h l)
-
-pub inner-small : (x : List Float) (len p q i : ℕ) → heft (inner x len p q i) ≤ 2 ^ 38
-unfolding inner
-inner-small x len p q i =
-    let c = wholeCell x (p * len + i) in
-    product-small _ _ (omega (arith, heft-conjugate c, cell-small x (p * len + i))) (cell-small x (q * len + i))
-
-pub inners-small : (x : List Float) (len p q i : ℕ) → heft (innersOf x len p q i) ≤ i * 2 ^ 38
-unfolding innersOf heft
-inners-small x len p q zero = omega arith
-inners-small x len p q (suc i) = omega (arith, heft-sum (innersOf x len p q i) (inner x len p q i), inners-small x len p q i, inner-small x len p q i)
-
-pub identity-small : (p q : ℕ) → heft (identityAt p q) ≤ 2 ^ 36
-unfolding identityAt heft
-identity-small p q = go (eqb p q)
-  where
-    go : (b : Bool) → cond b (2 ^ 36) 0 + 0 + (0 + 0) ≤ 2 ^ 36
-    go true = omega arith
-    go false = omega arith
-
--- THE BOUND: whatever the numbers, no part of a gap reaches 2^51
-pub gap-small : (x : List Float) (len p q : ℕ) → len ≤ 4096 → heft (innerGap x len p q) ≤ 2 ^ 50 + 2 ^ 36
-unfolding innerGap
-gap-small x len p q h =
-    omega (arith, heft-difference (innersOf x len p q len) (identityAt p q), inners-small x len p q len, identity-small p q)
 
 -- ---- how the functions' results make them
 
-pub inner-fits : (x : List Float) (a b : ℕ) {y z w : Gaussian} → y ≡ wholeCell x a → z ≡ conjugateOf y → w ≡ wholeCell x b → heft z * heft w < 2 ^ 64
-inner-fits x a b e f g = rw (f, e, g) (omega (arith, cells-small x a b))
+module _ (x : List Float) (a b : ℕ) {y z w : Gaussian} (e : Alike y (wholeCell x a) (3 * 2 ^ 19)) (g : Alike w (wholeCell x b) (3 * 2 ^ 19)) (f : z ≡ conjugateOf y) where
+  first : Alike z (conjugateOf (wholeCell x a)) (3 * 2 ^ 19)
+  first = rw f (alike-conjugate e)
 
-pub made-inner : (x : List Float) (len p q i : ℕ) {y z w r : Gaussian} → y ≡ wholeCell x (p * len + i) → w ≡ wholeCell x (q * len + i) → z ≡ conjugateOf y → r ≡ productOf z w
-    → r ≡ inner x len p q i
+  pub inner-fits : heft z * heft w < 2 ^ 64
+  inner-fits = omega (arith, product-light first g)
+
+  inner-alike : {r : Gaussian} → r ≡ productOf z w → Alike r (productOf (conjugateOf (wholeCell x a)) (wholeCell x b)) (9 * 2 ^ 38)
+  inner-alike h = rw h (lighter (9 * 2 ^ 38) (alike-product first g) (omega arith))
+
+pub made-inner : (x : List Float) (len p q i : ℕ) {y z w r : Gaussian} → Alike y (wholeCell x (p * len + i)) (3 * 2 ^ 19) → Alike w (wholeCell x (q * len + i)) (3 * 2 ^ 19) → z ≡ conjugateOf y
+    → r ≡ productOf z w → Alike r (inner x len p q i) (9 * 2 ^ 38)
 unfolding inner
-made-inner x len p q i e g f h = h ∙ ap₂ productOf (f ∙ ap conjugateOf e) g
+made-inner x len p q i e g f h = inner-alike x (p * len + i) (q * len + i) e g f h
 
-pub inners-none : (x : List Float) (len p q : ℕ) → zeroOf ≡ innersOf x len p q 0
+zero-light : heft zeroOf ≤ 0 * (9 * 2 ^ 38)
+unfolding heft
+zero-light = omega arith
+
+pub inners-none : (x : List Float) (len p q : ℕ) → Alike zeroOf (innersOf x len p q 0) (0 * (9 * 2 ^ 38))
 unfolding innersOf
-inners-none x len p q = refl
+inners-none x len p q = alike-self zeroOf (0 * (9 * 2 ^ 38)) zero-light
 
-one-more : (x : List Float) (len p q i : ℕ) → sumOf (innersOf x len p q i) (inner x len p q i) ≡ innersOf x len p q (suc i)
+one-more : (x : List Float) (len p q i : ℕ) → sumOf (innersOf x len p q i) (inner x len p q i) ≡ innersOf x len p q (i + 1)
 unfolding innersOf
-one-more x len p q i = refl
+one-more x len p q i = ap (innersOf x len p q) (sym (add-one i))
 
-pub inners-more : (x : List Float) (len p q i : ℕ) {a b r : Gaussian} → a ≡ innersOf x len p q i → b ≡ inner x len p q i → r ≡ sumOf a b → r ≡ innersOf x len p q (i + 1)
-inners-more x len p q i e f g = g ∙ ap₂ sumOf e f ∙ one-more x len p q i ∙ ap (innersOf x len p q) (sym (add-one i))
+module _ (x : List Float) (len p q i : ℕ) {a b : Gaussian} (e : Alike a (innersOf x len p q i) (i * (9 * 2 ^ 38))) where
+  pub inners-more : Alike b (inner x len p q i) (9 * 2 ^ 38) → {r : Gaussian} → r ≡ sumOf a b → Alike r (innersOf x len p q (i + 1)) ((i + 1) * (9 * 2 ^ 38))
+  inners-more f g = rw (g, sym (one-more x len p q i)) (lighter ((i + 1) * (9 * 2 ^ 38)) (alike-sum e f) (omega arith))
 
-pub inners-end : (x : List Float) (len p q i : ℕ) {a : Gaussian} → i ≤ len → len ≤ i → a ≡ innersOf x len p q i → a ≡ innersOf x len p q len
-inners-end x len p q i h l e = let d : i ≡ len = omega arith in e ∙ ap (innersOf x len p q) d
+  pub sum-fits : Alike b (inner x len p q i) (9 * 2 ^ 38) → i < len → len ≤ 4096 → heft a + heft b < 2 ^ 64
+  sum-fits f h l = omega (arith, sum-light e f)
 
-pub sum-fits : (x : List Float) (len p q i : ℕ) {a b : Gaussian} → a ≡ innersOf x len p q i → b ≡ inner x len p q i → i < len → len ≤ 4096 → heft a + heft b < 2 ^ 64
-sum-fits x len p q i e f h l = rw (e, f) (omega (arith, inners-small x len p q i, inner-small x len p q i))
+pub inners-end : (x : List Float) (len p q i : ℕ) {a : Gaussian} → i ≤ len → len ≤ i → len ≤ 4096 → Alike a (innersOf x len p q i) (i * (9 * 2 ^ 38)) → Alike a (innersOf x len p q len) (9 * 2 ^ 50)
+inners-end x len p q i {a} h l k e =
+    let d : i ≡ len = omega arith in
+    subst (λ (n : ℕ). Alike a (innersOf x len p q n) (9 * 2 ^ 50)) d (lighter (9 * 2 ^ 50) e (omega arith))
 
 pub identity-yes : (p q : ℕ) → p ≡ q → gaussianOf (wholeOf (2 ^ 36) 0) (wholeOf 0 0) ≡ identityAt p q
 unfolding identityAt
@@ -89,18 +67,30 @@ pub identity-no : (p q : ℕ) → (p ≡ q → ⊥) → zeroOf ≡ identityAt p 
 unfolding identityAt
 identity-no p q n = rw (ne-eqb p q n)
 
-module _ (x : List Float) (len k c : ℕ) where
-  pub gap-fits : len ≤ 4096 → {a b : Gaussian} → a ≡ innersOf x len (c / k) (c % k) len → b ≡ identityAt (c / k) (c % k) → heft a + heft b < 2 ^ 64
-  gap-fits l e f = rw (e, f) (omega (arith, inners-small x len (c / k) (c % k) len, identity-small (c / k) (c % k)))
+identity-small : (p q : ℕ) → heft (identityAt p q) ≤ 2 ^ 36
+unfolding identityAt heft
+identity-small p q = go (eqb p q)
+  where
+    go : (b : Bool) → cond b (2 ^ 36) 0 + 0 + (0 + 0) ≤ 2 ^ 36
+    go true = omega arith
+    go false = omega arith
 
-  pub made-gap : {a b r : Gaussian} → a ≡ innersOf x len (c / k) (c % k) len → b ≡ identityAt (c / k) (c % k) → r ≡ differenceOf a b → r ≡ gramGap x len k c
+module _ (x : List Float) (len k c : ℕ) {a b : Gaussian} (e : Alike a (innersOf x len (c / k) (c % k) len) (9 * 2 ^ 50)) (f : b ≡ identityAt (c / k) (c % k)) where
+  other : Alike b (identityAt (c / k) (c % k)) (2 ^ 36)
+  other = rw f (alike-self (identityAt (c / k) (c % k)) (2 ^ 36) (identity-small (c / k) (c % k)))
+
+  -- THE BOUND: whatever the numbers, the sums and the gap stay below 2^54
+  pub gap-fits : heft a + heft b < 2 ^ 64
+  gap-fits = omega (arith, sum-light e other)
+
+  pub made-gap : {r : Gaussian} → r ≡ differenceOf a b → Alike r (gramGap x len k c) (2 ^ 54)
   unfolding gramGap innerGap
-  made-gap e f g = g ∙ ap₂ differenceOf e f
+  made-gap g = rw g (lighter (2 ^ 54) (alike-difference e other) (omega arith))
 
-  -- the tolerance divided is the same test as the gap times 2^18
-  pub made-fits : (t : ℕ) {a : Gaussian} {b : Bool} → a ≡ gramGap x len k c → b ≡ bothWithin a (t / 2 ^ 18) → b ≡ gramFits x len k t c
-  unfolding gramFits innerFits gramGap
-  made-fits t e f = f ∙ ap (λ (g : Gaussian). bothWithin g (t / 2 ^ 18)) e ∙ within-divided (innerGap x len (c / k) (c % k)) (2 ^ 18) t (omega arith)
+-- the tolerance divided is the same test as the gap times 2^18
+pub made-fits : (x : List Float) (len k c t : ℕ) {a : Gaussian} {b : Bool} → Alike a (gramGap x len k c) (2 ^ 54) → b ≡ bothWithin a (t / 2 ^ 18) → b ≡ gramFits x len k t c
+unfolding gramFits innerFits gramGap
+made-fits x len k c t e f = f ∙ within-alike (t / 2 ^ 18) e ∙ within-divided (innerGap x len (c / k) (c % k)) (2 ^ 18) t (omega arith)
 
 -- ---- where the cells stand
 

@@ -1,6 +1,5 @@
--- No sum of a product's entry wraps: a term is at most 2^56, sixteen of them 2^60, the gap 2^60 + 2^55. Assumes
--- nothing.
-use mathlib.Core.Path.{_≡_, refl, sym, ap, ap₂, _∙_}
+-- No sum of a product's entry wraps: a term is at most 9 * 2^56, sixteen of them 9 * 2^60. Assumes nothing.
+use mathlib.Core.Path.{_≡_, sym, ap, subst, _∙_}
 use mathlib.Core.Bool.{Bool}
 use mathlib.Core.List.{List}
 use Prim.Native.Nat.{ℕ, zero, suc, _+_, _*_, _/_, _%_, _^_, _≤_, _<_}
@@ -8,104 +7,72 @@ use native.Mathlib.Numerals.{add-one}
 use native.Mathlib.Nat.{mul-le-mul, mul-le-mul-right, mul-comm, add-mul, div-lt-iff-lt-mul}
 use native.Mathlib.Omega.{arith}
 use lib.Ieee.{Float}
-use Rattle.countersign_sums.specs.declared.Whole.{Whole}
 use Rattle.countersign_sums.specs.declared.Gaussian.{Gaussian}
 use Rattle.countersign_sums.specs.Wholes.{wholeOf, weight}
 use Rattle.countersign_sums.specs.Gaussians.{zeroOf, sumOf, differenceOf, productOf, byWhole, bothWithin, heft}
-use Rattle.countersign_sums.proofs.Weights.{heft-sum, heft-difference, heft-product, heft-by}
+use Rattle.countersign_sums.specs.Integers.{Alike}
+use Rattle.countersign_sums.proofs.Weights.{heft-by}
+use Rattle.countersign_sums.proofs.Alikes.{alike-self, lighter, alike-product, alike-sum, alike-difference, product-light, sum-light, within-alike}
 use Rattle.countersign_cells.specs.Cells.{valueAt, wholeCell}
-use Rattle.countersign_cells.proofs.CellBounds.{value-small, cell-small}
+use Rattle.countersign_cells.proofs.CellBounds.{cell-small}
 use Rattle.countersign_products.specs.Products.{term, termsOf, productGap, productFits}
-
--- ---- how large
-
--- a number of at most 2^19 by one of at most 2^18, and that by one of at most 2^19
-pub scaled-small : (x y : ℕ) → x ≤ 2 ^ 19 → y ≤ 2 ^ 18 → x * y ≤ 2 ^ 37
-scaled-small x y p q = mul-le-mul {n₁ = x} {m₁ = y} {n₂ = 2 ^ 19} {m₂ = 2 ^ 18} p q
-
-pub by-small : (u : List Float) (x : ℕ) (s : List Float) (t : ℕ) → heft (wholeCell u x) * weight (valueAt s t) ≤ 2 ^ 37
-by-small u x s t = scaled-small (heft (wholeCell u x)) (weight (valueAt s t)) (cell-small u x) (value-small s t)
-
-pub times-small : (x y : ℕ) → x ≤ 2 ^ 37 → y ≤ 2 ^ 19 → x * y ≤ 2 ^ 56
-times-small x y p q = mul-le-mul {n₁ = x} {m₁ = y} {n₂ = 2 ^ 37} {m₂ = 2 ^ 19} p q
-
-module _ (u s vt : List Float) (m n i j : ℕ) where
-  pub scaled-heft : (t : ℕ) → heft (byWhole (wholeCell u (t * m + i)) (valueAt s t)) ≤ 2 ^ 37
-  scaled-heft t = omega (arith, heft-by (wholeCell u (t * m + i)) (valueAt s t), by-small u (t * m + i) s t)
-
-  pub term-small : (t : ℕ) → heft (term u s vt m n i j t) ≤ 2 ^ 56
-  unfolding term
-  term-small t =
-      let a = byWhole (wholeCell u (t * m + i)) (valueAt s t) in
-      let b = wholeCell vt (t * n + j) in
-      omega (arith, heft-product a b, times-small (heft a) (heft b) (scaled-heft t) (cell-small vt (t * n + j)))
-
-  pub terms-small : (t : ℕ) → heft (termsOf u s vt m n i j t) ≤ t * 2 ^ 56
-  unfolding termsOf heft
-  terms-small zero = omega arith
-  terms-small (suc t) = omega (arith, heft-sum (termsOf u s vt m n i j t) (term u s vt m n i j t), terms-small t, term-small t)
-
--- THE BOUND: whatever the numbers, no part of a gap reaches 2^61
-pub gap-small : (a u s vt : List Float) (m n k c : ℕ) → k ≤ 16 → heft (productGap a u s vt m n k c) ≤ 2 ^ 60 + 2 ^ 55
-unfolding productGap
-gap-small a u s vt m n k c h =
-    let x = byWhole (wholeCell a c) (wholeOf (2 ^ 36) 0) in
-    let y = termsOf u s vt m n (c % m) (c / m) k in
-    omega (arith, heft-difference x y, heft-by (wholeCell a c) (wholeOf (2 ^ 36) 0), cell-small a c, terms-small u s vt m n (c % m) (c / m) k)
 
 -- ---- how the functions' results make them
 
-pub terms-none : (u s vt : List Float) (m n i j : ℕ) → zeroOf ≡ termsOf u s vt m n i j 0
-unfolding termsOf
-terms-none u s vt m n i j = refl
+module _ (u s vt : List Float) (m n i j t : ℕ) {y z : Gaussian} (e : Alike y (byWhole (wholeCell u (t * m + i)) (valueAt s t)) (3 * 2 ^ 37)) (f : Alike z (wholeCell vt (t * n + j)) (3 * 2 ^ 19)) where
+  pub term-fits : heft y * heft z < 2 ^ 64
+  term-fits = omega (arith, product-light e f)
 
-one-more : (u s vt : List Float) (m n i j t : ℕ) → sumOf (termsOf u s vt m n i j t) (term u s vt m n i j t) ≡ termsOf u s vt m n i j (suc t)
-unfolding termsOf
-one-more u s vt m n i j t = refl
-
-pub terms-more : (u s vt : List Float) (m n i j t : ℕ) {x y z : Gaussian} → x ≡ termsOf u s vt m n i j t → y ≡ term u s vt m n i j t → z ≡ sumOf x y
-    → z ≡ termsOf u s vt m n i j (t + 1)
-terms-more u s vt m n i j t e f g = g ∙ ap₂ sumOf e f ∙ one-more u s vt m n i j t ∙ ap (termsOf u s vt m n i j) (sym (add-one t))
-
-pub terms-end : (u s vt : List Float) (m n i j t k : ℕ) {x : Gaussian} → t ≤ k → k ≤ t → x ≡ termsOf u s vt m n i j t → x ≡ termsOf u s vt m n i j k
-terms-end u s vt m n i j t k h l e = let d : t ≡ k = omega arith in e ∙ ap (termsOf u s vt m n i j) d
-
-pub sum-fits : (u s vt : List Float) (m n i j t k : ℕ) {x y : Gaussian} → x ≡ termsOf u s vt m n i j t → y ≡ term u s vt m n i j t → t < k → k ≤ 16
-    → heft x + heft y < 2 ^ 64
-sum-fits u s vt m n i j t k e f h l = rw (e, f) (omega (arith, terms-small u s vt m n i j t, term-small u s vt m n i j t))
-
-pub by-fits : (u s : List Float) (x t : ℕ) {y : Gaussian} {w : Whole} → y ≡ wholeCell u x → w ≡ valueAt s t → heft y * weight w < 2 ^ 64
-by-fits u s x t e f = rw (e, f) (omega (arith, by-small u x s t))
-
-module _ (u s vt : List Float) (m n i j t : ℕ) where
-  pub term-fits : {x y z : Gaussian} {w : Whole} → x ≡ wholeCell u (t * m + i) → w ≡ valueAt s t → y ≡ byWhole x w → z ≡ wholeCell vt (t * n + j) → heft y * heft z < 2 ^ 64
-  term-fits e f g h =
-      rw (g, e, f, h)
-      (omega (arith, times-small (heft (byWhole (wholeCell u (t * m + i)) (valueAt s t))) (heft (wholeCell vt (t * n + j))) (scaled-heft u s vt m n i j t) (cell-small vt (t * n + j))))
-
-  pub made-term : {x y z r : Gaussian} {w : Whole} → x ≡ wholeCell u (t * m + i) → w ≡ valueAt s t → y ≡ byWhole x w → z ≡ wholeCell vt (t * n + j) → r ≡ productOf y z
-      → r ≡ term u s vt m n i j t
+  pub made-term : {r : Gaussian} → r ≡ productOf y z → Alike r (term u s vt m n i j t) (9 * 2 ^ 56)
   unfolding term
-  made-term e f g h k = k ∙ ap₂ productOf (g ∙ ap₂ byWhole e f) h
+  made-term g = rw g (lighter (9 * 2 ^ 56) (alike-product e f) (omega arith))
+
+zero-light : heft zeroOf ≤ 0 * (9 * 2 ^ 56)
+unfolding heft
+zero-light = omega arith
+
+module _ (u s vt : List Float) (m n i j : ℕ) where
+  pub terms-none : Alike zeroOf (termsOf u s vt m n i j 0) (0 * (9 * 2 ^ 56))
+  unfolding termsOf
+  terms-none = alike-self zeroOf (0 * (9 * 2 ^ 56)) zero-light
+
+  one-more : (t : ℕ) → sumOf (termsOf u s vt m n i j t) (term u s vt m n i j t) ≡ termsOf u s vt m n i j (t + 1)
+  unfolding termsOf
+  one-more t = ap (termsOf u s vt m n i j) (sym (add-one t))
+
+  module _ (t : ℕ) {x y : Gaussian} (e : Alike x (termsOf u s vt m n i j t) (t * (9 * 2 ^ 56))) (f : Alike y (term u s vt m n i j t) (9 * 2 ^ 56)) where
+    pub terms-more : {z : Gaussian} → z ≡ sumOf x y → Alike z (termsOf u s vt m n i j (t + 1)) ((t + 1) * (9 * 2 ^ 56))
+    terms-more g = rw (g, sym (one-more t)) (lighter ((t + 1) * (9 * 2 ^ 56)) (alike-sum e f) (omega arith))
+
+    pub sum-fits : (k : ℕ) → t < k → k ≤ 16 → heft x + heft y < 2 ^ 64
+    sum-fits k h l = omega (arith, sum-light e f)
+
+  pub terms-end : (t k : ℕ) {x : Gaussian} → t ≤ k → k ≤ t → k ≤ 16 → Alike x (termsOf u s vt m n i j t) (t * (9 * 2 ^ 56)) → Alike x (termsOf u s vt m n i j k) (9 * 2 ^ 60)
+  terms-end t k {x} h l b e =
+      let d : t ≡ k = omega arith in
+      subst (λ (c : ℕ). Alike x (termsOf u s vt m n i j c) (9 * 2 ^ 60)) d (lighter (9 * 2 ^ 60) e (omega arith))
 
 pub one-fits : (a : List Float) (c : ℕ) {x : Gaussian} → x ≡ wholeCell a c → heft x * weight (wholeOf (2 ^ 36) 0) < 2 ^ 64
 one-fits a c e = rw e (omega (arith, cell-small a c))
 
-module _ (a u s vt : List Float) (m n k c : ℕ) where
-  pub gap-fits : k ≤ 16 → {x y z : Gaussian} → y ≡ termsOf u s vt m n (c % m) (c / m) k → x ≡ wholeCell a c → z ≡ byWhole x (wholeOf (2 ^ 36) 0) → heft z + heft y < 2 ^ 64
-  gap-fits l f e g =
-      rw (g, e, f)
-      (omega (arith, heft-by (wholeCell a c) (wholeOf (2 ^ 36) 0), cell-small a c, terms-small u s vt m n (c % m) (c / m) k))
+module _ (a u s vt : List Float) (m n k c : ℕ) {x y z : Gaussian} (f : Alike y (termsOf u s vt m n (c % m) (c / m) k) (9 * 2 ^ 60)) (e : x ≡ wholeCell a c) (g : z ≡ byWhole x (wholeOf (2 ^ 36) 0)) where
+  entry-alike : Alike z (byWhole (wholeCell a c) (wholeOf (2 ^ 36) 0)) (2 ^ 55)
+  entry-alike =
+      rw (g, e)
+      (alike-self (byWhole (wholeCell a c) (wholeOf (2 ^ 36) 0)) (2 ^ 55) (omega (arith, heft-by (wholeCell a c) (wholeOf (2 ^ 36) 0), cell-small a c)))
 
-  pub made-gap : {x y z r : Gaussian} → y ≡ termsOf u s vt m n (c % m) (c / m) k → x ≡ wholeCell a c → z ≡ byWhole x (wholeOf (2 ^ 36) 0) → r ≡ differenceOf z y
-      → r ≡ productGap a u s vt m n k c
+  -- THE BOUND: whatever the numbers, the sums and the gap stay below 10 * 2^60
+  pub gap-fits : heft z + heft y < 2 ^ 64
+  gap-fits = omega (arith, sum-light entry-alike f)
+
+  pub made-gap : {r : Gaussian} → r ≡ differenceOf z y → Alike r (productGap a u s vt m n k c) (10 * 2 ^ 60)
   unfolding productGap
-  made-gap f e g h = h ∙ ap₂ differenceOf (g ∙ ap (λ (x : Gaussian). byWhole x (wholeOf (2 ^ 36) 0)) e) f
+  made-gap h = rw h (lighter (10 * 2 ^ 60) (alike-difference entry-alike f) (omega arith))
 
-pub made-fits : (a u s vt : List Float) (m n k t c : ℕ) {x : Gaussian} {b : Bool} → x ≡ productGap a u s vt m n k c → b ≡ bothWithin x t
+pub made-fits : (a u s vt : List Float) (m n k t c : ℕ) {x : Gaussian} {b : Bool} → Alike x (productGap a u s vt m n k c) (10 * 2 ^ 60) → b ≡ bothWithin x t
     → b ≡ productFits a u s vt m n k t c
 unfolding productFits
-made-fits a u s vt m n k t c e f = f ∙ ap (λ (g : Gaussian). bothWithin g t) e
+made-fits a u s vt m n k t c e f = f ∙ within-alike t e
 
 -- ---- where the cells stand
 

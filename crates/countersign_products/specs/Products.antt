@@ -9,6 +9,7 @@ use Rattle.countersign_sums.specs.declared.Gaussian.{Gaussian}
 use Rattle.countersign_sums.specs.Wholes.{wholeOf}
 use Rattle.countersign_sums.specs.Gaussians.{zeroOf, sumOf, differenceOf, productOf, byWhole, bothWithin}
 use Rattle.countersign_cells.specs.Cells.{valueAt, wholeCell}
+use Rattle.countersign_shifted.specs.Shifted.{Shifted}
 
 -- the sizes of an accepted call
 pub record Factors (m n k u s vt : ℕ) : Type 0 where
@@ -16,6 +17,12 @@ pub record Factors (m n k u s vt : ℕ) : Type 0 where
   pub u-is : u ≡ 2 * (m * k)
   pub s-is : s ≡ k
   pub vt-is : vt ≡ 2 * (k * n)
+
+-- the numbers of the three factors, as they stand to be read
+pub record Read (u : List Float) (us : List ℕ) (s : List Float) (ss : List ℕ) (vt : List Float) (vs : List ℕ) : Type 0 where
+  pub u-read : Shifted u us
+  pub s-read : Shifted s ss
+  pub vt-read : Shifted vt vs
 
 -- what value t adds to row i and column j of the product: U[i,t] times s[t], times V†[t,j]; three numbers of 2^-18
 unfoldable pub term : List Float → List Float → List Float → ℕ → ℕ → ℕ → ℕ → ℕ → Gaussian

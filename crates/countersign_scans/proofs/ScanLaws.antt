@@ -4,9 +4,9 @@ use mathlib.Core.Path.{_≡_, refl, sym, ap, ap₂, subst, _∙_}
 use mathlib.Core.Bool.{Bool, true, false, cond, _&&_}
 use mathlib.Core.Logic.{⊎-elim}
 use mathlib.Core.List.{List}
-use Prim.Native.Nat.{ℕ, zero, suc, _+_, _-_, _^_, _≤_, _<_}
+use Prim.Native.Nat.{ℕ, zero, suc, _+_, _-_, _*_, _/_, _%_, _^_, _≤_, _<_}
 use native.Mathlib.Numerals.{add-one}
-use native.Mathlib.Nat.{eq-or-lt-of-le}
+use native.Mathlib.Nat.{eq-or-lt-of-le, add-mul, mul-le-mul-right, div-add-mod', mod-lt, div-lt-iff-lt-mul}
 use native.Mathlib.Omega.{arith}
 use lib.Ieee.{Float}
 use Rattle.countersign_sums.specs.declared.Whole.{Whole}
@@ -16,6 +16,10 @@ use Rattle.countersign_cells.proofs.CellBounds.{value-small}
 use Rattle.countersign_scans.specs.Scans.{firstFail, valueFits}
 
 -- ---- a scan of n cells, at c
+
+pub positive : (k c : ℕ) → c < k * k → 0 < k
+positive zero c h = absurd (omega arith)
+positive (suc k) c h = omega arith
 
 left-more : (n c : ℕ) → c < n → n - c ≡ suc (n - (c + 1))
 left-more n c h = omega arith
@@ -91,6 +95,25 @@ holds-from f n h (suc left) i e = step f i left true (h i (omega arith)) ∙ hol
 
 pub all-hold : (f : ℕ → Bool) (n : ℕ) → ((c : ℕ) → c < n → f c ≡ true) → firstFail f 0 n ≡ n
 all-hold f n h = holds-from f n h n 0 (omega arith)
+
+-- ---- a matrix whose cells (p, q) and (q, p) hold or fail together
+
+-- what was passed holds
+pub passed-holds : (f : ℕ → Bool) (n c : ℕ) → firstFail f 0 n ≡ firstFail f c (n - c) → (d : ℕ) → d < c → f d ≡ true
+passed-holds f n c g d h = before-holds f 0 n d (omega arith) (omega (arith, g, fail-least f c (n - c)))
+
+module _ (f : ℕ → Bool) (k : ℕ) (swap : (p q : ℕ) → p < k → q < k → f (p * k + q) ≡ f (q * k + p)) where
+  -- below the diagonal a cell holds where all before it do
+  pub mirrored-holds : (n c : ℕ) → firstFail f 0 n ≡ firstFail f c (n - c) → c < k * k → c % k < c / k → f c ≡ true
+  mirrored-holds n c g h l =
+      let p = c / k in
+      let q = c % k in
+      let some : 0 < k = positive k c h in
+      let hp : p < k = div-lt-iff-lt-mul some .1 h in
+      let hq : q < k = mod-lt c some in
+      let e : p * k + q ≡ c = div-add-mod' c k in
+      let below : q * k + p < c = omega (arith, e, mul-le-mul-right {m = q + 1} {n = p} k (omega arith), add-mul q 1 k) in
+      sym (ap f e) ∙ swap p q hp hq ∙ passed-holds f n c g (q * k + p) below
 
 -- ---- the values
 

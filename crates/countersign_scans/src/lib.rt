@@ -4,7 +4,8 @@ use countersign_sums::Whole;
 ghost use mathlib.Core.Path.{_≡_};
 ghost use Prim.Native.Nat.{_*_, _<_, _≤_};
 ghost use lib.ListN.{length};
-ghost use Rattle.countersign_products.specs.Products.{Factors, productFits};
+ghost use Rattle.countersign_shifted.specs.Shifted.{Shifted};
+ghost use Rattle.countersign_products.specs.Products.{Factors, Read, productFits};
 ghost use Rattle.countersign_grams.specs.Grams.{gramFits};
 ghost use Rattle.countersign_scans.specs.Scans.{firstFail, valueFits};
 
@@ -12,20 +13,24 @@ ghost use Rattle.countersign_scans.specs.Scans.{firstFail, valueFits};
 pub fn first_product(
     a: &[f64],
     u: &[f64],
+    us: &[u32],
     s: &[f64],
+    ss: &[u32],
     vt: &[f64],
+    vs: &[u32],
     m: usize,
     n: usize,
     k: usize,
     tolerance: u64,
 ) -> usize
+    requires { ⌜ Read (now u) (now us) (now s) (now ss) (now vt) (now vs) ⌝ }
     requires { ⌜ Factors m n k (length (now u)) (length (now s)) (length (now vt)) × (length (now a) ≡ 2 * (m * n)) × (m * n ≤ 4096) ⌝ }
     ensures { λ r. ⌜ r ≡ firstFail (productFits (now (a .entry)) (now (u .entry)) (now (s .entry)) (now (vt .entry)) m n k tolerance) 0 (m * n) ⌝ }
 {
     let count = m * n;
     let mut c = 0;
     while c < count {
-        if countersign_products::fits(a, u, s, vt, m, n, k, tolerance, c) {
+        if countersign_products::fits(a, u, us, s, ss, vt, vs, m, n, k, tolerance, c) {
             c += 1;
         } else {
             return c;
@@ -34,18 +39,23 @@ pub fn first_product(
     c
 }
 
-// The first cell of the Gram matrix of k vectors of `len` cells that misses the identity.
-pub fn first_inner(x: &[f64], len: usize, k: usize, tolerance: u64) -> usize
-    requires { ⌜ (length (now x) ≡ 2 * (k * len)) × (k * len ≤ 4096) × (k * k ≤ 256) ⌝ }
+// The first cell of the Gram matrix of k vectors of `len` cells that misses the identity. A cell below the diagonal
+// holds where its mirror image does, which was looked at before.
+pub fn first_inner(x: &[f64], xs: &[u32], len: usize, k: usize, tolerance: u64) -> usize
+    requires { ⌜ Shifted (now x) (now xs) × (length (now x) ≡ 2 * (k * len)) × (k * len ≤ 4096) × (k * k ≤ 256) ⌝ }
     ensures { λ r. ⌜ r ≡ firstFail (gramFits (now (x .entry)) len k tolerance) 0 (k * k) ⌝ }
 {
     let count = k * k;
     let mut c = 0;
     while c < count {
-        if countersign_grams::fits(x, len, k, tolerance, c) {
+        if c % k < c / k {
             c += 1;
         } else {
-            return c;
+            if countersign_grams::fits(x, xs, len, k, tolerance, c) {
+                c += 1;
+            } else {
+                return c;
+            }
         }
     }
     c

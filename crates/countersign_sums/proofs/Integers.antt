@@ -14,7 +14,7 @@ use Rattle.countersign_sums.specs.declared.Whole.{Whole}
 use Rattle.countersign_sums.specs.declared.Gaussian.{Gaussian}
 use Rattle.countersign_sums.specs.Wholes.{wholeOf, plusOf, timesOf, oppositeOf, apart, atMost}
 use Rattle.countersign_sums.specs.Gaussians.{sumOf, differenceOf, productOf, byWhole, conjugateOf, bothWithin, timesWithin}
-use Rattle.countersign_sums.specs.Integers.{value, Pair, plusPair, minusPair, timesPair, scalePair, conjugatePair}
+use Rattle.countersign_sums.specs.Integers.{value, values, Pair, plusPair, minusPair, timesPair, scalePair, conjugatePair}
 
 -- ---- two whole numbers that stand for the same integer: what is over one and under the other is as much as the other way round
 
@@ -158,9 +158,6 @@ at-most-is a b =
     ∙ of-at-most (value a) (value b)
 
 -- ---- complex numbers
-
-unfoldable pub values : Gaussian → Pair
-values a = (value (a .re), value (a .im))
 
 pub values-sum : (a b : Gaussian) → values (sumOf a b) ≡ plusPair (values a) (values b)
 unfolding values sumOf

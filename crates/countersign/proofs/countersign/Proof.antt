@@ -21,13 +21,27 @@ returns c = record { answer = c .before .check .ensures; finding = done-old _ _ 
 smaller-size-requires : tie.Need-smaller-size-requires
 smaller-size-requires c κs = search needs
 
-judge-requires : tie.Need-judge-requires
-judge-requires c κs = accepted _ _ _ _ _ _ (was-done _ _ (c .before .before .before .check .ensures) (c .before .enum-told .given .1)) (c .smaller-size .ensures)
+judge-few-requires : tie.Need-judge-few-requires
+judge-few-requires c κs = (accepted _ _ _ _ _ _ (was-done _ _ (c .before .before .before .before .check .ensures) (c .before .before .enum-told .given .1)) (c .before .smaller-size .ensures), c .if1 .taken)
 
 returns-2 : tie.Need-returns-2
-returns-2 c = record { answer = ap paper (sym (c .before .before .enum-told .given .1)) ∙ c .before .before .before .before .check .ensures; finding = at-side _ _ _ _ _ _ _ (c .before .smaller-size .ensures) (c .judge .ensures) }
+returns-2 c = record { answer = ap paper (sym (c .before .before .before .enum-told .given .1)) ∙ c .before .before .before .before .before .check .ensures; finding = at-side _ _ _ _ _ _ _ (c .before .before .smaller-size .ensures) (c .judge-few .ensures) }
+
+judge-many-requires : tie.Need-judge-many-requires
+judge-many-requires c κs = accepted _ _ _ _ _ _ (was-done _ _ (c .before .before .before .before .check .ensures) (c .before .before .enum-told .given .1)) (c .before .smaller-size .ensures)
+
+returns-3 : tie.Need-returns-3
+returns-3 c = record { answer = ap paper (sym (c .before .before .before .enum-told .given .1)) ∙ c .before .before .before .before .before .check .ensures; finding = at-side _ _ _ _ _ _ _ (c .before .before .smaller-size .ensures) (c .judge-many .ensures) }
 
 pub countersign-spec : {M : Type 1} → statement M
 countersign-spec =
     tie.close
-    (tie.spec check-requires enum-told returns smaller-size-requires judge-requires returns-2)
+    (tie.spec
+    check-requires
+    enum-told
+    returns
+    smaller-size-requires
+    judge-few-requires
+    returns-2
+    judge-many-requires
+    returns-3)

@@ -2,7 +2,6 @@
 use mathlib.Core.Path.{_≡_}
 use Prim.Native.Nat.{_≤_, _-_}
 use lib.ListN.{length}
-use native.Mathlib.Omega.{arith}
 use borrow.Author.Needs.{needs}
 use Rattle.countersign_cases.proofs.blocks.Statement.{statement}
 use Rattle.countersign_cases.proofs.blocks.Tie as tie

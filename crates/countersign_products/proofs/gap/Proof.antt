@@ -7,13 +7,13 @@ use Rattle.countersign_products.proofs.gap.Statement.{statement}
 use Rattle.countersign_products.proofs.gap.Tie as tie
 
 rem-entry : tie.Need-rem-entry
-rem-entry c = omega (arith, rows-some _ _ _ (c .before .before .before .before .pre .2))
+rem-entry c = omega (arith, rows-some _ _ _ (c .before .before .before .before .before .before .before .pre .1 .2))
 
 div-entry : tie.Need-div-entry
-div-entry c = omega (arith, rows-some _ _ _ (c .before .before .before .before .pre .2))
+div-entry c = omega (arith, rows-some _ _ _ (c .before .before .before .before .before .before .before .pre .1 .2))
 
 entry-requires : tie.Need-entry-requires
-entry-requires c κs = let b = c .before .before .before .before in (b .pre .0, mod-lt _ (rows-some _ _ _ (b .pre .2)), column-in _ _ _ (b .pre .2))
+entry-requires c κs = let b = c .before .before .before .before .before .before .before in (b .pre .0, (b .pre .1 .0, mod-lt _ (rows-some _ _ _ (b .pre .1 .2)), column-in _ _ _ (b .pre .1 .2)))
 
 cell-at-requires : tie.Need-cell-at-requires
 cell-at-requires c κs = search needs
@@ -22,7 +22,7 @@ by-requires : tie.Need-by-requires
 by-requires c κs = one-fits _ _ (c .cell-at .ensures)
 
 minus-requires : tie.Need-minus-requires
-minus-requires c κs = gap-fits _ _ _ _ _ _ _ _ (c .before .before .before .before .before .before .before .pre .0 .most) (c .before .before .entry .ensures) (c .before .cell-at .ensures) (c .by .ensures)
+minus-requires c κs = gap-fits _ _ _ _ _ _ _ _ (c .before .before .entry .ensures) (c .before .cell-at .ensures) (c .by .ensures)
 
 returns : tie.Need-returns
 returns c = made-gap _ _ _ _ _ _ _ _ (c .before .before .before .entry .ensures) (c .before .before .cell-at .ensures) (c .before .by .ensures) (c .minus .ensures)

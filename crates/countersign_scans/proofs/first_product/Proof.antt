@@ -11,10 +11,10 @@ use Rattle.countersign_scans.proofs.first_product.Statement.{statement}
 use Rattle.countersign_scans.proofs.first_product.Tie as tie
 
 abbrev Inv-loop : tie.InvT-loop
-Inv-loop a u s vt m n k tolerance count c₀ c = (c ≤ m * n) × (firstFail (productFits a u s vt m n k tolerance) 0 (m * n) ≡ firstFail (productFits a u s vt m n k tolerance) c (m * n - c))
+Inv-loop a u us s ss vt vs m n k tolerance count c₀ c = (c ≤ m * n) × (firstFail (productFits a u s vt m n k tolerance) 0 (m * n) ≡ firstFail (productFits a u s vt m n k tolerance) c (m * n - c))
 
 abbrev μ-loop : tie.MeasureT-loop
-μ-loop a u s vt m n k tolerance count c₀ c = m * n - c
+μ-loop a u us s ss vt vs m n k tolerance count c₀ c = m * n - c
 
 mul-count : tie.Need-mul-count Inv-loop μ-loop
 mul-count c = search needs
@@ -23,7 +23,7 @@ loop-holds : tie.Need-loop-holds Inv-loop μ-loop
 loop-holds c = (omega arith, scan-begin _ _)
 
 fits-requires : tie.Need-fits-requires Inv-loop μ-loop
-fits-requires c κs = (c .before .before .before .before .before .before .pre .0, c .before .before .before .before .before .before .pre .1, c .loop-test .taken)
+fits-requires c κs = let b = c .before .before .before .before .before .before .before .before .before in (b .pre .0, (b .pre .1 .0, b .pre .1 .1, c .loop-test .taken))
 
 add-c : tie.Need-add-c Inv-loop μ-loop
 add-c c = search needs

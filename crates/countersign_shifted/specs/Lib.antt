@@ -1,0 +1,2 @@
+-- What the contracts of `countersign_shifted` cite.
+pub mod Shifted
