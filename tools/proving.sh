@@ -1,6 +1,7 @@
 # shellcheck shell=bash
 # What ./certify and tools/library share, to be sourced: which crates a crate stands on, whether what was proved still stands,
-# a run of `rt check` under a lock that says how far it is, and what starts a program on this machine. Each needs $who, the name that its sentences begin with.
+# a run of `rt check` under a lock that says how far it is, and what starts a program on this machine. Each but the last needs $who, the
+# name that its sentences begin with.
 # Paths are relative to a base folder, which has crates.txt and crates/; the sums are of the files' contents.
 
 # The crate NAME and those of crates.txt that it stands on, one to a line.

@@ -19,6 +19,7 @@ use Rattle.countersign_products.specs.Products.{term, termsOf, productGap, prod
 use Rattle.countersign_products.proofs.Bounds.{rows-some, column-in}
 use Rattle.countersign_grams.specs.Grams.{inner, innersOf, identityAt, innerGap, innerFits, gramFits}
 use Rattle.countersign_grams.proofs.Bounds.{some, first-in}
+use Rattle.countersign_grams.proofs.Theorems.{gram-at, at-digits}
 use Rattle.countersign_scans.specs.Scans.{valueFits}
 use Rattle.countersign.specs.Reader.{numberZ, cellZ, productZ, innerZ, identityZ, Within, Orthonormal}
 
@@ -146,14 +147,9 @@ inner-holds : (x : List Float) (len t p q : ℕ) → Within (minusPair (innerZ x
 unfolding innerFits
 inner-holds x len t p q h = times-of-near (innerGap x len p q) (2 ^ 18) t (subst (λ (z : Pair). Within z (2 ^ 18) t) (sym (inner-gap-is x len p q)) h)
 
-gram-at : (x : List Float) (len k t c : ℕ) → gramFits x len k t c ≡ innerFits x len t (c / k) (c % k)
-unfolding gramFits
-gram-at x len k t c = refl
-
 pub grams-near : (x : List Float) (len k t : ℕ) → ((c : ℕ) → c < k * k → gramFits x len k t c ≡ true) → Orthonormal x len k t
 grams-near x len k t f p q hp hq =
-    inner-near x len t p q
-    (sym (ap₂ (λ (y z : ℕ). innerFits x len t y z) (digits-div p hq) (digits-mod p hq)) ∙ sym (gram-at x len k t (p * k + q)) ∙ f (p * k + q) (digits-lt hp hq))
+    inner-near x len t p q (sym (at-digits x len k t p q hq) ∙ f (p * k + q) (digits-lt hp hq))
 
 pub grams-hold : (x : List Float) (len k t : ℕ) → Orthonormal x len k t → (c : ℕ) → c < k * k → gramFits x len k t c ≡ true
 grams-hold x len k t f c h =

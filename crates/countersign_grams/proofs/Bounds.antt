@@ -13,7 +13,7 @@ use Rattle.countersign_sums.specs.declared.Gaussian.{Gaussian}
 use Rattle.countersign_sums.specs.Wholes.{wholeOf}
 use Rattle.countersign_sums.specs.Gaussians.{gaussianOf, zeroOf, sumOf, differenceOf, productOf, conjugateOf, bothWithin, heft}
 use Rattle.countersign_sums.specs.Integers.{Alike}
-use Rattle.countersign_sums.proofs.Alikes.{alike-self, lighter, alike-conjugate, alike-product, alike-sum, alike-difference, product-light, sum-light, within-alike}
+use Rattle.countersign_sums.proofs.Alikes.{alike-self, lighter, alike-conjugate, alike-product, alike-none, alike-more, alike-difference, product-light, sum-light, within-alike}
 use Rattle.countersign_sums.proofs.Parts.{within-divided}
 use Rattle.countersign_cells.specs.Cells.{wholeCell}
 use Rattle.countersign_grams.specs.Grams.{inner, innersOf, identityAt, innerGap, gramGap, innerFits, gramFits}
@@ -35,13 +35,9 @@ pub made-inner : (x : List Float) (len p q i : ℕ) {y z w r : Gaussian} → Ali
 unfolding inner
 made-inner x len p q i e g f h = inner-alike x (p * len + i) (q * len + i) e g f h
 
-zero-light : heft zeroOf ≤ 0 * (9 * 2 ^ 38)
-unfolding heft
-zero-light = omega arith
-
 pub inners-none : (x : List Float) (len p q : ℕ) → Alike zeroOf (innersOf x len p q 0) (0 * (9 * 2 ^ 38))
 unfolding innersOf
-inners-none x len p q = alike-self zeroOf (0 * (9 * 2 ^ 38)) zero-light
+inners-none x len p q = alike-none (9 * 2 ^ 38)
 
 one-more : (x : List Float) (len p q i : ℕ) → sumOf (innersOf x len p q i) (inner x len p q i) ≡ innersOf x len p q (i + 1)
 unfolding innersOf
@@ -49,7 +45,7 @@ one-more x len p q i = ap (innersOf x len p q) (sym (add-one i))
 
 module _ (x : List Float) (len p q i : ℕ) {a b : Gaussian} (e : Alike a (innersOf x len p q i) (i * (9 * 2 ^ 38))) where
   pub inners-more : Alike b (inner x len p q i) (9 * 2 ^ 38) → {r : Gaussian} → r ≡ sumOf a b → Alike r (innersOf x len p q (i + 1)) ((i + 1) * (9 * 2 ^ 38))
-  inners-more f g = rw (g, sym (one-more x len p q i)) (lighter ((i + 1) * (9 * 2 ^ 38)) (alike-sum e f) (omega arith))
+  inners-more f g = rw (sym (one-more x len p q i)) (alike-more i (9 * 2 ^ 38) e f g)
 
   pub sum-fits : Alike b (inner x len p q i) (9 * 2 ^ 38) → i < len → len ≤ 4096 → heft a + heft b < 2 ^ 64
   sum-fits f h l = omega (arith, sum-light e f)

@@ -2,10 +2,11 @@
 use mathlib.Core.Path.{_≡_, refl, sym, ap, ap₂, _∙_}
 use mathlib.Core.Bool.{Bool, cond, _&&_}
 use mathlib.Core.List.{List}
-use Prim.Native.Nat.{ℕ, zero, suc, _+_, _-_, _*_, _^_}
+use Prim.Native.Nat.{ℕ, zero, suc, _+_, _-_, _*_, _/_, _%_, _^_, _<_}
 use native.Mathlib.Nat.{mul-comm, add-comm}
 use native.Mathlib.Decide.{ℕ-discrete}
 use native.Mathlib.Omega.{arith}
+use lib.Arith.{digits-div, digits-mod}
 use lib.Dec.{leb, eqb}
 use lib.Ieee.{Float}
 use borrow.Author.Tests.{eq-eqb, ne-eqb}
@@ -14,7 +15,7 @@ use Rattle.countersign_sums.specs.declared.Gaussian.{Gaussian}
 use Rattle.countersign_sums.specs.Wholes.{wholeOf, plusOf, timesOf, oppositeOf, apart}
 use Rattle.countersign_sums.specs.Gaussians.{gaussianOf, sumOf, differenceOf, productOf, conjugateOf, timesWithin}
 use Rattle.countersign_cells.specs.Cells.{wholeCell}
-use Rattle.countersign_grams.specs.Grams.{inner, innersOf, identityAt, innerGap, innerFits}
+use Rattle.countersign_grams.specs.Grams.{inner, innersOf, identityAt, innerGap, innerFits, gramFits}
 
 times-comm : (a b : Whole) → timesOf a b ≡ timesOf b a
 times-comm a b =
@@ -87,3 +88,16 @@ within-swap a k t =
 pub fits-swap : (x : List Float) (len t p q : ℕ) → innerFits x len t q p ≡ innerFits x len t p q
 unfolding innerFits
 fits-swap x len t p q = ap (λ (g : Gaussian). timesWithin g (2 ^ 18) t) (gap-swap x len p q) ∙ within-swap (innerGap x len p q) (2 ^ 18) t
+
+-- Cell c is of the vectors c / k and c % k.
+pub gram-at : (x : List Float) (len k t c : ℕ) → gramFits x len k t c ≡ innerFits x len t (c / k) (c % k)
+unfolding gramFits
+gram-at x len k t c = refl
+
+-- So cell p * k + q is of the vectors p and q.
+pub at-digits : (x : List Float) (len k t p q : ℕ) → q < k → gramFits x len k t (p * k + q) ≡ innerFits x len t p q
+at-digits x len k t p q h = gram-at x len k t (p * k + q) ∙ ap₂ (λ (a b : ℕ). innerFits x len t a b) (digits-div p h) (digits-mod p h)
+
+-- The same of the cells p * k + q and q * k + p.
+pub gram-swap : (x : List Float) (len k t p q : ℕ) → p < k → q < k → gramFits x len k t (p * k + q) ≡ gramFits x len k t (q * k + p)
+gram-swap x len k t p q hp hq = at-digits x len k t p q hq ∙ sym (fits-swap x len t p q) ∙ sym (at-digits x len k t q p hp)

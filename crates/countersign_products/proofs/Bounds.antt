@@ -12,7 +12,7 @@ use Rattle.countersign_sums.specs.Wholes.{wholeOf, weight}
 use Rattle.countersign_sums.specs.Gaussians.{zeroOf, sumOf, differenceOf, productOf, byWhole, bothWithin, heft}
 use Rattle.countersign_sums.specs.Integers.{Alike}
 use Rattle.countersign_sums.proofs.Weights.{heft-by}
-use Rattle.countersign_sums.proofs.Alikes.{alike-self, lighter, alike-product, alike-sum, alike-difference, product-light, sum-light, within-alike}
+use Rattle.countersign_sums.proofs.Alikes.{alike-self, lighter, alike-product, alike-none, alike-more, alike-difference, product-light, sum-light, within-alike}
 use Rattle.countersign_cells.specs.Cells.{valueAt, wholeCell}
 use Rattle.countersign_cells.proofs.CellBounds.{cell-small}
 use Rattle.countersign_products.specs.Products.{term, termsOf, productGap, productFits}
@@ -27,14 +27,10 @@ module _ (u s vt : List Float) (m n i j t : ℕ) {y z : Gaussian} (e : Alike y (
   unfolding term
   made-term g = rw g (lighter (9 * 2 ^ 56) (alike-product e f) (omega arith))
 
-zero-light : heft zeroOf ≤ 0 * (9 * 2 ^ 56)
-unfolding heft
-zero-light = omega arith
-
 module _ (u s vt : List Float) (m n i j : ℕ) where
   pub terms-none : Alike zeroOf (termsOf u s vt m n i j 0) (0 * (9 * 2 ^ 56))
   unfolding termsOf
-  terms-none = alike-self zeroOf (0 * (9 * 2 ^ 56)) zero-light
+  terms-none = alike-none (9 * 2 ^ 56)
 
   one-more : (t : ℕ) → sumOf (termsOf u s vt m n i j t) (term u s vt m n i j t) ≡ termsOf u s vt m n i j (t + 1)
   unfolding termsOf
@@ -42,7 +38,7 @@ module _ (u s vt : List Float) (m n i j : ℕ) where
 
   module _ (t : ℕ) {x y : Gaussian} (e : Alike x (termsOf u s vt m n i j t) (t * (9 * 2 ^ 56))) (f : Alike y (term u s vt m n i j t) (9 * 2 ^ 56)) where
     pub terms-more : {z : Gaussian} → z ≡ sumOf x y → Alike z (termsOf u s vt m n i j (t + 1)) ((t + 1) * (9 * 2 ^ 56))
-    terms-more g = rw (g, sym (one-more t)) (lighter ((t + 1) * (9 * 2 ^ 56)) (alike-sum e f) (omega arith))
+    terms-more g = rw (sym (one-more t)) (alike-more t (9 * 2 ^ 56) e f g)
 
     pub sum-fits : (k : ℕ) → t < k → k ≤ 16 → heft x + heft y < 2 ^ 64
     sum-fits k h l = omega (arith, sum-light e f)

@@ -9,7 +9,6 @@ ghost use mathlib.Core.Path.{_≡_};
 ghost use Prim.Native.Nat.{_+_, _*_, _^_, _<_, _≤_};
 ghost use lib.ListN.{length};
 ghost use Rattle.countersign_sums.specs.Integers.{Alike};
-ghost use Rattle.countersign_shifted.specs.Shifted.{Shifted};
 ghost use Rattle.countersign_products.specs.Products.{Factors, Read, term, termsOf, productGap, productFits};
 
 // What value t adds to row i and column j of the product.

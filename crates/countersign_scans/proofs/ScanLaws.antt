@@ -6,20 +6,17 @@ use mathlib.Core.Logic.{⊎-elim}
 use mathlib.Core.List.{List}
 use Prim.Native.Nat.{ℕ, zero, suc, _+_, _-_, _*_, _/_, _%_, _^_, _≤_, _<_}
 use native.Mathlib.Numerals.{add-one}
-use native.Mathlib.Nat.{eq-or-lt-of-le, add-mul, mul-le-mul-right, div-add-mod', mod-lt, div-lt-iff-lt-mul}
+use native.Mathlib.Nat.{eq-or-lt-of-le, add-mul, mul-le-mul-right, div-add-mod', mod-lt}
 use native.Mathlib.Omega.{arith}
 use lib.Ieee.{Float}
 use Rattle.countersign_sums.specs.declared.Whole.{Whole}
 use Rattle.countersign_sums.specs.Wholes.{wholeOf, atMost, weight}
 use Rattle.countersign_cells.specs.Cells.{valueAt}
 use Rattle.countersign_cells.proofs.CellBounds.{value-small}
+use Rattle.countersign_grams.proofs.Bounds.{some, first-in}
 use Rattle.countersign_scans.specs.Scans.{firstFail, valueFits}
 
 -- ---- a scan of n cells, at c
-
-pub positive : (k c : ℕ) → c < k * k → 0 < k
-positive zero c h = absurd (omega arith)
-positive (suc k) c h = omega arith
 
 left-more : (n c : ℕ) → c < n → n - c ≡ suc (n - (c + 1))
 left-more n c h = omega arith
@@ -108,12 +105,10 @@ module _ (f : ℕ → Bool) (k : ℕ) (swap : (p q : ℕ) → p < k → q < k �
   mirrored-holds n c g h l =
       let p = c / k in
       let q = c % k in
-      let some : 0 < k = positive k c h in
-      let hp : p < k = div-lt-iff-lt-mul some .1 h in
-      let hq : q < k = mod-lt c some in
+      let hp = first-in k c h in
       let e : p * k + q ≡ c = div-add-mod' c k in
-      let below : q * k + p < c = omega (arith, e, mul-le-mul-right {m = q + 1} {n = p} k (omega arith), add-mul q 1 k) in
-      sym (ap f e) ∙ swap p q hp hq ∙ passed-holds f n c g (q * k + p) below
+      let below : q * k + p < c = omega (arith, e, hp, mul-le-mul-right {m = q + 1} {n = p} k (omega arith), add-mul q 1 k) in
+      sym (ap f e) ∙ swap p q hp (mod-lt c (some k c h)) ∙ passed-holds f n c g (q * k + p) below
 
 -- ---- the values
 

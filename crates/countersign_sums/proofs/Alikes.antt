@@ -3,12 +3,12 @@
 use mathlib.Core.Path.{_≡_, refl, sym, ap, ap₂, _∙_}
 use mathlib.Core.Bool.{_&&_}
 use Prim.Native.Nat.{ℕ, _+_, _*_, _≤_}
-use native.Mathlib.Nat.{mul-le-mul}
+use native.Mathlib.Nat.{mul-le-mul, add-mul}
 use native.Mathlib.Omega.{arith}
 use lib.Dec.{leb}
 use lib.IntN.{natAbs}
 use Rattle.countersign_sums.specs.declared.Gaussian.{Gaussian}
-use Rattle.countersign_sums.specs.Gaussians.{sumOf, differenceOf, productOf, conjugateOf, bothWithin, heft}
+use Rattle.countersign_sums.specs.Gaussians.{zeroOf, sumOf, differenceOf, productOf, conjugateOf, bothWithin, heft}
 use Rattle.countersign_sums.specs.Integers.{values, Pair, plusPair, minusPair, timesPair, conjugatePair, Alike}
 use Rattle.countersign_sums.proofs.Weights.{heft-sum, heft-difference, heft-product, heft-conjugate}
 use Rattle.countersign_sums.proofs.Integers.{values-sum, values-difference, values-product, values-conjugate, apart-is}
@@ -50,6 +50,18 @@ module _ {a b c d : Gaussian} {m n : ℕ} (e : Alike a b m) (f : Alike c d n) wh
 
   pub sum-light : heft a + heft c ≤ m + n
   sum-light = omega (arith, e .light, f .light)
+
+-- ---- a sum of terms of at most m each: none, and one more
+
+nothing : heft zeroOf ≡ 0
+unfolding heft
+nothing = refl
+
+pub alike-none : (m : ℕ) → Alike zeroOf zeroOf (0 * m)
+alike-none m = alike-self zeroOf (0 * m) (omega (arith, nothing))
+
+pub alike-more : (t m : ℕ) {a b s f r : Gaussian} → Alike a s (t * m) → Alike b f m → r ≡ sumOf a b → Alike r (sumOf s f) ((t + 1) * m)
+alike-more t m e f g = rw g (lighter ((t + 1) * m) (alike-sum e f) (omega (arith, add-mul t 1 m)))
 
 -- the limits hang on what a number stands for
 pub within-alike : (t : ℕ) {a b : Gaussian} {m : ℕ} → Alike a b m → bothWithin a t ≡ bothWithin b t

@@ -3,8 +3,9 @@
 use mathlib.Core.Path.{_≡_, sym, _∙_}
 use Prim.Native.Nat.{_≤_, _-_, _*_}
 use native.Mathlib.Omega.{arith}
-use Rattle.countersign_scans.proofs.ScanLaws.{positive, scan-begin, scan-good, scan-bad, scan-end, mirrored-holds}
-use Rattle.countersign_scans.proofs.GramSwap.{gram-swap}
+use Rattle.countersign_scans.proofs.ScanLaws.{scan-begin, scan-good, scan-bad, scan-end, mirrored-holds}
+use Rattle.countersign_grams.proofs.Bounds.{some}
+use Rattle.countersign_grams.proofs.Theorems.{gram-swap}
 use Rattle.countersign_grams.specs.Grams.{gramFits}
 use Rattle.countersign_scans.specs.Scans.{firstFail}
 use borrow.Author.Needs.{needs}
@@ -24,10 +25,10 @@ loop-holds : tie.Need-loop-holds Inv-loop μ-loop
 loop-holds c = (omega arith, scan-begin _ _)
 
 rem-if1 : tie.Need-rem-if1 Inv-loop μ-loop
-rem-if1 c = positive _ _ (c .loop-test .taken)
+rem-if1 c = some _ _ (c .loop-test .taken)
 
 div-if1 : tie.Need-div-if1 Inv-loop μ-loop
-div-if1 c = positive _ _ (c .loop-test .taken)
+div-if1 c = some _ _ (c .loop-test .taken)
 
 add-c : tie.Need-add-c Inv-loop μ-loop
 add-c c = search needs
