@@ -1,4 +1,5 @@
 // What the program `cutprint` prints of the result of a cut file. Its number buffers are filled arrays, lent to the library.
+#![tactic(auto)]
 ghost use Rattle.std.specs.Prelude.{◌≡◌, ◌≤◌, length};
 ghost use Rattle.answers.specs.Paper.{paper};
 ghost use Rattle.io.specs.Counts.{IsPrefixLen};
@@ -65,7 +66,7 @@ pub fn put_accepted(
 }
 
 // Inner. The file's answer, and how long its text is.
-#[derive(Drop)]
+#[derive(Clone, Copy)]
 pub struct Written {
     pub answer: Answer,
     pub length: usize,

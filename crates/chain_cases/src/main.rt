@@ -8,6 +8,7 @@
 // place, of a chain the cuts that dropped a value above the resolution, and the lent slices as they stand afterwards, a slice of floats that
 // is 200 numbers or longer as its digest. The state has at most 8,200 numbers, sites 21,840, matrix, u, vt, values and largest 8,200,
 // scratch 32,904, the others 64.
+#![tactic(auto)]
 use chain_fill::Chained;
 
 // The changes of a state, of which the text has the count at `at`; where the text goes on.

@@ -1,4 +1,5 @@
 // Inner: the work of an accepted call, over slices of exactly the needed lengths.
+#![tactic(auto)]
 ghost use Rattle.std.specs.Prelude.{◌≡◌, ◌+◌, ◌-◌, ◌*◌, ◌≤◌, ◌++◌, length, take, set};
 ghost use Rattle.complex.specs.Zeros.{zeros};
 ghost use Rattle.chain_fill.specs.Fill.{number_at, LastRoom, Last, FillRoom, ChainFilled};
@@ -6,7 +7,7 @@ ghost use Rattle.chain_fill.specs.Fill.{number_at, LastRoom, Last, FillRoom, Cha
 use answers::Answer;
 
 // The answer, and how many cuts dropped a value above the resolution.
-#[derive(Drop)]
+#[derive(Clone, Copy)]
 pub struct Chained {
     pub answer: Answer,
     pub dropped: usize,

@@ -1,4 +1,5 @@
 // Inner: the walk along the chain of sites, one step after another over the lent slices.
+#![tactic(auto)]
 ghost use Rattle.std.specs.Prelude.{◌≡◌, ◌++◌, ◌+◌, ◌*◌, ◌≤◌, length, take, drop};
 ghost use Rattle.chain_step.specs.Step.{columnwise};
 ghost use Rattle.chain_link.specs.OneLink.{rows_at, columns_at, cells_at};
@@ -9,7 +10,7 @@ use answers::Answer;
 use sweeps::Sweeps;
 
 // How a walk ended: its answer, the last bond, the cells of the sites so far, the cuts that dropped a value above the resolution.
-#[derive(Drop)]
+#[derive(Clone, Copy)]
 pub struct Walked {
     pub answer: Answer,
     pub bond: usize,

@@ -1,6 +1,7 @@
 // Countersigns the factors of someone else's package: whether A is U·S·V† within a tolerance, both sets of vectors
 // are orthonormal within it, and S never rises and never goes below zero. Every number is a whole number of 2^-18;
 // all sums are exact.
+#![tactic(auto)]
 ghost use Rattle.std.specs.Prelude.{◌≡◌, ◌≤◌, length};
 ghost use Rattle.countersign_products.specs.Products.{Read};
 ghost use Rattle.countersign.specs.Verdict.{says, verdict_of, Accepted, Countersign};
@@ -9,7 +10,7 @@ use answers::Answer;
 
 // What the tests found: all hold, or the first that fails, with its first failing cell. A refused call has read
 // nothing.
-#[derive(Drop)]
+#[derive(Clone, Copy)]
 pub enum Finding {
     Unread,
     Yes,
@@ -20,7 +21,7 @@ pub enum Finding {
 }
 
 // The finding as numbers: yes or no, the test from 1 to 4, the cell.
-#[derive(Drop)]
+#[derive(Clone, Copy)]
 pub struct Verdict {
     pub yes: bool,
     pub test: usize,
@@ -166,7 +167,7 @@ fn judge_many(
 }
 
 // The answer, and what the tests found where it is Done.
-#[derive(Drop)]
+#[derive(Clone, Copy)]
 pub struct Countersigned {
     pub answer: Answer,
     pub finding: Finding,

@@ -2,6 +2,7 @@
 //   1 m n tolerance, and then for each of a, u, s and vt
 //   its length, how many of its numbers are not +0.0, and each of those: its place and its bits.
 // Each case writes one line of words: the answer's number and place, 1 for yes or 0, the test, the cell.
+#![tactic(auto)]
 ghost use Rattle.std.specs.Prelude.{◌≤◌};
 
 // The word as a length, where it is at most 8192, and else 8192: the buffers are that long.

@@ -1,6 +1,7 @@
 // Inner: an entry of the Gram matrix of k vectors less the identity's, exactly, in whole numbers of 2^-36. The
 // vectors stand one after the other, `len` cells each: the columns of U, or the rows of V†. Their numbers are read from
 // xs, where those of x stand.
+#![tactic(auto)]
 ghost use Rattle.std.specs.Prelude.{◌≡◌, ◌+◌, ◌*◌, ◌^◌, ◌<◌, ◌≤◌, length};
 ghost use Rattle.countersign_sums.specs.Integers.{Alike};
 ghost use Rattle.countersign_shifted.specs.Shifted.{Shifted};

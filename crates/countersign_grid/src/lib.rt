@@ -1,10 +1,11 @@
 // Inner: a float as a whole number of 2^-18, from its bits.
+#![tactic(auto)]
 ghost use Rattle.std.specs.Prelude.{◌≡◌, ◌^◌, ◌<◌};
 ghost use Rattle.countersign_grid.specs.Grid.{GridBits, grid_of};
 
 // Whether a float is a whole number of 2^-18 and at most 1 in magnitude, and how many of them it is then, over or
 // under 0.
-#[derive(Drop)]
+#[derive(Clone, Copy)]
 pub struct Grid {
     pub on: bool,
     pub over: u64,
@@ -12,7 +13,7 @@ pub struct Grid {
 }
 
 // The same of the bits without the sign.
-#[derive(Drop)]
+#[derive(Clone, Copy)]
 struct Size {
     on: bool,
     units: u64,

@@ -1,4 +1,5 @@
 // Inner: the first failing cell of each test, or the number of its cells where none fails.
+#![tactic(auto)]
 ghost use Rattle.std.specs.Prelude.{◌≡◌, ◌*◌, ◌<◌, ◌≤◌, length};
 ghost use Rattle.countersign_shifted.specs.Shifted.{Shifted};
 ghost use Rattle.countersign_products.specs.Products.{Factors, Read, product_fits};

@@ -1,11 +1,12 @@
 // Inner: exact whole numbers with a sign, and complex numbers whose two parts are such numbers. No sum or product
 // wraps: a caller shows one bound for each, by the weights of what it adds or multiplies.
+#![tactic(auto)]
 ghost use Rattle.std.specs.Prelude.{◌≡◌, ◌+◌, ◌*◌, ◌^◌, ◌<◌, leb};
 ghost use Rattle.countersign_sums.specs.Wholes.{weight, plus_of, times_of, opposite_of, apart, at_most};
 ghost use Rattle.countersign_sums.specs.Gaussians.{heft, sum_of, difference_of, product_of, by_whole, conjugate_of, both_within};
 
 // What is over, less what is under.
-#[derive(Drop)]
+#[derive(Clone, Copy)]
 pub struct Whole {
     pub over: u64,
     pub under: u64,
@@ -63,7 +64,7 @@ impl Whole {
 }
 
 // A complex number whose parts are whole.
-#[derive(Drop)]
+#[derive(Clone, Copy)]
 pub struct Gaussian {
     pub re: Whole,
     pub im: Whole,

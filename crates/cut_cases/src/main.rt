@@ -26,9 +26,10 @@
 //   18 slice room scratch    planned_schmidt_values: count, sweeps, quiet, turned, exact, and both slices
 // A slice of whole numbers is lent as 100, 101 and so on; number i of a state has the bits 3FF0000000000000 + i, of a lent slice
 // C000000000000000 + i, but for kind 7 each is 1.0. Lent slices of 200 numbers or more are written as a digest, but for kinds 7 to A.
+#![tactic(auto)]
 use answers::Answer;
 
-#[derive(Drop)]
+#[derive(Clone, Copy)]
 struct Head {
     n: usize,
     cap: usize,

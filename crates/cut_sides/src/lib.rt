@@ -1,4 +1,5 @@
 // The two sides of a cut: its refusals, masks and sizes, and the smaller side's list.
+#![tactic(auto)]
 ghost use Rattle.std.specs.Prelude.{◌≡◌, ◌-◌, ◌≤◌, length};
 ghost use Rattle.answers.specs.Paper.{paper};
 ghost use Rattle.qubits.specs.Lists.{Listed};
@@ -36,7 +37,7 @@ pub fn cut_refusal(list: &[usize], n: usize, cap: usize) -> Answer
 }
 
 // Inner: the sides of an accepted cut, by value, so that a plan can keep them.
-#[derive(Drop)]
+#[derive(Clone, Copy)]
 pub struct Sides {
     // the masks of the rows' and of the columns' qubits
     pub row: usize,

@@ -1,4 +1,5 @@
 // The Schmidt values of a cut of a state: the singular values of its cut matrix, and then the finish.
+#![tactic(auto)]
 ghost use Rattle.std.specs.Prelude.{◌≡◌, false, [], ◌+◌, ◌*◌, ◌^◌, ◌≤◌, length};
 ghost use Rattle.answers.specs.Paper.{paper};
 ghost use Rattle.sweeps.specs.Sweeping.{no_sweeps};
@@ -19,7 +20,7 @@ const FEWEST: usize = 8;
 
 // The answer, how many values were kept, the sweeps, and whether every root of a column's norm and the root of the final scale
 // came out even.
-#[derive(Drop)]
+#[derive(Clone, Copy)]
 pub struct CutCounted {
     pub answer: Answer,
     pub count: usize,
@@ -28,7 +29,7 @@ pub struct CutCounted {
 }
 
 // Inner. How the sweeps went, and whether every root of a column's norm came out even.
-#[derive(Drop)]
+#[derive(Clone, Copy)]
 pub struct SweptNorms {
     pub sweeps: Sweeps,
     pub exact: bool,

@@ -1,5 +1,6 @@
 // The cut file: six header fields, a list of qubits, a state. The core, on a slice of bytes and numbers: what the header
 // is answered by, and the entries and amplitudes behind it.
+#![tactic(auto)]
 ghost use Rattle.std.specs.Prelude.{◌≡◌, ◌+◌, ◌*◌, ◌^◌, ◌<◌, ◌≤◌, length};
 ghost use Rattle.answers.specs.Paper.{paper};
 ghost use Rattle.cutfile.specs.Bytes.{word32, word64, begins, all_zero};
@@ -9,7 +10,7 @@ use answers::Answer;
 pub use whole_numbers::bit;
 
 // What a header is answered by and, where that is 0, the register and how many qubits are listed; else noughts.
-#[derive(Drop)]
+#[derive(Clone, Copy)]
 pub struct Header {
     pub answer: Answer,
     pub n: usize,

@@ -1,6 +1,7 @@
 // What a cut file gives: the answer of its header, or the library's with export cap 10, and of an accepted file its values. Whoever
 // prints, counts or goes on from it starts here. A file has at most 9 qubits, so 1,024 numbers of state, 4,128 of scratch and 16
 // values are enough, and no file is refused by 6.
+#![tactic(auto)]
 ghost use Rattle.std.specs.Prelude.{◌≡◌, length};
 ghost use Rattle.cutfile.specs.Layout.{LongEnough};
 ghost use Rattle.cutfile_result.specs.Result.{Valued, FileValued, Result};
@@ -11,7 +12,7 @@ use sweeps::Sweeps;
 
 // The answer; the register's size and the list's length, 0 where the header is refused; how many values were kept; how the
 // sweeps went; and the mark of the roots, no on a refusal.
-#[derive(Drop)]
+#[derive(Clone, Copy)]
 pub struct CutResult {
     pub answer: Answer,
     pub n: usize,

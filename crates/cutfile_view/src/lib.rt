@@ -1,10 +1,11 @@
 // The header view of a cut file: a record holding the file slice and its counts. Each function takes the view apart and
 // calls one of `cutfile` on the slice and the numbers. The borrow checker covers no function over such a struct, so each
 // is proved by hand; callers use the two at the end, whose parameters are plain. All but `open` are inner.
+#![tactic(auto)]
 ghost use Rattle.std.specs.Prelude.{◌≡◌, ◌+◌, ◌*◌, ◌^◌, ◌<◌};
 ghost use Rattle.cutfile.specs.Layout.{LongEnough, file_entry, bits_at, n_of, k_of};
 
-#[derive(Drop)]
+#[derive(Clone, Copy)]
 pub struct CutFile<'a> {
     pub bytes: &'a [u8],
     pub n: usize,

@@ -1,5 +1,6 @@
 // The lower half of a density with the diagonal blocks summed without imaginary parts, which are +0.0 there. Inner: densities
 // stands on it.
+#![tactic(auto)]
 ghost use Rattle.std.specs.Prelude.{◌≡◌, true, ◌+◌, ◌*◌, ◌/◌, ◌<◌, ◌≤◌};
 ghost use Rattle.components.specs.Every.{every_allowed};
 ghost use Rattle.density_entries.specs.Squares.{Square};
@@ -13,7 +14,7 @@ use complex::Complex;
 use density_entries::Block;
 
 // A diagonal block: the real parts of its two entries on the diagonal, and the entry below them.
-#[derive(Drop)]
+#[derive(Clone, Copy)]
 pub struct Corner {
     pub first: f64,
     pub between: Complex,

@@ -1,4 +1,5 @@
 // The entries of a density. Inner: densities and agreement stand on it.
+#![tactic(auto)]
 ghost use Rattle.std.specs.Prelude.{◌≡◌, ◌+◌, ◌*◌, ◌/◌, ◌<◌, ◌≤◌, length};
 ghost use Rattle.qubits.specs.Lists.{Listed};
 ghost use Rattle.density_entries.specs.Squares.{mirrored, Square};
@@ -11,7 +12,7 @@ ghost use Rattle.density_entries.specs.Mirrored.{ColumnSteps};
 use complex::Complex;
 
 // Four entries, two rows by two columns, row after row.
-#[derive(Drop)]
+#[derive(Clone, Copy)]
 pub struct Block {
     pub first: Complex,
     pub second: Complex,

@@ -1,4 +1,5 @@
 // Page two from page one: the density summed from a lent cut matrix alone.
+#![tactic(auto)]
 ghost use Rattle.std.specs.Prelude.{◌≡◌, Bool, ◌*◌, ◌^◌, ◌≤◌, ◌<◌, length};
 ghost use Rattle.answers.specs.Paper.{paper};
 ghost use Rattle.submasks.specs.Submasks.{submask_number};
@@ -62,7 +63,7 @@ fn number_in(x: usize, mask: usize, n: usize) -> usize
 }
 
 // Where the traced index lies in a cell's number, and by what a setting's number is scaled.
-#[derive(Drop)]
+#[derive(Clone, Copy)]
 pub struct Layout {
     pub mask: usize,
     pub scale: usize,

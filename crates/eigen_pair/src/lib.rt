@@ -1,6 +1,7 @@
 // Inner: a pair of the eigenvalue sweep, in a square matrix of n rows, row-major: the cell of row p and column q is p * n + q.
 // Cosine and sine are real here. The definitions speak of planes; the matrix is lent as cells, since a column's cells are as far
 // apart as its rows are long and the two parts of each are then read at once.
+#![tactic(auto)]
 ghost use Rattle.std.specs.Prelude.{◌≡◌, ◌+◌, ◌*◌, ◌<◌, ◌≤◌, length};
 ghost use Rattle.svd_pair.specs.Decisions.{verdict};
 ghost use Rattle.eigen_pair.specs.Decide.{eigen_tangent, left_alone, eigen_decision};
@@ -51,7 +52,7 @@ pub fn decide(apq: Complex, app: f64, aqq: f64, largest: f64) -> Decision
 // ---- the turn
 
 // What two cells are turned by.
-#[derive(Drop)]
+#[derive(Clone, Copy)]
 pub struct Angle {
     pub cosine: f64,
     pub sine: f64,

@@ -1,4 +1,5 @@
 // The entropy of a cut as a band of whole numbers: the weights of its Schmidt values, each one's band in their sum, and the sums.
+#![tactic(auto)]
 ghost use Rattle.std.specs.Prelude.{◌≡◌, ◌+◌, ◌*◌, ◌^◌, ◌≤◌, length, replicate};
 ghost use Rattle.answers.specs.Paper.{paper};
 ghost use Rattle.entropy_bands.specs.Bands.{entropy_lengths, entropy_rest, NoBands, SumReady, SummedUp, WorkReady, EntropyWorked, EntropyBand};
@@ -7,7 +8,7 @@ use answers::Answer;
 use sweeps::Sweeps;
 
 // The answer, how many weights are left, the sums of w*lo and w*hi, 4096 times the sum of the weights, and the cut's sweeps.
-#[derive(Drop)]
+#[derive(Clone, Copy)]
 pub struct Entropy {
     pub answer: Answer,
     pub count: usize,

@@ -1,9 +1,10 @@
 // Inner: how many powers of two lie between the 4096th powers of two whole numbers, from bounds of both by twelve squarings.
+#![tactic(auto)]
 ghost use Rattle.std.specs.Prelude.{◌≡◌, ◌+◌, ◌-◌, ◌*◌, ◌^◌, ◌≤◌, ◌<◌};
 ghost use Rattle.entropy_powers.specs.Powers.{Narrow, PowersSized, halves_of, squared_of, squarings, powers_of, doublings_of, band_of};
 
 // low * 2^power is at most a number, and high * 2^power at least.
-#[derive(Drop)]
+#[derive(Clone, Copy)]
 pub struct Bounds {
     pub low: u64,
     pub high: u64,
@@ -11,7 +12,7 @@ pub struct Bounds {
 }
 
 // A number moved up to 32 digits, by how many digits, and the bounds of the 4096th power of these digits.
-#[derive(Drop)]
+#[derive(Clone, Copy)]
 pub struct Powers {
     pub digits: u64,
     pub up: u64,
@@ -21,7 +22,7 @@ pub struct Powers {
 }
 
 // Two whole numbers.
-#[derive(Drop)]
+#[derive(Clone, Copy)]
 pub struct Band {
     pub low: u64,
     pub high: u64,

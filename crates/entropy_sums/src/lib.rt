@@ -1,4 +1,5 @@
 // Inner: the weights that are left of Schmidt values, their sum, and each one's band in the sum.
+#![tactic(auto)]
 ghost use Rattle.std.specs.Prelude.{◌≡◌, ◌+◌, ◌*◌, ◌^◌, ◌≤◌, ◌<◌, length, replicate};
 ghost use Rattle.entropy_powers.specs.Powers.{PowersSized};
 ghost use Rattle.entropy_sums.specs.Sums.{weights_left, weight_sum, set_band, bands_with, sums_with, SumsFit, FillReady, Filled};
@@ -6,7 +7,7 @@ ghost use Rattle.entropy_sums.specs.Sums.{weights_left, weight_sum, set_band, ba
 use entropy_powers::{Band, Powers};
 
 // How many weights are left, and the sums of each weight times the ends of its band.
-#[derive(Drop)]
+#[derive(Clone, Copy)]
 pub struct Sums {
     pub count: usize,
     pub low: u64,

@@ -1,9 +1,10 @@
 // Inner: the sums of the entropy's band alone, as the printout shows them.
+#![tactic(auto)]
 ghost use Rattle.std.specs.Prelude.{◌≡◌, ◌≤◌, length};
 ghost use Rattle.entropy_totals.specs.Totals.{totals_of};
 
 // The sums of w*lo and of w*hi, and 4096 times the sum of the weights; all 0 where no weight is left.
-#[derive(Drop)]
+#[derive(Clone, Copy)]
 pub struct Totals {
     pub low: u64,
     pub high: u64,

@@ -1,4 +1,5 @@
 // The square root of an f64, and whether it came out even: whether its square, as real numbers, is the argument.
+#![tactic(auto)]
 ghost use Rattle.std.specs.Prelude.{◌≡◌, ◌+◌, ◌*◌, ◌^◌, ◌≤◌, ◌<◌, eqb};
 ghost use Rattle.std.specs.Float.{binary64};
 ghost use Rattle.std.specs.Float.Ieee.{of_bits};
@@ -6,7 +7,7 @@ ghost use Rattle.numbers.specs.Root.{sqrt_of};
 ghost use Rattle.exact_roots.specs.Exact.{exact_root, square_units};
 
 // A root, and whether its square is exactly the argument.
-#[derive(Drop)]
+#[derive(Clone, Copy)]
 pub struct Marked {
     pub root: f64,
     pub exact: bool,

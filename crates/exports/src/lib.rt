@@ -2,6 +2,7 @@
 // length; the answer's number is returned, its place and each further result are stored by reference.
 // The contract of each is its entry point's: some answer has that number and that place, and with it the
 // entry point's contract holds.
+#![tactic(auto)]
 
 // ---- numbers: nothing is refused
 ghost use Rattle.std.specs.Prelude.{◌≡◌, ℕ, ◌≤◌, ◌*◌, Bool, length};

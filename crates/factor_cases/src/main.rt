@@ -13,6 +13,7 @@
 //   8 state n list cap bands scratch       entropy_band: after the count low, high and whole, and no pairs turned
 //   9 values                               the weight of each value
 //   A w W                                  the band of w in W: lo and hi
+#![tactic(auto)]
 use factored::Counted;
 
 // Writes an answer, its count and how its sweeps went.

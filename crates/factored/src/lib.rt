@@ -1,4 +1,5 @@
 // Inner: what a factorisation answers, and how its sweeps went. A refusal has no sweeps.
+#![tactic(auto)]
 ghost use Rattle.std.specs.Prelude.{◌≡◌};
 ghost use Rattle.factored.specs.Factored.{kept_sweeps};
 ghost use Rattle.answers.specs.Paper.{paper};
@@ -8,14 +9,14 @@ use answers::Answer;
 use sweeps::Sweeps;
 
 // The answer, and the sweeps.
-#[derive(Drop)]
+#[derive(Clone, Copy)]
 pub struct Factored {
     pub answer: Answer,
     pub sweeps: Sweeps,
 }
 
 // The answer, how many values were kept, and the sweeps.
-#[derive(Drop)]
+#[derive(Clone, Copy)]
 pub struct Counted {
     pub answer: Answer,
     pub count: usize,

@@ -1,4 +1,5 @@
 // The finish of Schmidt values: sorted downward, cut at the floor, scaled so that the squares sum to 1.
+#![tactic(auto)]
 ghost use Rattle.std.specs.Prelude.{◌≡◌, ◌++◌, ◌≤◌, length, take, drop};
 ghost use Rattle.answers.specs.Paper.{paper};
 ghost use Rattle.values.specs.Lists.{all_finite};
@@ -11,14 +12,14 @@ use answers::Answer;
 const VALUE_FLOOR: f64 = 1e-14;
 
 // The answer and how many values were kept.
-#[derive(Drop)]
+#[derive(Clone, Copy)]
 pub struct Kept {
     pub answer: Answer,
     pub count: usize,
 }
 
 // Inner. The same, and whether the root of the scale came out even; no on a refusal.
-#[derive(Drop)]
+#[derive(Clone, Copy)]
 pub struct Finished {
     pub answer: Answer,
     pub count: usize,
@@ -26,7 +27,7 @@ pub struct Finished {
 }
 
 // Of values that are scaled: whether all are finite then, and whether the root of the scale came out even.
-#[derive(Drop)]
+#[derive(Clone, Copy)]
 struct Scaled {
     finite: bool,
     exact: bool,

@@ -1,11 +1,12 @@
 // Inner: the sheet of a lot as a struct by value, and the step that adds one file's result. Each number of the sheet is defined from
 // the list of single results.
+#![tactic(auto)]
 ghost use Rattle.std.specs.Prelude.{◌≡◌, [], ◌+◌, ◌<◌, ◌≤◌, length};
 ghost use Rattle.lot_tallies.specs.Tallies.{Fair, Adds, Tallied, sheet_of, sheet_numbers, smaller_mark, larger_mark, part_put};
 
 // How many files gave each answer from 0 to 10, how many kept each rank from 1 to 16, the smallest and the largest rank, each with the
 // first file that had it, and the sum of the ranks.
-#[derive(Drop)]
+#[derive(Clone, Copy)]
 pub struct Sheet {
     pub answers: [usize; 11],
     pub ranks: [usize; 16],
@@ -17,7 +18,7 @@ pub struct Sheet {
 }
 
 // A rank and the first file that had it.
-#[derive(Drop)]
+#[derive(Clone, Copy)]
 pub struct Mark {
     pub rank: usize,
     pub file: usize,

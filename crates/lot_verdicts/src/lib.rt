@@ -1,10 +1,11 @@
 // Inner: the single result of a cut file, as the sheet of a lot counts it: the answer's number, and the rank, which is how many values
 // were kept. Whoever counts files knows them by this alone.
+#![tactic(auto)]
 ghost use Rattle.std.specs.Prelude.{◌≡◌};
 ghost use Rattle.lot_verdicts.specs.Verdict.{verdict_of};
 
 // The number, and the rank, 0 of a refused file.
-#[derive(Drop)]
+#[derive(Clone, Copy)]
 pub struct Verdict {
     pub number: usize,
     pub rank: usize,

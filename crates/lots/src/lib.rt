@@ -1,6 +1,7 @@
 // The night batch: the sheet of a lot of cut files, over their single results and nothing else of them. A lot is a u32 count of files,
 // each one's u32 length, then the files, all little-endian. Every file is read into the same room, and only the bytes that were read are
 // handed on.
+#![tactic(auto)]
 ghost use Rattle.std.specs.Prelude.{◌≡◌, ◌+◌, ◌-◌, ◌*◌, ◌<◌, ◌≤◌, min, length};
 ghost use Rattle.answers.specs.Paper.{paper};
 ghost use Rattle.cutfile.specs.Bytes.{word32};

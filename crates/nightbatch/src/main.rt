@@ -1,6 +1,7 @@
 // Reads `lot.bin` and writes the sheet of its files, or `refused 16 0`. A missing file counts as empty. The lot is read piece by piece, its
 // header and then each file into the same room, so that a lot of any length fits; the step that adds a file is that of `lots::lot_sheet`.
 // A file's place moves by its whole length, and of a file that is longer than the room the front is read: it decides.
+#![tactic(auto)]
 ghost use Rattle.std.specs.Prelude.{◌≡◌, ◌+◌, ◌*◌, ◌<◌, ◌≤◌, length};
 ghost use Rattle.io.specs.Counts.{IsPrefixLen};
 ghost use Rattle.lot_tallies.specs.Tallies.{Tallied};

@@ -1,5 +1,6 @@
 // Number helpers: the square root of an f64, rounded to the nearest f64 and worked out from the bits with
 // whole numbers; magnitude, sign, finite test, total order, and the test of an allowed component.
+#![tactic(auto)]
 ghost use Rattle.std.specs.Prelude.{◌≡◌, ◌+◌, ◌-◌, ◌*◌, ◌^◌, ◌≤◌, ◌<◌};
 ghost use Rattle.std.specs.Float.{nan, binary64};
 ghost use Rattle.std.specs.Float.Ieee.{to_bits, of_bits};
@@ -240,7 +241,7 @@ pub fn is_finite(x: f64) -> bool
     if x < infinity { -infinity < x } else { false }
 }
 
-#[derive(Drop)]
+#[derive(Clone, Copy)]
 pub enum Order {
     Less,
     Equal,

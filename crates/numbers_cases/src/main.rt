@@ -5,6 +5,7 @@
 //   3 x y          the number of the total order of x and y
 //   4 a b (4 words)  product, sum, difference of a and b; negation, conjugate, norm_sqr and modulus of a;
 //                    a scaled and divided by the real part of b
+#![tactic(auto)]
 use complex::Complex;
 
 fn print_complex(z: Complex) {

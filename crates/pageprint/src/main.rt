@@ -1,5 +1,6 @@
 // Reads `state.bin` and writes both pages of its certificate, or `refused N P`. A missing file counts as empty. The buffer is longer
 // than any valid file, so a file that is longer still is read as one that is too long, and is not cut to fit.
+#![tactic(auto)]
 ghost use Rattle.io.specs.Counts.{IsPrefixLen};
 
 // The bytes of `state.bin` at the front of buf, and how many there are: none where there is no such file.

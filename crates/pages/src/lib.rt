@@ -1,4 +1,5 @@
 // The two pages of one state, worked out and held against each other.
+#![tactic(auto)]
 ghost use Rattle.std.specs.Prelude.{◌≡◌, ◌&&◌, ◌+◌, ◌*◌, ◌/◌, ◌<◌, ◌≤◌};
 ghost use Rattle.density_entries.specs.Filled.{table_entry, EntriesReady};
 ghost use Rattle.pages.specs.Agree.{same_floats, Says, pages_answer, pages_same, Held};
@@ -170,7 +171,7 @@ fn same_densities(state: &[f64], matrix: &[f64], n: usize, list: &[usize]) -> bo
 }
 
 // The answer of the check, and yes where the two densities have the same bits; no on a refusal.
-#[derive(Drop)]
+#[derive(Clone, Copy)]
 pub struct Agreement {
     pub answer: Answer,
     pub yes: bool,

@@ -1,5 +1,6 @@
 // Inner: the sweeps of the SVD, tried without the products by zeros first. Where every number that they leave is finite and no zero, they
 // are the sweeps of 01 (`plain-is-exact`); else these are done from a copy.
+#![tactic(auto)]
 ghost use Rattle.std.specs.Prelude.{◌≡◌, ◌*◌, length, take};
 ghost use Rattle.svd_load.specs.Loading.{unit_planes};
 ghost use Rattle.sweeps.specs.Sweeping.{state};
@@ -31,7 +32,7 @@ fn exactly(scratch: &mut [f64], v: &mut [f64], rows: usize, side: usize) -> Swee
 }
 
 // How the plain sweeps went, and whether they are 01's.
-#[derive(Drop)]
+#[derive(Clone, Copy)]
 struct Trial {
     clean: bool,
     sweeps: Sweeps,

@@ -1,4 +1,5 @@
 // The unscaled density of a plan's list.
+#![tactic(auto)]
 ghost use Rattle.std.specs.Prelude.{◌≡◌, true};
 ghost use Rattle.submasks.specs.Submasks.{others};
 ghost use Rattle.qubits.specs.Spread.{named};

@@ -1,4 +1,5 @@
 // Inner: the lists of a plan, in twelve places each, with zeros behind the last number.
+#![tactic(auto)]
 ghost use Rattle.std.specs.Prelude.{◌≡◌, ◌≤◌, length};
 ghost use Rattle.qubits.specs.Spread.{other_qubits};
 ghost use Rattle.cut_sides.specs.Sides.{Parted};
@@ -29,7 +30,7 @@ pub fn pad_others(list: &[usize], n: usize) -> [usize; 12]
 }
 
 // A padded list, and how many of its places are used.
-#[derive(Drop)]
+#[derive(Clone, Copy)]
 pub struct Front {
     pub numbers: [usize; 12],
     pub count: usize,

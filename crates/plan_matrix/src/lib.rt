@@ -1,4 +1,5 @@
 // The cut matrix of a plan.
+#![tactic(auto)]
 ghost use Rattle.plan_matrix.specs.PlannedCut.{PlannedCut};
 
 use answers::Answer;

@@ -1,4 +1,5 @@
 // A cut kept: its masks, sizes, named list and smaller side's list, as one value.
+#![tactic(auto)]
 ghost use Rattle.std.specs.Prelude.{◌≡◌, true};
 ghost use Rattle.cut_sides.specs.Sides.{Parted, sides_of, side_list};
 ghost use Rattle.plan_lists.specs.Padded.{padded};
@@ -7,7 +8,7 @@ ghost use Rattle.plans.specs.Plans.{plan_of, no_plan, CutPlan, list_of, same_pla
 use answers::Answer;
 use cut_sides::Sides;
 
-#[derive(Drop)]
+#[derive(Clone, Copy)]
 pub struct Plan {
     // the register, and how many qubits are named
     pub n: usize,
@@ -23,7 +24,7 @@ pub struct Plan {
 }
 
 // A plan and the answer of the call that gave it.
-#[derive(Drop)]
+#[derive(Clone, Copy)]
 pub struct Planned {
     pub answer: Answer,
     pub plan: Plan,

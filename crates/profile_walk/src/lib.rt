@@ -1,11 +1,12 @@
 // Inner: the walk along the cuts of a chain, one cut after another over the lent slices.
+#![tactic(auto)]
 ghost use Rattle.std.specs.Prelude.{◌≡◌, length};
 ghost use Rattle.profile_walk.specs.Page.{PutRoom, PutCut, WalkRoom, WalkEnd};
 
 use answers::Answer;
 
 // The answer, and how many values are packed so far.
-#[derive(Drop)]
+#[derive(Clone, Copy)]
 pub struct Packed {
     pub answer: Answer,
     pub at: usize,

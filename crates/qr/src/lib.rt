@@ -1,4 +1,5 @@
 // Thin QR: `factorize_gram_schmidt` of src/backend/mps/svd.rs, with its refusals.
+#![tactic(auto)]
 ghost use Rattle.std.specs.Prelude.{◌≡◌, ◌&&◌, ◌<◌, min, length};
 ghost use Rattle.answers.specs.Paper.{paper};
 ghost use Rattle.matrix_sizes.specs.Sizes.{MatrixSized};
@@ -11,7 +12,7 @@ ghost use Rattle.qr.specs.Call.{qr_lengths, qr_refusal, QrFinished, Factorized};
 use answers::Answer;
 
 // What a call hands back: the answer, and on Done the rank.
-#[derive(Drop)]
+#[derive(Clone, Copy)]
 pub struct Factored {
     pub answer: Answer,
     pub rank: usize,

@@ -1,6 +1,7 @@
 // Columns of complex cells, as modified Gram-Schmidt works on them. Inner: callers keep the lengths.
 // The basis columns of q (crate basis) and the column v that is worked on are held as planes, all real
 // parts and then all imaginary parts, so that two rows at a time are multiplied and added.
+#![tactic(auto)]
 ghost use Rattle.std.specs.Prelude.{◌≡◌, ◌+◌, ◌*◌, ◌<◌, ◌≤◌, length};
 ghost use Rattle.complex.specs.Cells.{cell_at};
 ghost use Rattle.complex.specs.Squares.{squares_to};
@@ -13,7 +14,7 @@ ghost use Rattle.qr_column.specs.Columns.{column_of, norm_of, lessened, scaled_i
 use complex::Complex;
 
 // The real parts of the four sums of a dot product, or their imaginary parts.
-#[derive(Drop)]
+#[derive(Clone, Copy)]
 pub struct Parts {
     pub sum0: f64,
     pub sum1: f64,
@@ -22,7 +23,7 @@ pub struct Parts {
 }
 
 // The four sums of a dot product.
-#[derive(Drop)]
+#[derive(Clone, Copy)]
 pub struct Sums {
     pub sum0: Complex,
     pub sum1: Complex,

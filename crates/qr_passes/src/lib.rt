@@ -1,5 +1,6 @@
 // Modified Gram-Schmidt, as `factorize_gram_schmidt` of src/backend/mps/svd.rs has it. Inner: callers keep the lengths.
 // The basis columns of q and the column v that is worked on are held as planes (crates basis and columns).
+#![tactic(auto)]
 ghost use Rattle.std.specs.Prelude.{◌≡◌, ◌+◌, ◌*◌, ◌<◌, ◌≤◌, min, length};
 ghost use Rattle.complex.specs.Arithmetic.{complex_of};
 ghost use Rattle.complex.specs.Cells.{set_cell};
@@ -120,7 +121,7 @@ fn keep(v: &[f64], residual: f64, rows: usize, q: &mut [f64], i: usize, r: &mut 
 }
 
 // A column's norm, and what the passes left of it.
-#[derive(Drop)]
+#[derive(Clone, Copy)]
 pub struct Norms {
     pub whole: f64,
     pub residual: f64,

@@ -1,4 +1,5 @@
 // Row offsets and traced bases asked alone: refused as a density without its state.
+#![tactic(auto)]
 ghost use Rattle.std.specs.Prelude.{◌≡◌, ◌-◌, ◌^◌, ◌≤◌, length};
 ghost use Rattle.answers.specs.Paper.{paper};
 ghost use Rattle.qubits.specs.Lists.{density_sizes, Listed};
@@ -78,7 +79,7 @@ fn other_settings(n: usize, k: usize) -> usize
 }
 
 // What `traced_base` hands back.
-#[derive(Drop)]
+#[derive(Clone, Copy)]
 pub struct Traced {
     pub answer: Answer,
     pub base: usize,

@@ -1,6 +1,7 @@
 // Inner: the square root of a number whose root the caller can guess. Whole numbers tell whether the
 // guess is the root; where it is not, the root is worked out. So a guess decides the time and never
 // the result, and several guesses can be made side by side before the first root is known.
+#![tactic(auto)]
 ghost use Rattle.std.specs.Prelude.{◌≡◌, ◌-◌, ◌*◌, ◌^◌, ◌<◌, ◌≤◌, true};
 ghost use Rattle.numbers.specs.Root.{sqrt_of};
 ghost use Rattle.numbers.specs.Steps.{NearestWhole};
@@ -118,7 +119,7 @@ pub fn sharpened(x: f64, g: f64, y: f64) -> f64 {
 // Guesses at what the three roots of a Jacobi decision give: nothing is promised of them, and they
 // decide nothing but the time. All three are made from the pair's sums alone, so that none waits for
 // the root before it.
-#[derive(Drop)]
+#[derive(Clone, Copy)]
 pub struct Guesses {
     // |g_pq|
     pub modulus: f64,

@@ -1,4 +1,5 @@
 // Inner: a quick test that every number is an allowed component.
+#![tactic(auto)]
 ghost use Rattle.std.specs.Prelude.{◌≡◌, true, ◌+◌, ◌≤◌, length};
 ghost use Rattle.scaled.specs.Each.{EachAllowed};
 ghost use Rattle.scaled.specs.Eight.{no_sums, with_eight, joined};
@@ -7,7 +8,7 @@ ghost use Rattle.scaled.specs.Eight.{no_sums, with_eight, joined};
 const SCALE: f64 = 1.1187071843154282e248;
 
 // Eight sums, none of which waits for another. The back end takes two at once.
-#[derive(Drop)]
+#[derive(Clone, Copy)]
 pub struct Sums {
     pub sum0: f64,
     pub sum1: f64,

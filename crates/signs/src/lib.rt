@@ -1,1 +1,2 @@
 // Signs of products and sums of floats: laws alone.
+#![tactic(auto)]

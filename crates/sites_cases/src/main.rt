@@ -12,6 +12,7 @@
 // the bits 3FF0000000000000 + i before the changes. The lent slice has room numbers, number i with the bits C000000000000000 + i.
 // A fill writes its answer and the slice, or the slice's digest where it is 200 numbers or longer. Lists of kinds 1 and 2 have at
 // most 64 values; SOURCE at most 16,384 numbers, VALUES 4,200, the slice 8,300.
+#![tactic(auto)]
 use answers::Answer;
 use site_ranks::CutRank;
 
@@ -64,7 +65,7 @@ fn bond_case(text: &[u8], at: usize, kind: u64) -> usize {
 }
 
 // The sizes of a fill: four words, the last of which only the fills of rows have.
-#[derive(Drop)]
+#[derive(Clone, Copy)]
 struct Sizes {
     line: usize,
     second: usize,

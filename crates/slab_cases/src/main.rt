@@ -8,6 +8,7 @@
 //   5 place value          that number of the index is set, past every call
 // A line is the answer's number and place (zeros for 0, 4 and 5), how many sites are held, and a digest of the
 // 8,192 numbers and one of the index, in which every number counts. Data have at most 8,300 numbers.
+#![tactic(auto)]
 
 // The patterns count up from the first.
 fn count_up(s: &mut [u64], first: u64) {

@@ -1,9 +1,10 @@
 // Inner: runs of free cells in a map that says of each cell whether it is held.
+#![tactic(auto)]
 ghost use Rattle.std.specs.Prelude.{◌≡◌, ◌≤◌};
 ghost use Rattle.slab_runs.specs.Runs.{lowest};
 
 // The first cell of the lowest run that fits, or that there is none.
-#[derive(Drop)]
+#[derive(Clone, Copy)]
 pub enum Run {
     At(usize),
     Nowhere,

@@ -1,4 +1,5 @@
 // Inner: the tests of a call on a slab, in their order, and the run of cells that it takes.
+#![tactic(auto)]
 ghost use Rattle.std.specs.Prelude.{◌≡◌, true, ◌/◌, ◌≤◌};
 ghost use Rattle.slab_sites.specs.Sites.{count, each_apart};
 ghost use Rattle.slab_tests.specs.Tests.{sound, bad_data, room, misplaced, skipped, is_full, Judged};
@@ -7,7 +8,7 @@ use answers::Answer;
 use slab_runs::Run;
 
 // What a call's tests answer, and the first cell of the run it takes.
-#[derive(Drop)]
+#[derive(Clone, Copy)]
 pub struct Verdict {
     pub answer: Answer,
     pub start: usize,

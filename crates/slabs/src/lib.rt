@@ -1,6 +1,7 @@
 // Sites in one slab: 4,096 cells of two numbers each, as 64-bit patterns, and the index of up to 64 sites. A
 // put takes the lowest run of free cells that fits, a drop frees its cells, a replace is judged and placed as
 // if its old cells were free. A refused call changes nothing.
+#![tactic(auto)]
 ghost use Rattle.slabs.specs.Slab.{Put, Dropped, Replaced};
 
 use answers::Answer;

@@ -1,5 +1,6 @@
 // Inner: what the Jacobi sweeps do with one pair of columns of a matrix that is lent as planes: the
 // decision by its Gram sums, and the turn.
+#![tactic(auto)]
 ghost use Rattle.std.specs.Prelude.{◌≡◌, ◌+◌, ◌*◌, ◌<◌, ◌≤◌, length};
 ghost use Rattle.complex.specs.Arithmetic.{scaled};
 ghost use Rattle.complex.specs.Planes.{set_plane};
@@ -18,7 +19,7 @@ const JACOBI_REL_TOL: f64 = 1e-15;
 // ---- the decision
 
 // What is to be done with a pair of columns.
-#[derive(Drop)]
+#[derive(Clone, Copy)]
 pub enum Decision {
     Leave,
     Turn {
@@ -78,7 +79,7 @@ pub fn decide(g: GramSums) -> Decision
 // ---- the turn of two columns
 
 // The factors of a turn: the new p is pp times the old p and pq times the old q, the new q alike.
-#[derive(Drop)]
+#[derive(Clone, Copy)]
 pub struct Factors {
     pub pp: Complex,
     pub pq: Complex,

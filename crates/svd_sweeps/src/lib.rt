@@ -1,5 +1,6 @@
 // Inner: the one-sided Jacobi sweeps of the SVD, over a work matrix and V that are lent as planes.
 // Row r of column p of a matrix of m rows is its cell p * m + r.
+#![tactic(auto)]
 ghost use Rattle.std.specs.Prelude.{◌≡◌, true, [], ◌+◌, ◌-◌, ◌*◌, ◌<◌, ◌≤◌, length, get_or};
 ghost use Rattle.svd_pair.specs.Turns.{turn_factors, turn_rows};
 ghost use Rattle.svd_pair.specs.Plain.{making};
@@ -36,7 +37,7 @@ fn turn_v(
 
 // How the sweeps stand, and the turn that V still waits for, if one does. V is turned one decision late: nothing but V waits for that turn, so it
 // fills the time in which the next decision's steps wait for each other.
-#[derive(Drop)]
+#[derive(Clone, Copy)]
 pub struct Late {
     pub s: Sweeps,
     pub waits: bool,

@@ -1,11 +1,12 @@
 // Inner: the counts of the Jacobi sweeps. The sweeps themselves are defined once, over what is done with a pair (specs/Sweeping.antt).
+#![tactic(auto)]
 ghost use Rattle.std.specs.Prelude.{◌≡◌, ◌<◌};
 ghost use Rattle.sweeps.specs.Sweeping.{counted, no_sweeps};
 
 use svd_pair::Decision;
 
 // Sweeps begun, whether the last one turned nothing, and pairs turned in all.
-#[derive(Drop)]
+#[derive(Clone, Copy)]
 pub struct Sweeps {
     pub begun: usize,
     pub quiet: bool,

@@ -1,4 +1,5 @@
 // Inner: 2 to the q, and laws of whole numbers that several families cite.
+#![tactic(auto)]
 ghost use Rattle.std.specs.Prelude.{◌≡◌, ◌<◌, ◌^◌};
 
 // 2 to the q.

@@ -1,0 +1,472 @@
+#!/usr/bin/env python3
+"""Turns each function's Proof.antt into Invariants.antt and Answers.antt, by the names that `rt names FOLDER` has written.
+
+usage: tools/port/answers.py NAMES CRATE..
+"""
+
+import json
+import os
+import re
+import sys
+
+ROOT = os.path.dirname(os.path.dirname(os.path.dirname(os.path.realpath(__file__))))
+WORD = r"[^\s(){}\[\],;.λ]+"
+
+
+def plain(name):
+    return re.sub(r"[-_]", "_", name)
+
+
+def need_key(name):
+    name = plain(name)
+    return name[9:] if name.startswith("overflow_") else name
+
+
+def blocks(text):
+    """The file as (header lines, use lines, [block]), a block being {name, sig, unfolding, equations, comments}."""
+    lines = text.split("\n")
+    head, uses, out = [], [], []
+    at = 0
+    pending = []
+    while at < len(lines):
+        line = lines[at]
+        if line.startswith("--"):
+            (head if not uses and not out else pending).append(line)
+            at += 1
+            continue
+        if not line.strip():
+            at += 1
+            continue
+        group = [line]
+        at += 1
+        while at < len(lines) and lines[at].startswith((" ", "\t", ")", "]", "}")):
+            group.append((" " if lines[at][0] in ")]}" else "") + lines[at])
+            at += 1
+        whole = "\n".join(group)
+        if re.match(r"(pub |unfoldable )*use ", whole):
+            uses.append(whole)
+            continue
+        if whole.startswith("unfolding "):
+            out[-1]["unfolding"].append(whole)
+            continue
+        m = re.match(r"((?:(?:abbrev|unfoldable|pub|private) )*)(" + WORD + r")\s*:(?!:)\s", whole + " ")
+        if m and not (out and out[-1]["name"] == m.group(2)):
+            out.append({"name": m.group(2), "marks": m.group(1), "sig": whole, "unfolding": [], "equations": [], "comments": pending})
+            pending = []
+            continue
+        if out and re.match(re.escape(out[-1]["name"]) + r"(?![\w'-])", whole):
+            out[-1]["equations"].append(whole)
+            continue
+        out.append({"name": None, "marks": "", "sig": whole, "unfolding": [], "equations": [], "comments": pending})
+        pending = []
+    return head, uses, out
+
+
+def tokens_in(text):
+    return set(re.findall(r"[^\s(){}\[\],;.]+", text)) | set(re.findall(r"[^\s(){}\[\],;]+", text))
+
+
+def used(name, text, words):
+    name = name.split(" as ")[-1].strip()
+    if "◌" in name:
+        return all(p in text for p in name.split("◌") if p)
+    return name in words or name in text
+
+
+def kept_uses(uses, text):
+    words = tokens_in(text)
+    out = []
+    for u in uses:
+        if re.search(r"\.(Tie|Statement)(\.| |$)", u):
+            continue
+        m = re.match(r"((?:pub |unfoldable )*use )([\w.+'-]+)\.\{([^}]*)\}$", u.replace("\n", " "))
+        if not m:
+            m2 = re.match(r"use ([\w.+'-]+) as ([\w'-]+)", u)
+            if not m2 or re.search(r"(?<![\w'.-])" + re.escape(m2.group(2)) + r"\.", text):
+                out.append(u)
+            continue
+        names = [n.strip() for n in m.group(3).split(",") if n.strip()]
+        names = [n for n in names if used(n, text, words)]
+        if names:
+            out.append(f"{m.group(1)}{m.group(2)}.{{{', '.join(names)}}}")
+    return out
+
+
+class Names:
+    def __init__(self, entry, requires):
+        self.entry = entry
+        self.requires = requires
+        self.needs = {need_key(old): (old, new, i) for i, (old, new) in enumerate(entry["needs"])}
+        self.parent, self.fields, self.place_index = {}, {}, {}
+        for i, (name, parent, pair, callee, _) in enumerate(entry["places"]):
+            self.parent[name] = parent
+            self.place_index[name] = i
+            self.fields[name] = (pair[0], pair[1], callee)
+        self.by_plain = {}
+        for name, (old, new, callee) in self.fields.items():
+            if old:
+                self.by_plain.setdefault(plain(old), []).append((name, old, new, callee))
+        # what an arm's place gives: old step and path, the arm's name and the field there
+        self.arms = {}
+        for i, a in enumerate(entry["arms"]):
+            if a:
+                self.arms[entry["places"][i][0]] = a
+        pre = entry["pre"]
+        self.pre = pre["fields"] if pre else []
+
+    def up(self, place, n):
+        for _ in range(n):
+            place = self.parent.get(place) if place else None
+        return place
+
+    def arm(self, place, comps):
+        """The new path for a path into an arm, or None."""
+        at = place
+        while at:
+            a = self.arms.get(at)
+            if a:
+                best = None
+                for sub, step, path in a[2]:
+                    if plain(comps[0]) == plain(step) and comps[1 : 1 + len(path)] == path and (best is None or len(path) > len(best[1])):
+                        best = (sub, path)
+                if best:
+                    return [a[0], best[0]] + comps[1 + len(best[1]) :]
+            at = self.parent[at]
+        return None
+
+    def field(self, place, comp):
+        """The new name of the step called comp, seen from the place, and its callee."""
+        at = place
+        while at:
+            old, new, callee = self.fields[at]
+            if old and plain(old) == plain(comp):
+                return new, callee
+            at = self.parent[at]
+        found = self.by_plain.get(plain(comp))
+        if found:
+            return found[0][2], found[0][3]
+        return None, None
+
+
+def picked(names, comps):
+    """A projection out of a pair of clauses, as the record of them: comps without the word before."""
+    if len(names) < 2 or not comps or not comps[0].isdigit():
+        return comps
+    k = int(comps[0])
+    if k < len(names):
+        return [names[k]] + comps[1:]
+    return comps
+
+
+class Turn:
+    def __init__(self, names, contracts):
+        self.n = names
+        self.contracts = contracts
+        self.said = []
+        self.missing = []
+
+    def body(self, text, place, var="c"):
+        """The text of an answer, with each path from its record flattened and renamed."""
+        # variables bound to an outer record
+        known = {var: place}
+        for m in re.finditer(r"let ([\w'-]+) =\s+([\w'-]+)((?:\.before)*)\s+in\b", text):
+            if m.group(2) in known:
+                known[m.group(1)] = self.n.up(known[m.group(2)], m.group(3).count(".before"))
+
+        def path(m):
+            head, rest = m.group(1), m.group(2)
+            if head not in known:
+                return m.group(0)
+            at = known[head]
+            comps = rest[1:].split(".")
+            ups = 0
+            while comps and comps[0] == "before":
+                at = self.n.up(at, 1)
+                comps = comps[1:]
+                ups += 1
+            if not comps:
+                return head + ".before" * ups
+            first = comps[0]
+            if first == "requires":
+                comps = [first] + picked(self.n.pre, comps[1:])
+                return ".".join([head] + comps)
+            if first in ("args", "well_formed", "well-formed", "ranges", "utf8"):
+                return ".".join([head, first.replace("-", "_")] + comps[1:])
+            armed = self.n.arm(at, comps)
+            if armed:
+                return ".".join([head] + armed)
+            new, callee = self.n.field(at, first)
+            if new is None:
+                self.missing.append(".".join(comps))
+                return ".".join([head] + comps)
+            rest = comps[1:]
+            if callee and rest and rest[0] in ("ensures", "requires"):
+                clauses = self.contracts.get(callee, {}).get(rest[0], [])
+                rest = [rest[0]] + picked(clauses, rest[1:])
+            return ".".join([head, new] + rest)
+
+        return re.sub(r"(?<![\w'.-])([A-Za-z][\w'-]*)((?:\.[\w'-]+)+)", path, text)
+
+
+def contracts_of(root):
+    """The names of each function's clauses, by crate::path."""
+    out = {}
+    for crate in os.listdir(os.path.join(root, "crates")):
+        for base, dirs, files in os.walk(os.path.join(root, "crates", crate, "src")):
+            for f in files:
+                if not f.endswith(".rt"):
+                    continue
+                impl = None
+                fn = None
+                for line in open(os.path.join(base, f), encoding="utf-8"):
+                    m = re.match(r"impl(?:<[^>]*>)? (\w+)", line)
+                    if m:
+                        impl = m.group(1)
+                    if line.startswith("}"):
+                        impl = None if impl and not line.strip("}\n") else impl
+                    m = re.match(r"\s*(?:pub )?(?:unsafe )?(?:extern \"C\" )?fn (\w+)", line)
+                    if m:
+                        fn = f"{crate}::" + (f"{impl}::" if impl and line.startswith(" ") else "") + m.group(1)
+                        out[fn] = {"requires": [], "ensures": []}
+                    m = re.match(r"\s*(requires|ensures) (\w+ )?\{", line)
+                    if m and fn:
+                        out[fn][m.group(1)].append((m.group(2) or "").strip())
+    return out
+
+
+def split_pair(text):
+    """The parts of a tuple in parentheses, or None."""
+    text = text.strip()
+    if not (text.startswith("(") and text.endswith(")")):
+        return None
+    depth, parts, last = 0, [], 1
+    for i, ch in enumerate(text):
+        if ch in "([{":
+            depth += 1
+        elif ch in ")]}":
+            depth -= 1
+            if depth == 0 and i != len(text) - 1:
+                return None
+        elif ch == "," and depth == 1:
+            parts.append(text[last:i])
+            last = i + 1
+    parts.append(text[last:-1])
+    return [p.strip() for p in parts] if len(parts) > 1 else None
+
+
+def lets(text):
+    """The `let .. in` prefix of a term, and what follows it."""
+    text = text.strip()
+    at = 0
+    prefix = ""
+    while True:
+        m = re.match(r"\s*let\s", text[at:])
+        if not m:
+            break
+        depth, i, level = 0, at, 0
+        j = at
+        count = 0
+        while j < len(text):
+            ch = text[j]
+            if ch in "([{":
+                depth += 1
+            elif ch in ")]}":
+                depth -= 1
+            if depth == 0:
+                if re.match(r"let\b", text[j:]) and (j == 0 or not re.match(r"[\w'-]", text[j - 1])):
+                    count += 1
+                if re.match(r"in\b(?![\w'-])", text[j:]) and not re.match(r"[\w'.-]", text[j - 1]):
+                    count -= 1
+                    if count == 0:
+                        break
+            j += 1
+        else:
+            break
+        at = j + 2
+    return text[:at], text[at:].strip()
+
+
+def record_of(fields, body):
+    prefix, rest = lets(body)
+    parts = split_pair(rest)
+    if parts is None:
+        return None
+    if len(parts) > len(fields):
+        head = parts[: len(fields) - 1]
+        parts = head + ["(" + ", ".join(parts[len(fields) - 1 :]) + ")"]
+    if len(parts) < len(fields):
+        return None
+    made = "; ".join(f"{f} = {p}" for f, p in zip(fields, parts))
+    return (prefix + " " if prefix else "") + "record { " + made + " }"
+
+
+def invariant(block, names, crate, said):
+    m = re.search(r"tie\.(invariant|decreases)-([\w'-]+)", block["sig"])
+    if not m:
+        return None
+    kind, loop = m.groups()
+    found = [(i, l) for i, l in enumerate(names.entry["loops"]) if plain(l[0][0]) == plain(loop)]
+    if not found:
+        if kind == "decreases":
+            said.append(f"measure {loop}: no loop of that name: {[l[0] for l in names.entry['loops']]}")
+        else:
+            said.append(f"invariant {loop}: no loop of that name: {[l[0] for l in names.entry['loops']]}")
+        return None
+    index, (pair, variables) = found[0]
+    changed = names.entry["changed"][index]
+    eq = block["equations"][0]
+    left, body = eq.split("=", 1) if " =\n" in eq or " = " in eq else (eq, "")
+    params = left.split()[1:]
+    flow = list(zip(variables, changed))
+    if len(params) != len(variables) + sum(changed):
+        said.append(f"{kind} {loop}: {len(params)} arguments for {len(variables)} variables, {sum(changed)} changed: {params} {variables}")
+        return None
+    var = "l"
+    while re.search(rf"(?<![\w'.-]){var}(?![\w'-])", body) and var not in params or var in re.findall(r"λ \(?([\w']+)", body):
+        var = {"l": "at", "at": "here", "here": "turn"}[var]
+    to = {}
+    for (v, c), p in zip(flow, params):
+        to[p] = f"{var}.initial.{v}" if c else f"{var}.{v}"
+    for (v, c), p in zip([x for x in flow if x[1]], params[len(variables) :]):
+        to[p] = f"{var}.{v}"
+    to.pop("_", None)
+
+    def sub(m):
+        return to.get(m.group(0), m.group(0))
+
+    bound = set(re.findall(r"λ \(?([\w'₀-₉]+(?: [\w'₀-₉]+)*)", body)) | set(re.findall(r"\(([\w'₀-₉]+(?: [\w'₀-₉]+)*) : ", body))
+    bound = {w for b in bound for w in b.split()}
+    clash = bound & set(to)
+    if clash:
+        said.append(f"{kind} {loop}: bound again: {clash}")
+    body = re.sub(r"(?<![\w'.₀-₉·-])[^\W\d][\w'₀-₉]*(?:-[\w'₀-₉]+)*(?![\w'₀-₉-])", sub, body)
+    text = f"abbrev pub {kind}-{pair[1]} : goal.{kind}-{pair[1]}\n" + "".join(u + "\n" for u in block["unfolding"]) + f"{kind}-{pair[1]} {var} ={body}"
+    return text
+
+
+def function(crate, folder, path, entry, contracts, said):
+    where = os.path.join(folder, "Proof.antt")
+    text = open(where, encoding="utf-8").read()
+    names = Names(entry, None)
+    turn = Turn(names, contracts)
+    head, uses, found = blocks(text)
+    invariants, answers, helpers = [], [], []
+    done = set()
+    for b in found:
+        sig = b["sig"]
+        if b["name"] is None:
+            said.append(f"not read: {sig[:80]}")
+            helpers.append(b)
+            continue
+        if re.search(r"tie\.(invariant|decreases)-", sig) and "tie.Need" not in sig and b["equations"] and re.match(r"((abbrev|pub|unfoldable) )*[\w'-]+ :\s+tie\.(invariant|decreases)-[\w'-]+$", sig.strip()):
+            it = invariant(b, names, crate, said)
+            if it:
+                invariants.append(("\n".join(b["comments"]) + "\n" if b["comments"] else "") + it)
+            else:
+                invariants.append("-- LEFT\n" + "\n".join([sig] + b["unfolding"] + b["equations"]))
+            continue
+        m = re.search(r":\s+tie\.Need-([\w'-]+)", sig)
+        if m:
+            key = need_key(m.group(1))
+            if key not in names.needs:
+                said.append(f"no need {m.group(1)}")
+                it = turn.body("\n".join(b["equations"]), "Start")
+                if not re.search(r"=\s+search rules$", it):
+                    answers.append(f"-- LEFT: no goal {m.group(1)}\n" + "\n".join("-- " + x for x in (it).split("\n")))
+                continue
+            old, new, i = names.needs[key]
+            done.add(key)
+            place = entry["asked_at"][i][0]
+            if len(b["equations"]) != 1:
+                said.append(f"{new}: {len(b['equations'])} equations")
+            eq = b["equations"][0]
+            m2 = re.match(re.escape(b["name"]) + r"((?:\s+[^\s=]+)*)\s+=(\s.*)$", eq, re.S)
+            if not m2:
+                said.append(f"{new}: not read: {eq[:60]}")
+                continue
+            params = m2.group(1).split()
+            body = m2.group(2)
+            if params and params[-1] == "κs":
+                params = params[:-1]
+            if len(params) != 1:
+                said.append(f"{new}: params {params}")
+            var = params[-1] if params else "c"
+            body = turn.body(body, place, var)
+            bare = body.strip()
+            if bare == "search rules" or (bare == "omega arith" and not b["unfolding"]):
+                if not b["unfolding"]:
+                    continue
+            fields = entry["asked"].get(old)
+            if fields and len(fields) > 1:
+                made = record_of(fields, bare)
+                if made:
+                    body = " " + made
+                else:
+                    said.append(f"{new}: wants a record {fields}")
+            if "⊎_elim" in body and ".branch" in body:
+                said.append(f"{new}: a branch")
+            answers.append(
+                ("\n".join(b["comments"]) + "\n" if b["comments"] else "")
+                + f"pub {new} : goal.{new}\n"
+                + "".join(u + "\n" for u in b["unfolding"])
+                + f"{new} {' '.join(params)} ={body}"
+            )
+            continue
+        if re.search(r"\bstatement\b", sig) and "tie.close" in "\n".join(b["equations"]):
+            continue
+        it = "\n".join(b["comments"] + [sig] + b["unfolding"] + b["equations"])
+        if "tie." in it:
+            said.append(f"helper {b['name']} names tie")
+        answers.append(it.replace("tie.", "goal."))
+    for what in turn.missing:
+        said.append(f"no step {what}")
+    title = "\n".join(head)
+    made = []
+    goal_path = f"Rattle.{crate}.proofs.{path}"
+    if invariants:
+        body = "\n\n".join(invariants)
+        u = kept_uses(uses, body)
+        u.append(f"use {goal_path}.Given as goal")
+        made.append(("Invariants.antt", (title + "\n" if title else "") + "\n".join(u) + "\n\n" + body + "\n"))
+        title = ""
+    if answers:
+        body = "\n\n".join(answers)
+        u = kept_uses(uses, body)
+        u.append(f"use {goal_path}.Goals as goal")
+        made.append(("Answers.antt", (title + "\n" if title else "") + "\n".join(u) + "\n\n" + body + "\n"))
+    os.remove(where)
+    for name, t in made:
+        with open(os.path.join(folder, name), "w", encoding="utf-8") as f:
+            f.write(t)
+    if not made:
+        try:
+            os.removedirs(folder)
+        except OSError:
+            pass
+
+
+def main(argv):
+    named, crates = argv[0], argv[1:]
+    contracts = contracts_of(ROOT)
+    for crate in crates:
+        data = json.load(open(os.path.join(named, "crates", crate, "names.json")))
+        proofs = os.path.join(ROOT, "crates", crate, "proofs")
+        for base, dirs, files in os.walk(proofs, topdown=False):
+            if "Proof.antt" not in files:
+                continue
+            path = os.path.relpath(base, proofs).replace("/", ".")
+            entry = data.get(f"Rattle-{crate}-proofs.{path}.Lts")
+            said = []
+            if entry is None:
+                print(f"{crate}/{path}: no names")
+                continue
+            try:
+                function(crate, base, path, entry, contracts, said)
+            except Exception as e:  # say which file it was
+                print(f"{crate}/{path}: FAILED {type(e).__name__}: {e}")
+                raise
+            for s in said:
+                print(f"{crate}/{path}: {s}")
+
+
+main(sys.argv[1:])
