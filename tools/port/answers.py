@@ -167,8 +167,11 @@ class Turn:
 
     def body(self, text, place, var="c"):
         """The text of an answer, with each path from its record flattened and renamed."""
+        return self.told(text, {var: place})
+
+    def told(self, text, known):
+        known = dict(known)
         # variables bound to an outer record
-        known = {var: place}
         for m in re.finditer(r"let ([\w'-]+) =\s+([\w'-]+)((?:\.before)*)\s+in\b", text):
             if m.group(2) in known:
                 known[m.group(1)] = self.n.up(known[m.group(2)], m.group(3).count(".before"))
@@ -350,7 +353,7 @@ def function(crate, folder, path, entry, contracts, said):
     names = Names(entry, None)
     turn = Turn(names, contracts)
     head, uses, found = blocks(text)
-    invariants, answers, helpers = [], [], []
+    invariants, answers, helpers, places = [], [], [], set()
     done = set()
     for b in found:
         sig = b["sig"]
@@ -414,10 +417,26 @@ def function(crate, folder, path, entry, contracts, said):
             continue
         if re.search(r"\bstatement\b", sig) and "tie.close" in "\n".join(b["equations"]):
             continue
-        it = "\n".join(b["comments"] + [sig] + b["unfolding"] + b["equations"])
-        if "tie." in it:
-            said.append(f"helper {b['name']} names tie")
-        answers.append(it.replace("tie.", "goal."))
+        it = "\n".join([sig] + b["unfolding"] + b["equations"])
+        held = {}
+        for var, place in re.findall(r"\(([\w']+) : tie\.([\w'-]+)", it):
+            found_at = [p for p in names.parent if plain(p) == plain(place)]
+            if found_at:
+                held[var] = found_at[0]
+        if held:
+            it = turn.told(it, held)
+
+        def placed(m):
+            found_at = [p for p in names.parent if plain(p) == plain(m.group(1))]
+            if not found_at:
+                said.append(f"helper {b['name']} names tie.{m.group(1)}")
+                return m.group(0)
+            new = entry["places_by_name"][names.place_index[found_at[0]]]
+            places.add(new)
+            return new
+
+        it = re.sub(r"tie\.([\w'-]+)((?: (?:invariant|decreases)-[\w'-]+)*)", placed, it)
+        answers.append("\n".join(b["comments"] + [it]))
     for what in turn.missing:
         said.append(f"no step {what}")
     title = "\n".join(head)
@@ -433,6 +452,8 @@ def function(crate, folder, path, entry, contracts, said):
         body = "\n\n".join(answers)
         u = kept_uses(uses, body)
         u.append(f"use {goal_path}.Goals as goal")
+        if places:
+            u.append(f"use {goal_path}.Goals.{{{', '.join(sorted(places))}}}")
         made.append(("Answers.antt", (title + "\n" if title else "") + "\n".join(u) + "\n\n" + body + "\n"))
     os.remove(where)
     for name, t in made:
