@@ -14,7 +14,8 @@ WORD = r"[^\s(){}\[\],;.λ]+"
 
 
 def plain(name):
-    return re.sub(r"[-_]", "_", name)
+    name = re.sub(r"[-_]", "_", name).lower()
+    return name[:-4] if name.endswith("_lem") else name
 
 
 def need_key(name):
@@ -54,7 +55,7 @@ def blocks(text):
             out.append({"name": m.group(2), "marks": m.group(1), "sig": whole, "unfolding": [], "equations": [], "comments": pending})
             pending = []
             continue
-        if out and re.match(re.escape(out[-1]["name"]) + r"(?![\w'-])", whole):
+        if out and out[-1]["name"] and re.match(re.escape(out[-1]["name"]) + r"(?![\w'-])", whole):
             out[-1]["equations"].append(whole)
             continue
         out.append({"name": None, "marks": "", "sig": whole, "unfolding": [], "equations": [], "comments": pending})
@@ -475,6 +476,9 @@ def main(argv):
         for base, dirs, files in os.walk(proofs, topdown=False):
             if "Proof.antt" not in files:
                 continue
+            with open(os.path.join(base, "Proof.antt"), encoding="utf-8") as f:
+                if "tie.close" not in f.read():
+                    continue  # it walks the code
             path = os.path.relpath(base, proofs).replace("/", ".")
             entry = data.get(f"Rattle-{crate}-proofs.{path}.Lts")
             said = []
