@@ -58,11 +58,15 @@ small_is b h =
 pub size_is : (x : Float) (s : Bool) (a : ℕ) → HasValue x s a (2 ^ 1074) → units_of x ≡ a
 unfolding units_of
 size_is (fin t m e) s a v = ap (λ (z : ℕ). z / down e) v.1 ∙ mul-div_cancel a (down_pos e)
+size_is nan s a v = elim v [ ]
+size_is (inf _) s a v = elim v [ ]
 
 pub number_is : (x : Float) (a : ℕ) → HasValue x false a (2 ^ 1074) → T (fits binary64 x) → T (number x)
 unfolding number
 number_is (fin true m e) a v f = absurd (true≢false v.0)
 number_is (fin false m e) a v f = f
+number_is nan a v f = elim v [ ]
+number_is (inf _) a v f = elim v [ ]
 
 odd-size : (q k : ℕ) → units_of (odd 53 false q k 1074) ≡ q * 2 ^ k
 odd-size q k = size_is (odd 53 false q k 1074) false (q * 2 ^ k) (odd_sign 53 false q k 1074)

@@ -1,6 +1,7 @@
 // Number helpers: the square root of an f64, rounded to the nearest f64 and worked out from the bits with
 // whole numbers; magnitude, sign, finite test, total order, and the test of an allowed component.
 #![tactic(auto)]
+
 ghost use Rattle.std.specs.Prelude.{◌≡◌, ◌+◌, ◌-◌, ◌*◌, ◌^◌, ◌≤◌, ◌<◌};
 ghost use Rattle.std.specs.Float.{nan, binary64};
 ghost use Rattle.std.specs.Float.Ieee.{to_bits, of_bits};

@@ -1,0 +1,10 @@
+-- `clean_numbers::copy_back` meets its contract. The loop's invariant: k numbers are copied back. Assumes nothing.
+use Prim.Native.Nat.{◌-◌, ◌≤◌}
+use Rattle.clean_numbers.proofs.CopyLaws.{Back}
+use Rattle.clean_numbers.proofs.copy_back.Given as goal
+
+abbrev pub invariant-loop-k : goal.invariant-loop-k
+invariant-loop-k l = (l.k ≤ l.m) × Back l.m l.k l.initial.s l.s
+
+abbrev pub decreases-loop-k : goal.decreases-loop-k
+decreases-loop-k l = l.m - l.k

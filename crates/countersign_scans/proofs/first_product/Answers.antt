@@ -1,0 +1,20 @@
+use mathlib.Core.Path.{sym, ◌∙◌}
+use Prim.Native.Nat.{◌-◌}
+use native.Mathlib.Omega.{arith}
+use Rattle.countersign_scans.proofs.ScanLaws.{scan-begin, scan_good, scan-bad, scan-end}
+use Rattle.countersign_scans.proofs.first_product.Goals as goal
+
+pub loop-c-init : goal.loop-c-init
+loop-c-init c = (omega arith, scan-begin _ _)
+
+pub fits-requires : goal.fits-requires
+fits-requires c = let b = c.before.before.before.before.before.before.before.before.before in record { read = b.requires.read; factors = (b.requires.factors.0, b.requires.factors.1, c.loop-c-test.true) }
+
+pub loop-c-preserved : goal.loop-c-preserved
+loop-c-preserved c = (omega arith, scan_good _ _ _ c.loop-c.invariant.1 c.loop-c-test.true (sym c.fits2.ensures ∙ c.if-fits.true))
+
+pub returns-else-fits : goal.returns-else-fits
+returns-else-fits c = scan-bad _ _ _ c.loop-c.invariant.1 c.loop-c-test.true (sym c.fits2.ensures ∙ c.if-fits.false)
+
+pub returns : goal.returns
+returns c = scan-end _ _ _ c.loop-c.invariant.1 c.loop-c-test.false

@@ -1,0 +1,6 @@
+-- `countersign_shifted::cell_of` meets its contract: both numbers stand in the list. Assumes nothing.
+use Rattle.countersign_shifted.proofs.ShiftedLaws.{made-cell}
+use Rattle.countersign_shifted.proofs.cell_of.Goals as goal
+
+pub returns : goal.returns
+returns c = let b = c.before.before.before.before.before.before in made-cell _ _ b.requires.0 _ b.requires.1 c.wide-re.ensures c.wide-im.ensures

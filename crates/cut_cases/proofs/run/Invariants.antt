@@ -1,0 +1,9 @@
+-- `cut_cases::run` is safe and ends: it takes at most 10,000 cases. Assumes nothing.
+use Rattle.std.proofs.Common.{◌-◌, ◌≤◌}
+use Rattle.cut_cases.proofs.run.Given as goal
+
+abbrev pub invariant-loop : goal.invariant-loop
+invariant-loop l = l.counter ≤ 10000
+
+abbrev pub decreases-loop : goal.decreases-loop
+decreases-loop l = 10000 - l.counter

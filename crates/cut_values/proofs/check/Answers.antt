@@ -1,0 +1,13 @@
+-- `cut_values::check` meets its contract: its two parts in the paper's order. Assumes nothing.
+use mathlib.Core.Path.{sym, ◌∙◌}
+use Rattle.answers.proofs.Stopped.{refused, passed}
+use Rattle.cut_values.specs.Schmidt.{cut_values_rest}
+use Rattle.cut_values.proofs.check.Goals as goal
+
+pub returns-in_default : goal.returns-in_default
+unfolding cut_values_rest
+returns-in_default c = refused c.check_lengths-first.result _ _ c.check_lengths-first.ensures c.in_default.in_default-own.keys2
+
+pub returns : goal.returns
+unfolding cut_values_rest
+returns c = c.check_components.ensures ∙ sym (passed _ _ _ c.check_lengths-first.ensures c.in-Done.is)

@@ -1,0 +1,28 @@
+-- `cut_values::dense_schmidt_values` meets its contract: 1 to 5 refuse, or the work over the list's sides is the call. Assumes nothing.
+use mathlib.Core.Path.{◌≡◌}
+use Rattle.answers.proofs.Stopped.{refused, was-done, stopped-number}
+use Rattle.cut_sides.specs.Sides.{cut_refusal}
+use Rattle.cut_sides.proofs.SideLaws.{is-parted}
+use Rattle.cut_values.specs.Schmidt.{cut_values_tests}
+use Rattle.cut_values.proofs.SchmidtLaws.{schmidt-refused, schmidt-is-over}
+use Rattle.cut_values.proofs.dense_schmidt_values.Goals as goal
+use Rattle.cut_values.proofs.dense_schmidt_values.Goals.{In-Done}
+
+-- 1 to 5 do not refuse
+cut-passed : (c : In-Done) → let a = c.args in (cut_refusal a.list.now a.n a.cap).0 ≡ 0
+cut-passed c = was-done _ _ c.cut_refusal-first.ensures c.in-Done.is
+
+pub returns-in_default : goal.returns-in_default
+unfolding cut_values_tests
+returns-in_default c =
+    let r = c.cut_refusal-first.result in
+    schmidt-refused _ _ _ _ _ _ r _ c.refused.ensures (refused r _ _ c.cut_refusal-first.ensures c.in_default.in_default-own.keys2) (stopped-number r c.in_default.in_default-own.keys2)
+
+pub sides_of-cut-requires : goal.sides_of-cut-requires
+sides_of-cut-requires c = is-parted _ _ _ (cut-passed c)
+
+pub values_over-requires : goal.values_over-requires
+values_over-requires c = record { list = _; parted = is-parted _ _ _ (cut-passed c.before.before.before); are = c.sides_of-cut.ensures }
+
+pub returns : goal.returns
+returns c = schmidt-is-over _ _ _ _ _ _ _ c.sides_of-cut.ensures (cut-passed c.before.before.before.before.before.before.before.before) _ c.values_over.ensures

@@ -1,0 +1,60 @@
+-- `cut_values::values_over` meets its contract: refused before the work, or the work done on the needed part of scratch. Assumes nothing.
+use mathlib.Core.Path.{◌≡◌, sym, ap, ◌∙◌}
+use Prim.Native.Nat.{ℕ, ◌+◌, ◌*◌, ◌≤◌}
+use native.Mathlib.Omega.{arith}
+use lib.ListN.{length}
+use lib.Seq.{length-take-le}
+use Rattle.answers.proofs.Stopped.{was-done, stopped-number}
+use Rattle.qubits.proofs.NamedLaws.{pow_small}
+use Rattle.cut_sides.specs.declared.Sides.{Sides}
+use Rattle.cut_sides.specs.Sides.{Sided}
+use Rattle.cut_values.specs.Schmidt.{cut_values_rest}
+use Rattle.cut_values.proofs.SchmidtLaws.{rest-done, sides-few, sized, over-refused, over-worked}
+use Rattle.cut_values.proofs.values_over.Goals as goal
+use Rattle.cut_values.proofs.values_over.Goals.{After-bit, In-Done}
+
+few : (n : ℕ) (z : Sides) → Sided n z → z.rows ≤ 64
+few n z p = sides-few n p.list z p.parted p.are
+
+-- 6 and 7 do not refuse
+rest-passed : (c : In-Done) → let a = c.args in (cut_values_rest a.state.now a.n a.cut.rows (length a.out.now) (length a.scratch.now)).0 ≡ 0
+rest-passed c = was-done _ _ c.check-first.ensures c.in-Done.is
+
+fits : (c : After-bit) → let a = c.args in 8 * c.bit.result + 2 * a.cut.rows ≤ length a.scratch.now
+fits c = omega (arith, c.bit.ensures, (rest-done _ _ _ _ _ (rest-passed c.before)).2)
+
+pub check-first-requires : goal.check-first-requires
+check-first-requires c = let p = c.requires in (p.parted.listed.small, few _ _ p)
+
+pub returns-in_default : goal.returns-in_default
+returns-in_default c =
+    let r = c.check-first.result in
+    over-refused _ _ _ _ _ r _ c.refused.ensures c.check-first.ensures (stopped-number r c.in_default.in_default-own.keys2)
+
+pub bit-requires : goal.bit-requires
+bit-requires c = omega (arith, c.requires.parted.listed.small)
+
+pub overflow_mul-need : goal.overflow_mul-need
+overflow_mul-need c = omega (arith, c.bit.ensures, pow_small _ c.requires.parted.listed.small)
+
+pub overflow_mul-need-2 : goal.overflow_mul-need-2
+overflow_mul-need-2 c = omega (arith, few _ _ c.requires)
+
+pub overflow_add-need : goal.overflow_add-need
+overflow_add-need c = omega (arith, few _ _ c.requires, c.bit.ensures, pow_small _ c.requires.parted.listed.small)
+
+pub slice_bounds-work-end : goal.slice_bounds-work-end
+slice_bounds-work-end c = fits c.before.before
+
+pub slice_bounds-work-end-2 : goal.slice_bounds-work-end-2
+slice_bounds-work-end-2 c = sym (length-take-le _ _ (fits c.before.before.before))
+
+pub work-requires : goal.work-requires
+work-requires c =
+    let p = c.requires in
+    let d = rest-done _ _ _ _ _ (rest-passed c.before.before.before.before) in
+    (sized _ _ _ _ p.parted p.are d.0, d.1, length-take-le _ _ (fits c.before.before.before) ∙ omega (arith, c.bit.ensures))
+
+pub returns : goal.returns
+returns c =
+    over-worked _ _ _ _ _ c.work.result _ (ap (λ (x : ℕ). 8 * x + 2 * c.args.cut.rows) c.bit.ensures) (rest-passed c.before.before.before.before.before.before.before.before.before) c.work.ensures

@@ -1,0 +1,47 @@
+-- `cuts::cut_over` meets its contract: at each way out the answers of the calls passed are 0, so the row of tests comes down to the last
+-- call's. Assumes nothing.
+use mathlib.Core.Path.{◌≡◌, refl, sym, ◌∙◌, ap}
+use lib.ListN.{length}
+use Rattle.answers.specs.Paper.{Reply, paper, and_then}
+use Rattle.answers.proofs.Stopped.{refused, passed, was-done, stopped-number}
+use Rattle.cuts.specs.Cut.{cut_lengths}
+use Rattle.cuts.proofs.CutLaws.{ready-sides, lengths-done, over-refused, over_done}
+use Rattle.cuts.proofs.cut_over.Goals as goal
+use Rattle.cuts.proofs.cut_over.Goals.{In-Done}
+
+-- past the first call: 6 does not refuse
+first_done : (c : In-Done) (b : Reply) → let z = c.args in and_then (cut_lengths z.n (length z.state.now) (length z.out.now)) b ≡ b
+first_done c b = passed _ _ b c.cut_lengths-first.ensures c.in-Done.is
+
+pub cut_lengths-first-requires : goal.cut_lengths-first-requires
+cut_lengths-first-requires c = c.requires.parted.listed.small
+
+pub returns-in_default : goal.returns-in_default
+returns-in_default c =
+    let z = c.args in
+    let r = c.cut_lengths-first.result in
+    over-refused z.state.now z.n z.cut z.out.now r
+    (refused r _ _ c.cut_lengths-first.ensures c.in_default.in_default-own.keys2) (stopped-number r c.in_default.in_default-own.keys2)
+
+pub returns-in_default-second : goal.returns-in_default-second
+returns-in_default-second c =
+    let f = c.before.before in
+    let z = f.args in
+    let r = c.check_components-second.result in
+    over-refused z.state.now z.n z.cut z.out.now r
+    (c.check_components-second.ensures ∙ sym (first_done f _)) (stopped-number r c.in_default-second.in_default-second-own.keys2)
+
+pub fill_cut-requires : goal.fill_cut-requires
+fill_cut-requires c =
+    let f = c.before.before.before.before in
+    let z = f.before.before.before.before.before in
+    let d = lengths-done _ _ _ (was-done _ _ f.cut_lengths-first.ensures f.in-Done.is) in
+    ready-sides _ _ _ _ z.requires d.0 d.1
+
+pub returns : goal.returns
+returns c =
+    let d = c.before.before.before.before in
+    let f = d.before.before.before in
+    let z = f.args in
+    over_done z.state.now z.n z.cut z.out.now _
+    (ap paper (sym d.in-Done-second.is) ∙ d.check_components-second.ensures ∙ sym (first_done f _)) _ refl c.fill_cut.ensures

@@ -1,0 +1,21 @@
+-- `density_block::block_sizes` meets its contract: each way out is the first of the tests that holds. Assumes nothing.
+use mathlib.Core.Path.{sym, ap, ◌∙◌}
+use Prim.Native.Nat.{ℕ}
+use native.Mathlib.Omega.{arith}
+use Rattle.answers.specs.Paper.{Reply}
+use Rattle.answers.proofs.Stopped.{was-done, stopped-number}
+use Rattle.qubits.specs.Lists.{qubit_set}
+use Rattle.density_block.proofs.AnswerLaws.{sizes-places, sizes-side, sizes-good, short-list}
+use Rattle.density_block.proofs.block_sizes.Goals as goal
+
+pub returns-in_default : goal.returns-in_default
+returns-in_default c = let z = c.before.before.before.before in let r = c.validate_qubit_set-places.result in let e = c.validate_qubit_set-places.ensures ∙ ap (λ (w : ℕ). qubit_set w z.args.positions.now) c.width_of.ensures in sym (sizes-places z.args.dim z.args.positions.now z.args.side (λ n. stopped-number r c.in_default.in_default-own.keys2 (ap (λ (x : Reply). x.0) e ∙ n)))
+
+pub bit-requires : goal.bit-requires
+bit-requires c = let z = c.before.before.before.before.before in let e = c.validate_qubit_set-places.ensures ∙ ap (λ (w : ℕ). qubit_set w z.args.positions.now) c.width_of.ensures in omega (arith, short-list z.args.dim z.args.positions.now z.args.side (was-done _ _ e c.in-Done.is))
+
+pub returns-then-side-bit : goal.returns-then-side-bit
+returns-then-side-bit c = let z = c.before.before.before.before.before.before.before in let e = c.validate_qubit_set-places.ensures ∙ ap (λ (w : ℕ). qubit_set w z.args.positions.now) c.width_of.ensures in sym (sizes-side z.args.dim z.args.positions.now z.args.side (was-done _ _ e c.in-Done.is) (λ h. c.if-side-bit.true (h ∙ sym c.bit.ensures)))
+
+pub returns : goal.returns
+returns c = let z = c.before.before.before.before.before.before.before in let e = c.validate_qubit_set-places.ensures ∙ ap (λ (w : ℕ). qubit_set w z.args.positions.now) c.width_of.ensures in sym (sizes-good z.args.dim z.args.positions.now z.args.side (was-done _ _ e c.in-Done.is) (c.if-side-bit.false ∙ c.bit.ensures))

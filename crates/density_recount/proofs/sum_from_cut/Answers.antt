@@ -1,0 +1,54 @@
+-- `density_recount::sum_from_cut` meets its contract: the layout, the table, the lower half and the mirror hand on to each other by the laws of
+-- `RecountLaws`. Assumes nothing.
+use native.Mathlib.Omega.{arith}
+use lib.ListN.{length}
+use Rattle.densities.proofs.DensityLaws.{side-small}
+use Rattle.density_recount.proofs.RecountLaws.{layout-room, layout_is, layout-scale, recount-square, recount-ready, recount-end}
+use Rattle.density_recount.proofs.sum_from_cut.Goals as goal
+
+pub sides_of-s-requires : goal.sides_of-s-requires
+sides_of-s-requires c = c.requires.parted
+
+pub bit-requires : goal.bit-requires
+bit-requires c = omega (arith, c.requires.parted.listed.small)
+
+pub layout_of-z-requires : goal.layout_of-z-requires
+layout_of-z-requires c =
+    let z = c.before.before.before.before.before in
+    layout-room z.args.list.now z.args.n z.requires.parted _ _ c.sides_of-s.ensures c.bit.ensures
+
+pub bit-dim-requires : goal.bit-dim-requires
+bit-dim-requires c = omega (arith, c.requires.few)
+
+pub overflow_sub-n : goal.overflow_sub-n
+overflow_sub-n c = omega (arith, c.requires.parted.part)
+
+pub bit-groups-requires : goal.bit-groups-requires
+bit-groups-requires c = omega (arith, c.requires.parted.listed.small)
+
+pub mask_of-mask-requires : goal.mask_of-mask-requires
+mask_of-mask-requires c = c.requires.parted.listed
+
+pub fill_numbers-requires : goal.fill_numbers-requires
+fill_numbers-requires c = let z = c.before.before.before.before.before.before.before.before.before.before in
+    let scale = layout-scale z.args.list.now z.args.n z.requires.parted _ _ c.sides_of-s.ensures c.bit.ensures _ c.layout_of-z.ensures in record { listed = z.requires.parted.listed; mask_value = (c.mask_of-mask.ensures.0, scale, rw c.bit-dim.ensures (side-small (length z.args.list.now) z.requires.few)) }
+
+pub fill_lower-requires : goal.fill_lower-requires
+fill_lower-requires c = let z = c.before.before.before.before.before.before.before.before.before.before.before.before.before.before in
+    let e = layout_is z.args.list.now z.args.n z.requires.parted _ _ c.sides_of-s.ensures c.bit.ensures _ c.layout_of-z.ensures in
+    let d = c.bit-dim.ensures in record { entries_ready = recount-ready z.args.matrix.now z.args.n z.args.list.now z.args.out.now z.requires _ e _ _ _ d c.fill_numbers.ensures
+          (rw d (side-small (length z.args.list.now) z.requires.few)); square = (recount-square z.args.matrix.now z.args.n z.args.list.now z.args.out.now z.requires _ e _ d, ) }
+
+pub mirror-requires : goal.mirror-requires
+mirror-requires c =
+    let z = c.before.before.before.before.before.before.before.before.before.before.before.before.before.before.before.before.before.before in
+    let e = layout_is z.args.list.now z.args.n z.requires.parted _ _ c.sides_of-s.ensures c.bit.ensures _ c.layout_of-z.ensures in
+    let q = recount-square z.args.matrix.now z.args.n z.args.list.now z.args.out.now z.requires _ e _ c.bit-dim.ensures in
+    record { small = q.small; room = omega (arith, q.room, c.fill_lower.ensures.long) }
+
+pub returns : goal.returns
+returns c =
+    let z = c.before.before.before.before.before.before.before.before.before.before.before.before.before.before.before.before.before.before.before.before.before in
+    let e = layout_is z.args.list.now z.args.n z.requires.parted _ _ c.sides_of-s.ensures c.bit.ensures _ c.layout_of-z.ensures in
+    recount-end z.args.matrix.now z.args.n z.args.list.now z.args.out.now z.requires _ e _ _ _ _ _ _ c.bit-dim.ensures
+    c.fill_numbers.ensures c.bit-groups.ensures c.fill_lower.ensures c.mirror.ensures

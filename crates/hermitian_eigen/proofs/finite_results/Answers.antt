@@ -1,0 +1,11 @@
+-- `hermitian_eigen::finite_results` meets its contract: one list after the other. Assumes nothing.
+use mathlib.Core.Path.{sym, ◌∙◌}
+use borrow.Author.Tests.{not-true, not-false}
+use Rattle.hermitian_eigen.proofs.HermitianLaws.{finite-first, finite-second}
+use Rattle.hermitian_eigen.proofs.finite_results.Goals as goal
+
+pub returns-then-not-all_finite : goal.returns-then-not-all_finite
+returns-then-not-all_finite c = finite-first _ _ (sym c.all_finite.ensures ∙ not-true _ c.if-not-all_finite.true)
+
+pub returns : goal.returns
+returns c = finite-second _ _ (sym c.all_finite.ensures ∙ not-false _ c.if-not-all_finite.false) c.all_finite-2.ensures

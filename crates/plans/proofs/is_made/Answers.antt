@@ -1,0 +1,41 @@
+-- `plans::is_made` meets its contract: the plan of its list is made anew and compared. Assumes nothing.
+use mathlib.Core.Path.{refl, sym, ap, ◌∙◌}
+use Prim.Native.Nat.{◌≤◌}
+use native.Mathlib.Omega.{arith}
+use lib.ListN.{length}
+use lib.Seq.{length-take-le}
+use Rattle.answers.specs.Paper.{Reply}
+use Rattle.answers.proofs.Stopped.{was-done, stopped-number}
+use Rattle.plans.specs.declared.Plan.{Plan}
+use Rattle.plans.specs.Plans.{same_plan}
+use Rattle.plans.proofs.PlanLaws.{twelve, made-long, made-refused, made-same, plan-given}
+use Rattle.plans.proofs.is_made.Goals as goal
+
+pub returns-then-k-gt12 : goal.returns-then-k-gt12
+returns-then-k-gt12 c = sym (made-long c.args.p c.if-k-gt12.true)
+
+pub slice_bounds-named-end : goal.slice_bounds-named-end
+slice_bounds-named-end c =
+    let s = c.before.before in
+    omega (arith, c.if-k-gt12.false, twelve s.args.p.named s.well_formed.0.1.1.1.1.1.1.1.1.0.1.0.1)
+
+pub slice_bounds-cut_plan-end : goal.slice_bounds-cut_plan-end
+slice_bounds-cut_plan-end c =
+    let s = c.before.before.before in
+    let h : s.args.p.k ≤ length s.args.p.named
+    = omega (arith, c.if-k-gt12.false, twelve s.args.p.named s.well_formed.0.1.1.1.1.1.1.1.1.0.1.0.1) in
+    sym (length-take-le s.args.p.k s.args.p.named h)
+
+pub returns-in_default : goal.returns-in_default
+returns-in_default c =
+    let p = c.args.p in
+    let r = c.cut_plan-again in
+    sym (made-refused p (λ z. stopped-number r.result.answer c.in_default.in_default-own.keys2 (ap (λ (x : Reply). x.0) r.ensures.answer ∙ z)))
+
+pub returns : goal.returns
+returns c =
+    let p = c.args.p in
+    let r = c.cut_plan-again in
+    let z = was-done _ _ r.ensures.answer c.in-Done.is in
+    c.same_plan.ensures ∙ ap (λ (x : Plan). same_plan p x) (plan-given _ _ _ _ r.ensures z)
+    ∙ sym (made-same p _ refl c.if-k-gt12.false z)

@@ -1,0 +1,31 @@
+use mathlib.Core.Path.{sym, ◌∙◌, ap}
+use Prim.Native.Nat.{ℕ, ◌+◌, ◌<◌, ◌-◌, ◌^◌, ◌/◌}
+use native.Mathlib.Omega.{arith}
+use lib.ListN.{drop, get_or}
+use lib.Bits.{bit_or}
+use Rattle.qubits.specs.Spread.{spread}
+use Rattle.qubits.proofs.SpreadLaws.{spread-step, bit-code, offset-begin, offset-end}
+use Rattle.qubits.proofs.row_offset.Goals as goal
+
+pub loop-i-init : goal.loop-i-init
+loop-i-init c = (omega arith, offset-begin _ _)
+
+pub overflow_shl-offset : goal.overflow_shl-offset
+overflow_shl-offset c =
+    omega (arith, c.requires.below c.loop-i.i c.loop-i-test.true, c.requires.small)
+
+pub loop-i-preserved : goal.loop-i-preserved
+loop-i-preserved c =
+    let z = c.before.before.before in
+    let k = c.loop-i in
+    let h = c.loop-i-test.true in
+    let q = get_or z.args.list.now k.i 0 in
+    let l : q < 64 = omega (arith, z.requires.below k.i h, z.requires.small) in (
+      omega (arith, h),
+      k.invariant.1 ∙ spread-step _ k.i k.offset _ h
+          ∙ ap (λ (b : ℕ). bit_or (bit_or k.offset b) (spread (drop (k.i + 1) z.args.list.now) (z.args.t / 2 ^ (k.i + 1))))
+          (sym (bit-code (z.args.t / 2 ^ k.i) q l)),
+    )
+
+pub returns : goal.returns
+returns c = sym (c.loop-i.invariant.1 ∙ offset-end _ _ _ _ c.loop-i-test.false)

@@ -1,0 +1,32 @@
+use mathlib.Core.Path.{sym, ◌∙◌}
+use mathlib.Core.Logic.{⊎_elim}
+use Prim.Native.Nat.{◌<◌, ◌-◌}
+use native.Mathlib.Omega.{arith}
+use Rattle.qubits.proofs.SpreadLaws.{insert-begin, insert-step, insert-past, insert-end, insert-room}
+use Rattle.qubits.proofs.OtherLaws.{others-length, small-index}
+use Rattle.qubits.proofs.traced_base_of.Goals as goal
+
+pub loop-q-init : goal.loop-q-init
+loop-q-init c = insert-begin _ _ _
+
+pub insert_zero_bit-base-requires : goal.insert_zero_bit-base-requires
+insert_zero_bit-base-requires c =
+    let z = c.before.before.before.before.before in
+    let h = c.loop-q-test.true in
+    let s : z.args.e < 4096 = small-index _ _ _ z.requires.listed.small z.requires.e_bound in
+    (insert-room _ _ _ _ _ c.loop-q.invariant h z.requires.listed.small s, omega (arith, h, z.requires.listed.small))
+
+pub loop-q-preserved : goal.loop-q-preserved
+loop-q-preserved c =
+    let i = c.loop-q.invariant in
+    let h = c.loop-q-test.true in
+    let s = c.stands_in.ensures in
+    ⊎_elim
+    (λ w. rw (w.2 ∙ w.1.ensures) (insert-step _ _ _ _ _ i h (sym s ∙ w.0.taken)))
+    (λ w. rw w.1 (insert-past _ _ _ _ _ i h (sym s ∙ w.0.left)))
+    c.if-stands_in.branch
+
+pub returns : goal.returns
+returns c =
+    let z = c.before.before.before in
+    insert-end _ _ _ _ _ c.loop-q.invariant c.loop-q-test.false (rw (others-length _ _ z.requires.listed) z.requires.e_bound)

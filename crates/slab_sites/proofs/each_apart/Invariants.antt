@@ -1,0 +1,13 @@
+-- `slab_sites::each_apart` meets its contract. The loop's invariant: each of the first i sites is inside and
+-- apart from all before it. Assumes nothing.
+use mathlib.Core.Path.{◌≡◌}
+use mathlib.Core.Bool.{true}
+use Prim.Native.Nat.{◌-◌, ◌≤◌}
+use Rattle.slab_sites.specs.Sites.{each_apart}
+use Rattle.slab_sites.proofs.each_apart.Given as goal
+
+abbrev pub invariant-loop-i : goal.invariant-loop-i
+invariant-loop-i l = (l.i ≤ l.n) × (each_apart l.index l.i ≡ true)
+
+abbrev pub decreases-loop-i : goal.decreases-loop-i
+decreases-loop-i l = l.n - l.i

@@ -1,0 +1,94 @@
+-- `svd::svd_jacobi` meets its contract: refused before the work, or the work done on the needed parts. Assumes nothing.
+use mathlib.Core.Path.{sym, ap, ◌∙◌}
+use Prim.Native.Nat.{◌+◌, ◌*◌, ◌≤◌}
+use native.Mathlib.Omega.{arith}
+use lib.ListN.{length}
+use lib.Seq.{length-take-le}
+use Rattle.answers.proofs.Stopped.{passed, was-done, stopped-number}
+use Rattle.svd.proofs.SvdLaws.{SvdAccepted, accepted, side-cells, svd-worked, svd-refused}
+use Rattle.svd.proofs.svd_jacobi.Goals as goal
+use Rattle.svd.proofs.svd_jacobi.Goals.{After-smaller_size-k, In-Done}
+
+-- the tests passed
+accept : (c : In-Done)
+    → let a = c.args in
+    SvdAccepted a.m a.n (length a.a.now) (length a.u.now) (length a.s.now) (length a.vt.now) (length a.scratch.now)
+accept c = accepted _ _ _ _ _ _ _ (was-done _ _ c.check-answer.ensures c.in-Done.is)
+
+cells : (c : After-smaller_size-k)
+    → let a = c.args in
+    (a.m * c.smaller_size-k.result ≤ a.m * a.n) × (c.smaller_size-k.result * a.n ≤ a.m * a.n) × (c.smaller_size-k.result ≤ a.m * a.n)
+cells c = side-cells _ _ _ c.smaller_size-k.ensures
+
+small : (c : After-smaller_size-k) → let a = c.args in a.m * a.n ≤ 4096
+small c = (accept c.before).cells
+
+-- each part fits its slice
+u-fits : (c : After-smaller_size-k) → let a = c.args in 2 * (a.m * c.smaller_size-k.result) ≤ length a.u.now
+u-fits c = rw c.smaller_size-k.ensures (accept c.before).u-fits
+
+s-fits : (c : After-smaller_size-k) → let a = c.args in c.smaller_size-k.result ≤ length a.s.now
+s-fits c = rw c.smaller_size-k.ensures (accept c.before).s-fits
+
+vt-fits : (c : After-smaller_size-k) → let a = c.args in 2 * (c.smaller_size-k.result * a.n) ≤ length a.vt.now
+vt-fits c = rw c.smaller_size-k.ensures (accept c.before).vt-fits
+
+scratch-fits : (c : After-smaller_size-k) → let a = c.args in 6 * (a.m * a.n) + 2 * c.smaller_size-k.result ≤ length a.scratch.now
+scratch-fits c = rw c.smaller_size-k.ensures (accept c.before).scratch-fits
+
+pub returns-in_default : goal.returns-in_default
+returns-in_default c = svd-refused _ _ _ _ _ _ _ c.check-answer.result _ c.refused.ensures c.check-answer.ensures (stopped-number c.check-answer.result c.in_default.in_default-own.keys2)
+
+pub overflow_mul-for_u : goal.overflow_mul-for_u
+overflow_mul-for_u c = omega (arith, (cells c).0, small c)
+
+pub overflow_mul-for_u-2 : goal.overflow_mul-for_u-2
+overflow_mul-for_u-2 c = omega (arith, (cells c).0, small c)
+
+pub overflow_mul-for_vt : goal.overflow_mul-for_vt
+overflow_mul-for_vt c = omega (arith, (cells c).1, small c)
+
+pub overflow_mul-for_vt-2 : goal.overflow_mul-for_vt-2
+overflow_mul-for_vt-2 c = omega (arith, (cells c).1, small c)
+
+pub overflow_mul-for_scratch : goal.overflow_mul-for_scratch
+overflow_mul-for_scratch c = omega (arith, small c)
+
+pub overflow_mul-for_scratch-2 : goal.overflow_mul-for_scratch-2
+overflow_mul-for_scratch-2 c = omega (arith, small c)
+
+pub overflow_mul-for_scratch-3 : goal.overflow_mul-for_scratch-3
+overflow_mul-for_scratch-3 c = omega (arith, (cells c).2, small c)
+
+pub overflow_add-for_scratch : goal.overflow_add-for_scratch
+overflow_add-for_scratch c = omega (arith, (cells c).2, small c)
+
+pub slice_bounds-work-end : goal.slice_bounds-work-end
+slice_bounds-work-end c = u-fits c
+
+pub slice_bounds-work-end-2 : goal.slice_bounds-work-end-2
+slice_bounds-work-end-2 c = sym (length-take-le _ _ (u-fits c.before))
+
+pub slice_bounds-work-end-3 : goal.slice_bounds-work-end-3
+slice_bounds-work-end-3 c = s-fits c.before
+
+pub slice_bounds-work-end-4 : goal.slice_bounds-work-end-4
+slice_bounds-work-end-4 c = sym (length-take-le _ _ (s-fits c.before.before))
+
+pub slice_bounds-work-end-5 : goal.slice_bounds-work-end-5
+slice_bounds-work-end-5 c = vt-fits c.before.before
+
+pub slice_bounds-work-end-6 : goal.slice_bounds-work-end-6
+slice_bounds-work-end-6 c = sym (length-take-le _ _ (vt-fits c.before.before.before))
+
+pub slice_bounds-work-end-7 : goal.slice_bounds-work-end-7
+slice_bounds-work-end-7 c = scratch-fits c.before.before.before
+
+pub slice_bounds-work-end-8 : goal.slice_bounds-work-end-8
+slice_bounds-work-end-8 c = sym (length-take-le _ _ (scratch-fits c.before.before.before.before))
+
+pub work-requires : goal.work-requires
+work-requires c = let s = c.before.before.before.before in let k = s.smaller_size-k.ensures in let a = accept s.before in record { rows = a.rows; columns = a.columns; cells = a.cells; a-is = a.a-is; u-is = length-take-le _ _ (u-fits s) ∙ ap (λ x. 2 * (c.args.m * x)) k; s-is = length-take-le _ _ (s-fits s) ∙ k; vt_is = length-take-le _ _ (vt-fits s) ∙ ap (λ x. 2 * (x * c.args.n)) k; scratch-is = length-take-le _ _ (scratch-fits s) ∙ ap (λ x. 6 * (c.args.m * c.args.n) + 2 * x) k }
+
+pub returns : goal.returns
+returns c = svd-worked _ _ _ _ _ _ _ c.work.result c.smaller_size-k.ensures (passed _ _ _ c.check-answer.ensures c.in-Done.is) c.work.ensures

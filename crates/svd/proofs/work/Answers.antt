@@ -1,0 +1,20 @@
+-- `svd::work` meets its contract: the factors, scratch zeroed, and the finite test. Assumes nothing.
+use Rattle.svd.proofs.SvdLaws.{worked}
+use Rattle.svd.proofs.work.Goals as goal
+
+pub returns : goal.returns
+returns c =
+    let start = c.before.before.before.before.before.before.before.before.before.before.before.before.before.before.before.before.before.before.before.before.before.before.before.before.before.before.before.before.before.before.before.before.before in
+    let a = start.args in
+    let f = c.factor-sweeps in
+    worked _ _ _ _ a.u.now a.s.now a.vt.now a.scratch.now _ _ _ start.requires
+    f.auto.1.1.1.0
+    f.auto.1.1.1.1.0
+    f.auto.1.1.1.1.1.0
+    f.ensures
+    _
+    f.auto.1.1.1.1.1.1.0
+    f.auto.1.1.1.1.1.1.0
+    c.zero_first.ensures
+    c.finish-answer.ensures
+    c.answered.ensures

@@ -1,0 +1,51 @@
+use mathlib.Core.Path.{refl, ap, ◌∙◌}
+use Prim.Native.Nat.{ℕ, ◌+◌, ◌*◌, ◌-◌, ◌≤◌}
+use native.Mathlib.Omega.{arith}
+use lib.ListN.{length, length-set}
+use lib.Ieee.{Float}
+use Rattle.numbers.specs.Root.{sqrt_of}
+use Rattle.complex.proofs.Loops.{stop}
+use Rattle.exact_roots.specs.Exact.{exact_root, all_exact}
+use Rattle.exact_roots.proofs.All.{all_none, all_more}
+use Rattle.tables.specs.Tables.{filled}
+use Rattle.whole_numbers.proofs.WholeLaws.{column_fits}
+use Rattle.tables.proofs.TablesLaws.{filled_none, filled-all}
+use Rattle.complex.specs.Squares.{squares_to}
+use Rattle.svd_columns.specs.Columns.{plane_from, norms_of, norms_exact}
+use Rattle.svd_columns.proofs.Grids.{filled-step}
+use borrow.Author.Rules.{rules}
+use Rattle.svd_columns.proofs.norms_marked.Goals as goal
+use Rattle.svd_columns.proofs.norms_marked.Goals.{In-loop-j}
+
+-- the column j ends within the matrix
+col : (c : In-loop-j)
+    → let a = c.args in c.loop-j.j * a.rows + a.rows ≤ a.side * a.rows
+col c = column_fits _ _ _ c.loop-j-test.true
+
+pub loop-j-init : goal.loop-j-init
+loop-j-init c = (search rules, refl, filled_none _ _, all_none _)
+
+pub overflow_mul-j : goal.overflow_mul-j
+overflow_mul-j c = omega (arith, col c)
+
+pub squares-requires : goal.squares-requires
+squares-requires c = (col c, search rules)
+
+pub loop-j-preserved : goal.loop-j-preserved
+loop-j-preserved c =
+    let d = c.before.before.before.before in
+    let sum = c.squares.ensures in (
+      search rules,
+      simp length-set d.loop-j.invariant.1,
+      filled-step _ _ _ (omega (arith, d.requires.2, c.loop-j-test.true)) d.loop-j.invariant.2 (c.sqrt_marked-one.ensures.0 ∙ ap sqrt_of sum),
+      all_more _ _ d.loop-j.invariant.3 (c.sqrt_marked-one.ensures.1 ∙ ap exact_root sum),
+    )
+
+pub returns : goal.returns
+unfolding norms_of norms_exact
+returns c =
+    let a = c.args in
+    let f : ℕ → Float = λ i. squares_to (plane_from a.work.now (a.side * a.rows) (i * a.rows)) a.rows in (
+      stop (λ k. filled k (λ i. sqrt_of (f i)) a.s.now) c.loop-j.invariant.2 (search rules) (search rules) ∙ filled-all _ _ _ c.requires.2,
+      stop (λ k. all_exact k f) c.loop-j.invariant.3 (search rules) (search rules),
+    )
