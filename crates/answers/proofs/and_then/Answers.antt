@@ -7,4 +7,4 @@ pub returns-in-Done : goal.returns-in-Done
 returns-in-Done c = rw c.in-Done.is refl
 
 pub returns-in_default : goal.returns-in_default
-returns-in_default c = sym (stopped c.args.a _ c.in_default.in_default-own.keys2)
+returns-in_default c = sym (stopped c.args.a _ c.in_default.not-Done)

@@ -9,7 +9,7 @@ use Rattle.certificate_front.proofs.FrontLaws.{puts-past, mid-long, one-refused,
 use Rattle.certificate_front.proofs.put_one.Goals as goal
 
 pub returns-in_default : goal.returns-in_default
-returns-in_default c = one-refused _ _ _ _ _ _ _ _ _ _ _ (stopped-number c.args.answer c.in_default.in_default-own.keys2) c.put_reply.ensures
+returns-in_default c = one-refused _ _ _ _ _ _ _ _ _ _ _ (stopped-number c.args.answer c.in_default.not-Done) c.put_reply.ensures
 
 pub put_accepted-length-requires : goal.put_accepted-length-requires
 put_accepted-length-requires c = (c.requires.printable (ap (λ (a : Answer). (paper a).0) c.in-Done.is), omega (arith, c.requires.fits, mid-long c.args.at c.args.out.now (omega (arith, c.requires.fits))))

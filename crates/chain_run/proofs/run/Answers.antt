@@ -39,7 +39,7 @@ pub shape_of-scratch-in_default : goal.shape_of-scratch-in_default
 shape_of-scratch-in_default c = c.walk-end.auto.1.1.1.1.1.1.1.1.1.0
 
 pub returns-in_default : goal.returns-in_default
-returns-in_default c = run-refused c.args.state.now _ _ _ _ _ _ _ c.walk-end.result (sym c.all_zero.ensures ∙ c.if-all_zero.false) c.lay_state.ensures c.walk-end.ensures (stopped-number c.walk-end.result.answer c.in_default.in_default-own.keys2)
+returns-in_default c = run-refused c.args.state.now _ _ _ _ _ _ _ c.walk-end.result (sym c.all_zero.ensures ∙ c.if-all_zero.false) c.lay_state.ensures c.walk-end.ensures (stopped-number c.walk-end.result.answer c.in_default.not-Done)
 
 pub put_last-requires : goal.put_last-requires
 put_last-requires c = last-room _ _ _ _ _ _ _ _ _ _ _ c.requires.some c.requires.limit-some (c.walk-end.ensures.walked (ap (λ (r : Answer). (paper r).0) c.enum_told-1.given.1)) c.requires.small (c.walk-end.auto.1.1.1.1.1.1.1.0 ∙ c.lay_state.auto.1.1.0 ∙ c.requires.u-is) (c.walk-end.auto.1.1.1.0 ∙ c.requires.sites-is) (same_len_mid 1 (length c.args.bonds.now - 1) c.args.bonds.now c.walk-end.new.1.1.1.1.0 c.walk-end.auto.1.1.1.1.0 ∙ c.requires.bonds-is) (same_len_mid 1 (length c.args.starts.now - 1) c.args.starts.now c.walk-end.new.1.1.1.1.1.0 c.walk-end.auto.1.1.1.1.1.0 ∙ c.requires.starts_is)

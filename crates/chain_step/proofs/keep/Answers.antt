@@ -23,7 +23,7 @@ pub slice_bounds-check_components-end-2 : goal.slice_bounds-check_components-end
 slice_bounds-check_components-end-2 c = sym (length-take-le _ _ (omega (arith, c.write_both.auto.1.1.1.1.1.1.0, (carried-room _ _ _ _ _ _ _ (keeping _ _ _ _ _ _ _ _ c.requires c.truncated_svd_rank-chi.ensures)).1)))
 
 pub returns-in_default : goal.returns-in_default
-returns-in_default c = kept-bad _ _ _ _ _ _ _ _ _ _ _ _ c.check_components-answer.result c.truncated_svd_rank-chi.ensures c.write_both.ensures.0 c.write_both.ensures.1 c.check_components-answer.ensures (stopped-number c.check_components-answer.result c.in_default.in_default-own.keys2)
+returns-in_default c = kept-bad _ _ _ _ _ _ _ _ _ _ _ _ c.check_components-answer.result c.truncated_svd_rank-chi.ensures c.write_both.ensures.0 c.write_both.ensures.1 c.check_components-answer.ensures (stopped-number c.check_components-answer.result c.in_default.not-Done)
 
 pub returns : goal.returns
 returns c = kept-good _ _ _ _ _ _ _ _ _ _ _ _ c.check_components-answer.result c.truncated_svd_rank-chi.ensures c.write_both.ensures.0 c.write_both.ensures.1 c.check_components-answer.ensures _ (ap (λ (r : Answer). (paper r).0) c.in-Done.is) c.discards_resolvable_weight-drops.ensures

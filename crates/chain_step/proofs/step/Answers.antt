@@ -26,7 +26,7 @@ pub shape_of-scratch-in_default : goal.shape_of-scratch-in_default
 shape_of-scratch-in_default c = c.factor-factors.auto.1.1.1.1.1.0
 
 pub returns-in_default : goal.returns-in_default
-returns-in_default c = stepped-refused _ _ _ _ _ _ c.factor-factors.result c.factor-factors.ensures (stopped-number c.factor-factors.result.answer c.in_default.in_default-own.keys2)
+returns-in_default c = stepped-refused _ _ _ _ _ _ c.factor-factors.result c.factor-factors.ensures (stopped-number c.factor-factors.result.answer c.in_default.not-Done)
 
 pub overflow_mul-for_vt : goal.overflow_mul-for_vt
 overflow_mul-for_vt c = omega (arith, (rooms _ _ c.smaller_size-k.ensures c.requires.0.few).1)

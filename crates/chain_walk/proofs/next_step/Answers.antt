@@ -19,7 +19,7 @@ pub shape_of-scratch-in_default : goal.shape_of-scratch-in_default
 shape_of-scratch-in_default c = c.one_link-link.auto.1.1.1.1.1.1.1.1.1.0
 
 pub returns-in_default : goal.returns-in_default
-returns-in_default c = next-refused _ _ _ _ _ _ _ _ _ _ _ _ c.one_link-link.result c.one_link-link.ensures (stopped-number c.one_link-link.result.answer c.in_default.in_default-own.keys2)
+returns-in_default c = next-refused _ _ _ _ _ _ _ _ _ _ _ _ c.one_link-link.result c.one_link-link.ensures (stopped-number c.one_link-link.result.answer c.in_default.not-Done)
 
 pub overflow_mul-end : goal.overflow_mul-end
 overflow_mul-end c = omega (arith, bond-few _ _ _ _ _ _ _ _ _ c.requires.room)

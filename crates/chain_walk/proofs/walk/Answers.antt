@@ -34,7 +34,7 @@ pub shape_of-scratch-in_default : goal.shape_of-scratch-in_default
 shape_of-scratch-in_default c = c.next_step-step.auto.1.1.1.1.1.1.1.1.1.1.1.1.1.0 ∙ c.loop-j.invariant.7
 
 pub returns-in_default : goal.returns-in_default
-returns-in_default c = walk_refused _ _ _ _ _ _ _ _ _ _ _ _ _ _ _ _ _ (omega (arith, c.loop-j-test.true)) c.requires.limit-some c.loop-j.invariant.8 c.next_step-step.ensures (stopped-number c.next_step-step.result.answer c.in_default.in_default-own.keys2)
+returns-in_default c = walk_refused _ _ _ _ _ _ _ _ _ _ _ _ _ _ _ _ _ (omega (arith, c.loop-j-test.true)) c.requires.limit-some c.loop-j.invariant.8 c.next_step-step.ensures (stopped-number c.next_step-step.result.answer c.in_default.not-Done)
 
 pub overflow_step-j : goal.overflow_step-j
 overflow_step-j c = omega (arith, c.loop-j-test.true, c.requires.small)

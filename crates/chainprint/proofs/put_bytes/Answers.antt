@@ -6,7 +6,7 @@ use Rattle.chainprint.proofs.PrintoutLaws.{refused-counts, file-refused, file-re
 use Rattle.chainprint.proofs.put_bytes.Goals as goal
 
 pub returns-in_default : goal.returns-in_default
-returns-in_default c = let h = c.check_header-header in record { puts = file-refused _ h.result h.ensures _ _ _ (stopped-number h.result.answer c.in_default.in_default-own.keys2) c.put_refused.ensures; prefix_len = refused-counts _ _ _ _ (omega (arith, c.requires)) c.put_refused.ensures }
+returns-in_default c = let h = c.check_header-header in record { puts = file-refused _ h.result h.ensures _ _ _ (stopped-number h.result.answer c.in_default.not-Done) c.put_refused.ensures; prefix_len = refused-counts _ _ _ _ (omega (arith, c.requires)) c.put_refused.ensures }
 
 pub put_file-requires : goal.put_file-requires
 put_file-requires c = let h = c.check_header-header in record { long_enough = header-fits _ h.result h.ensures (was-done h.result.answer _ h.ensures.answer-is c.in-Done.is); out_len = c.requires }

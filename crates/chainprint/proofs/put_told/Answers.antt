@@ -7,7 +7,7 @@ use Rattle.chainprint.proofs.PrintoutLaws.{refused-counts, chain-counts, told-re
 use Rattle.chainprint.proofs.put_told.Goals as goal
 
 pub returns-in_default : goal.returns-in_default
-returns-in_default c = record { puts = told-refused _ _ _ _ _ _ _ _ _ (stopped-number c.args.made.answer c.in_default.in_default-own.keys2) c.put_refused.ensures; prefix_len = refused-counts _ _ _ _ c.requires.in_bounds c.put_refused.ensures }
+returns-in_default c = record { puts = told-refused _ _ _ _ _ _ _ _ _ (stopped-number c.args.made.answer c.in_default.not-Done) c.put_refused.ensures; prefix_len = refused-counts _ _ _ _ c.requires.in_bounds c.put_refused.ensures }
 
 pub put_chain-requires : goal.put_chain-requires
 put_chain-requires c = c.requires.chain_laid (ap (λ (a : Answer). (paper a).0) c.in-Done.is)

@@ -32,7 +32,7 @@ pub shape_of-scratch-in_default : goal.shape_of-scratch-in_default
 shape_of-scratch-in_default c = c.clear_scratch.auto.1.1.1.0 ∙ c.run-made.auto.1.1.1.1.1.1.1.1.1.1.0
 
 pub returns-in_default : goal.returns-in_default
-returns-in_default c = work-stopped c.args.state.now _ _ _ c.run-made.result _ _ _ _ c.run-made.ensures c.args.matrix.now c.run-made.new.1.1.1.1.1.1.1.1.0 c.run-made.new.1.1.1.1.1.1.1.1.1.0 c.run-made.new.1.1.1.1.1.1.1.1.1.1.0 c.requires.1 (c.run-made.auto.1.1.1.1.1.1.1.1.0 ∙ c.requires.0.u-is) (c.run-made.auto.1.1.1.1.1.1.1.1.1.0 ∙ c.requires.0.vt_is) (c.run-made.auto.1.1.1.1.1.1.1.1.1.1.0 ∙ c.requires.0.scratch-is) c.clear_scratch.ensures (stopped-number c.run-made.result.answer c.in_default.in_default-own.keys2) (c.run-made.auto.1.1.1.1.0 ∙ c.requires.0.sites-is) (c.run-made.auto.1.1.1.1.1.0 ∙ c.requires.0.bonds-is) (c.run-made.auto.1.1.1.1.1.1.0 ∙ c.requires.0.starts_is) (c.run-made.auto.1.1.1.1.1.1.1.0 ∙ c.requires.0.marks-is) c.clear_chain.ensures
+returns-in_default c = work-stopped c.args.state.now _ _ _ c.run-made.result _ _ _ _ c.run-made.ensures c.args.matrix.now c.run-made.new.1.1.1.1.1.1.1.1.0 c.run-made.new.1.1.1.1.1.1.1.1.1.0 c.run-made.new.1.1.1.1.1.1.1.1.1.1.0 c.requires.1 (c.run-made.auto.1.1.1.1.1.1.1.1.0 ∙ c.requires.0.u-is) (c.run-made.auto.1.1.1.1.1.1.1.1.1.0 ∙ c.requires.0.vt_is) (c.run-made.auto.1.1.1.1.1.1.1.1.1.1.0 ∙ c.requires.0.scratch-is) c.clear_scratch.ensures (stopped-number c.run-made.result.answer c.in_default.not-Done) (c.run-made.auto.1.1.1.1.0 ∙ c.requires.0.sites-is) (c.run-made.auto.1.1.1.1.1.0 ∙ c.requires.0.bonds-is) (c.run-made.auto.1.1.1.1.1.1.0 ∙ c.requires.0.starts_is) (c.run-made.auto.1.1.1.1.1.1.1.0 ∙ c.requires.0.marks-is) c.clear_chain.ensures
 
 pub shape_of-sites : goal.shape_of-sites
 shape_of-sites c = c.run-made.auto.1.1.1.1.0

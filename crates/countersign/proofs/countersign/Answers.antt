@@ -8,7 +8,7 @@ use Rattle.countersign.proofs.VerdictLaws.{accepted, at_side}
 use Rattle.countersign.proofs.countersign.Goals as goal
 
 pub returns-in_default : goal.returns-in_default
-returns-in_default c = record { answer = c.check-answer.ensures; finding = done-old _ _ _ (stopped-number c.check-answer.result c.in_default.in_default-own.keys2) }
+returns-in_default c = record { answer = c.check-answer.ensures; finding = done-old _ _ _ (stopped-number c.check-answer.result c.in_default.not-Done) }
 
 pub judge_few-few-requires : goal.judge_few-few-requires
 judge_few-few-requires c = (accepted _ _ _ _ _ _ (was-done _ _ c.check-answer.ensures c.in-Done.is) c.smaller_size-k.ensures, c.if-a-le512.true)

@@ -7,18 +7,18 @@ use Rattle.countersign_checks.proofs.check.Goals as goal
 
 pub returns-in_default : goal.returns-in_default
 unfolding countersign_tests
-returns-in_default c = refused c.check_sizes-first.result _ _ c.check_sizes-first.ensures c.in_default.in_default-own.keys2
+returns-in_default c = refused c.check_sizes-first.result _ _ c.check_sizes-first.ensures c.in_default.not-Done
 
 pub check_lengths-second-requires : goal.check_lengths-second-requires
 check_lengths-second-requires c = (sizes-done _ _ (was-done _ _ c.check_sizes-first.ensures c.in-Done.is)).0.few
 
 pub returns-in_default-second : goal.returns-in_default-second
 unfolding countersign_tests
-returns-in_default-second c = refused c.check_lengths-second.result _ _ c.check_lengths-second.ensures c.in_default-second.in_default-second-own.keys2 ∙ sym (passed _ _ _ c.check_sizes-first.ensures c.in-Done.is)
+returns-in_default-second c = refused c.check_lengths-second.result _ _ c.check_lengths-second.ensures c.in_default-second.not-Done ∙ sym (passed _ _ _ c.check_sizes-first.ensures c.in-Done.is)
 
 pub returns-in_default-third : goal.returns-in_default-third
 unfolding countersign_tests
-returns-in_default-third c = refused c.check_components-third.result _ _ c.check_components-third.ensures c.in_default-third.in_default-third-own.keys2 ∙ sym (passed _ _ _ c.check_lengths-second.ensures c.in-Done-second.is) ∙ sym (passed _ _ _ c.check_sizes-first.ensures c.in-Done.is)
+returns-in_default-third c = refused c.check_components-third.result _ _ c.check_components-third.ensures c.in_default-third.not-Done ∙ sym (passed _ _ _ c.check_lengths-second.ensures c.in-Done-second.is) ∙ sym (passed _ _ _ c.check_sizes-first.ensures c.in-Done.is)
 
 pub returns : goal.returns
 unfolding countersign_tests

@@ -7,7 +7,7 @@ use Rattle.countersign_checks.proofs.check_sizes.Goals as goal
 
 pub returns-in_default : goal.returns-in_default
 unfolding countersign_sizes
-returns-in_default c = refused c.check_sizes-first.result _ _ c.check_sizes-first.ensures c.in_default.in_default-own.keys2
+returns-in_default c = refused c.check_sizes-first.result _ _ c.check_sizes-first.ensures c.in_default.not-Done
 
 pub returns-then-k-gt16 : goal.returns-then-k-gt16
 unfolding countersign_sizes

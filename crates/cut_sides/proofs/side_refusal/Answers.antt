@@ -7,7 +7,7 @@ use Rattle.cut_sides.proofs.SideLaws.{is-parted}
 use Rattle.cut_sides.proofs.side_refusal.Goals as goal
 
 pub returns-in_default : goal.returns-in_default
-returns-in_default c = refused c.cut_refusal-first.result _ _ c.cut_refusal-first.ensures c.in_default.in_default-own.keys2
+returns-in_default c = refused c.cut_refusal-first.result _ _ c.cut_refusal-first.ensures c.in_default.not-Done
 
 pub overflow_sub-rest : goal.overflow_sub-rest
 overflow_sub-rest c =

@@ -12,7 +12,7 @@ pub returns-in_default : goal.returns-in_default
 returns-in_default c =
     let z = c.args in
     let r = c.side_refusal-first in
-    side-refused z.list.now z.n z.cap z.others.now r.result r.ensures (stopped-number r.result c.in_default.in_default-own.keys2)
+    side-refused z.list.now z.n z.cap z.others.now r.result r.ensures (stopped-number r.result c.in_default.not-Done)
 
 pub overflow_sub-n : goal.overflow_sub-n
 overflow_sub-n c =

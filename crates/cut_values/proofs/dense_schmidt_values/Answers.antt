@@ -16,7 +16,7 @@ pub returns-in_default : goal.returns-in_default
 unfolding cut_values_tests
 returns-in_default c =
     let r = c.cut_refusal-first.result in
-    schmidt-refused _ _ _ _ _ _ r _ c.refused.ensures (refused r _ _ c.cut_refusal-first.ensures c.in_default.in_default-own.keys2) (stopped-number r c.in_default.in_default-own.keys2)
+    schmidt-refused _ _ _ _ _ _ r _ c.refused.ensures (refused r _ _ c.cut_refusal-first.ensures c.in_default.not-Done) (stopped-number r c.in_default.not-Done)
 
 pub sides_of-cut-requires : goal.sides_of-cut-requires
 sides_of-cut-requires c = is-parted _ _ _ (cut-passed c)

@@ -29,7 +29,7 @@ check-first-requires c = let p = c.requires in (p.parted.listed.small, few _ _ p
 pub returns-in_default : goal.returns-in_default
 returns-in_default c =
     let r = c.check-first.result in
-    over-refused _ _ _ _ _ r _ c.refused.ensures c.check-first.ensures (stopped-number r c.in_default.in_default-own.keys2)
+    over-refused _ _ _ _ _ r _ c.refused.ensures c.check-first.ensures (stopped-number r c.in_default.not-Done)
 
 pub bit-requires : goal.bit-requires
 bit-requires c = omega (arith, c.requires.parted.listed.small)

@@ -8,11 +8,11 @@ use Rattle.cutfile.proofs.answer_fields.Goals as goal
 
 pub returns-in_default : goal.returns-in_default
 unfolding fields_answer
-returns-in_default c = refused c.answer_size-size.result _ _ c.answer_size-size.ensures c.in_default.in_default-own.keys2
+returns-in_default c = refused c.answer_size-size.result _ _ c.answer_size-size.ensures c.in_default.not-Done
 
 pub returns-in_default-offsets : goal.returns-in_default-offsets
 unfolding fields_answer
-returns-in_default-offsets c = refused c.answer_offsets-offsets.result _ _ c.answer_offsets-offsets.ensures c.in_default-offsets.in_default-offsets-own.keys2 ∙ sym (passed c.answer_size-size.result _ _ c.answer_size-size.ensures c.in-Done.is)
+returns-in_default-offsets c = refused c.answer_offsets-offsets.result _ _ c.answer_offsets-offsets.ensures c.in_default-offsets.not-Done ∙ sym (passed c.answer_size-size.result _ _ c.answer_size-size.ensures c.in-Done.is)
 
 pub answer_length-requires : goal.answer_length-requires
 answer_length-requires c = (c.requires, (size_small _ (was-done _ _ c.answer_size-size.ensures c.in-Done.is)).1, offsets-small _ _ (was-done _ _ c.answer_offsets-offsets.ensures c.in-Done-offsets.is))

@@ -16,7 +16,7 @@ returns-in_default c =
     let b = c.before.before.before in
     refusal _ _ c.answer_fields-answer.result
     (header_is _ _ _ _ b.if-file-lt24.false (sym b.begins_with.ensures ∙ b.if-begins_with.true) b.field-n.ensures b.field-k.ensures c.answer_fields-answer.ensures)
-    (stopped-number c.answer_fields-answer.result c.in_default.in_default-own.keys2) c.refused-in_default.ensures
+    (stopped-number c.answer_fields-answer.result c.in_default.not-Done) c.refused-in_default.ensures
 
 pub returns-in-Done : goal.returns-in-Done
 returns-in-Done c =

@@ -4,7 +4,7 @@ use borrow.Author.Rules.{rules}
 use Rattle.cutfile_result.proofs.cut_result.Goals as goal
 
 pub returns-in_default : goal.returns-in_default
-returns-in_default c = let h = c.check_header-header in header_refused _ h.result h.ensures _ _ (stopped-number h.result.answer c.in_default.in_default-own.keys2)
+returns-in_default c = let h = c.check_header-header in header_refused _ h.result h.ensures _ _ (stopped-number h.result.answer c.in_default.not-Done)
 
 pub of_file-kept-requires : goal.of_file-kept-requires
 of_file-kept-requires c = let h = c.check_header-header in (header-fits _ h.result h.ensures (was-done h.result.answer _ h.ensures.answer-is c.in-Done.is), search rules, search rules)

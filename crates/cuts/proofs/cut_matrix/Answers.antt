@@ -16,7 +16,7 @@ returns-in_default c =
     let z = c.args in
     let r = c.cut_refusal-first.result in
     cut-refused z.state.now z.n z.list.now z.cap z.out.now r
-    (refused r _ _ c.cut_refusal-first.ensures c.in_default.in_default-own.keys2) (stopped-number r c.in_default.in_default-own.keys2)
+    (refused r _ _ c.cut_refusal-first.ensures c.in_default.not-Done) (stopped-number r c.in_default.not-Done)
 
 pub sides_of-cut-requires : goal.sides_of-cut-requires
 sides_of-cut-requires c = is-parted _ _ _ (accepted c)

@@ -21,7 +21,7 @@ returns-in_default c =
     let z = c.args in
     let r = c.cut_lengths-first.result in
     over-refused z.state.now z.n z.cut z.out.now r
-    (refused r _ _ c.cut_lengths-first.ensures c.in_default.in_default-own.keys2) (stopped-number r c.in_default.in_default-own.keys2)
+    (refused r _ _ c.cut_lengths-first.ensures c.in_default.not-Done) (stopped-number r c.in_default.not-Done)
 
 pub returns-in_default-second : goal.returns-in_default-second
 returns-in_default-second c =
@@ -29,7 +29,7 @@ returns-in_default-second c =
     let z = f.args in
     let r = c.check_components-second.result in
     over-refused z.state.now z.n z.cut z.out.now r
-    (c.check_components-second.ensures ∙ sym (first_done f _)) (stopped-number r c.in_default-second.in_default-second-own.keys2)
+    (c.check_components-second.ensures ∙ sym (first_done f _)) (stopped-number r c.in_default-second.not-Done)
 
 pub fill_cut-requires : goal.fill_cut-requires
 fill_cut-requires c =

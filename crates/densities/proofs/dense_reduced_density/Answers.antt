@@ -17,7 +17,7 @@ accepted c = was-done _ _ c.density_refusal-first.ensures c.in-Done.is
 pub returns-in_default : goal.returns-in_default
 returns-in_default c =
     let r = c.density_refusal-first.result in
-    density-refused _ _ _ _ _ _ r (refused r _ _ c.density_refusal-first.ensures c.in_default.in_default-own.keys2) (stopped-number r c.in_default.in_default-own.keys2)
+    density-refused _ _ _ _ _ _ r (refused r _ _ c.density_refusal-first.ensures c.in_default.not-Done) (stopped-number r c.in_default.not-Done)
 
 pub mask_of-mask-requires : goal.mask_of-mask-requires
 mask_of-mask-requires c = (density-listed _ _ _ (accepted c)).0

@@ -19,7 +19,7 @@ pub density_rest-answer-requires : goal.density_rest-answer-requires
 density_rest-answer-requires c = (c.requires.listed.small, c.requires.few)
 
 pub returns-in_default : goal.returns-in_default
-returns-in_default c = let r = c.density_rest-answer.result in over-refused _ _ _ _ _ r c.density_rest-answer.ensures (stopped-number r c.in_default.in_default-own.keys2)
+returns-in_default c = let r = c.density_rest-answer.result in over-refused _ _ _ _ _ r c.density_rest-answer.ensures (stopped-number r c.in_default.not-Done)
 
 pub fill_density-requires : goal.fill_density-requires
 fill_density-requires c = ((passed c.before).0, c.requires.mask)

@@ -23,7 +23,7 @@ lengths c =
     c.density_lengths-first.ensures ∙ ap₂ (λ (x y : ℕ). density_lengths x y (length a.state.now) a.out a.scratch) c.bit-size.ensures c.bit-dim.ensures
 
 pub returns-in_default : goal.returns-in_default
-returns-in_default c = refused c.density_lengths-first.result _ _ (lengths c.before) c.in_default.in_default-own.keys2
+returns-in_default c = refused c.density_lengths-first.result _ _ (lengths c.before) c.in_default.not-Done
 
 pub returns : goal.returns
 returns c = c.check_components.ensures ∙ sym (passed _ _ _ (lengths c.before.before.before) c.in-Done.is)

@@ -6,7 +6,7 @@ use Rattle.densities.proofs.SquareLaws.{square-done, place-refused, place-done}
 use Rattle.densities.proofs.mirror_lower_triangle.Goals as goal
 
 pub returns-in_default : goal.returns-in_default
-returns-in_default c = let r = c.square_refusal-first.result in place-refused _ _ _ r c.square_refusal-first.ensures (stopped-number r c.in_default.in_default-own.keys2)
+returns-in_default c = let r = c.square_refusal-first.result in place-refused _ _ _ r c.square_refusal-first.ensures (stopped-number r c.in_default.not-Done)
 
 pub mirror-requires : goal.mirror-requires
 mirror-requires c = square-done _ _ (was-done _ _ c.square_refusal-first.ensures c.in-Done.is)

@@ -7,16 +7,16 @@ use Rattle.density_block.proofs.AnswerLaws.{accepted-sizes}
 use Rattle.density_block.proofs.block_answer.Goals as goal
 
 pub returns-in_default : goal.returns-in_default
-returns-in_default c = refused c.block_sizes-first.result _ _ c.block_sizes-first.ensures c.in_default.in_default-own.keys2
+returns-in_default c = refused c.block_sizes-first.result _ _ c.block_sizes-first.ensures c.in_default.not-Done
 
 pub block_lengths-second-requires : goal.block_lengths-second-requires
 block_lengths-second-requires c = let z = c.before.before.before.before.before.before in let q = accepted-sizes z.args.dim z.args.positions.now z.args.side (was-done _ _ c.block_sizes-first.ensures c.in-Done.is) in (q.1, rw q.2 (side-small (length z.args.positions.now) q.0))
 
 pub returns-in_default-second : goal.returns-in_default-second
-returns-in_default-second c = refused c.block_lengths-second.result _ _ c.block_lengths-second.ensures c.in_default-second.in_default-second-own.keys2 ∙ sym (passed _ _ _ c.block_sizes-first.ensures c.in-Done.is)
+returns-in_default-second c = refused c.block_lengths-second.result _ _ c.block_lengths-second.ensures c.in_default-second.not-Done ∙ sym (passed _ _ _ c.block_sizes-first.ensures c.in-Done.is)
 
 pub returns-in_default-third : goal.returns-in_default-third
-returns-in_default-third c = refused c.check_components-third.result _ _ c.check_components-third.ensures c.in_default-third.in_default-third-own.keys2 ∙ sym (passed _ _ _ c.block_lengths-second.ensures c.in-Done-second.is) ∙ sym (passed _ _ _ c.block_sizes-first.ensures c.in-Done.is)
+returns-in_default-third c = refused c.check_components-third.result _ _ c.check_components-third.ensures c.in_default-third.not-Done ∙ sym (passed _ _ _ c.block_lengths-second.ensures c.in-Done-second.is) ∙ sym (passed _ _ _ c.block_sizes-first.ensures c.in-Done.is)
 
 pub returns : goal.returns
 returns c = c.check_components.ensures ∙ sym (passed _ _ _ c.check_components-third.ensures c.in-Done-third.is) ∙ sym (passed _ _ _ c.block_lengths-second.ensures c.in-Done-second.is) ∙ sym (passed _ _ _ c.block_sizes-first.ensures c.in-Done.is)

@@ -9,7 +9,7 @@ use Rattle.density_block.proofs.AnswerLaws.{sizes-places, sizes-side, sizes-good
 use Rattle.density_block.proofs.block_sizes.Goals as goal
 
 pub returns-in_default : goal.returns-in_default
-returns-in_default c = let z = c.before.before.before.before in let r = c.validate_qubit_set-places.result in let e = c.validate_qubit_set-places.ensures ∙ ap (λ (w : ℕ). qubit_set w z.args.positions.now) c.width_of.ensures in sym (sizes-places z.args.dim z.args.positions.now z.args.side (λ n. stopped-number r c.in_default.in_default-own.keys2 (ap (λ (x : Reply). x.0) e ∙ n)))
+returns-in_default c = let z = c.before.before.before.before in let r = c.validate_qubit_set-places.result in let e = c.validate_qubit_set-places.ensures ∙ ap (λ (w : ℕ). qubit_set w z.args.positions.now) c.width_of.ensures in sym (sizes-places z.args.dim z.args.positions.now z.args.side (λ n. stopped-number r c.in_default.not-Done (ap (λ (x : Reply). x.0) e ∙ n)))
 
 pub bit-requires : goal.bit-requires
 bit-requires c = let z = c.before.before.before.before.before in let e = c.validate_qubit_set-places.ensures ∙ ap (λ (w : ℕ). qubit_set w z.args.positions.now) c.width_of.ensures in omega (arith, short-list z.args.dim z.args.positions.now z.args.side (was-done _ _ e c.in-Done.is))

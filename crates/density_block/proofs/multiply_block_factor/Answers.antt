@@ -7,7 +7,7 @@ use Rattle.density_block.proofs.AnswerLaws.{accepted-factor}
 use Rattle.density_block.proofs.multiply_block_factor.Goals as goal
 
 pub returns-in_default : goal.returns-in_default
-returns-in_default c = let r = c.block_answer-answer.result in place-refused _ _ _ r c.block_answer-answer.ensures (stopped-number r c.in_default.in_default-own.keys2)
+returns-in_default c = let r = c.block_answer-answer.result in place-refused _ _ _ r c.block_answer-answer.ensures (stopped-number r c.in_default.not-Done)
 
 pub multiply_rows-requires : goal.multiply_rows-requires
 multiply_rows-requires c = accepted-factor _ _ _ _ _ (was-done _ _ c.block_answer-answer.ensures c.in-Done.is)

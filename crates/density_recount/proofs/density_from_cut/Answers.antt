@@ -9,7 +9,7 @@ pub returns-in_default : goal.returns-in_default
 returns-in_default c =
     let z = c.args in
     let r = c.recount_answer-answer in
-    recount-refused z.matrix.now z.n z.list.now z.cap z.out.now r.result r.ensures (stopped-number r.result c.in_default.in_default-own.keys2)
+    recount-refused z.matrix.now z.n z.list.now z.cap z.out.now r.result r.ensures (stopped-number r.result c.in_default.not-Done)
 
 pub sum_from_cut-requires : goal.sum_from_cut-requires
 sum_from_cut-requires c =

@@ -18,11 +18,11 @@ lengths : (c : After-recount_lengths-third) → let z = c.args in
 lengths c = c.recount_lengths-third.ensures ∙ rw (c.bit.ensures, c.bit-2.ensures)
 
 pub returns-in_default : goal.returns-in_default
-returns-in_default c = refused c.recount_size-first.result _ _ c.recount_size-first.ensures c.in_default.in_default-own.keys2
+returns-in_default c = refused c.recount_size-first.result _ _ c.recount_size-first.ensures c.in_default.not-Done
 
 pub returns-in_default-second : goal.returns-in_default-second
 returns-in_default-second c =
-    refused c.validate_subsystem-second.result _ _ c.validate_subsystem-second.ensures c.in_default-second.in_default-second-own.keys2
+    refused c.validate_subsystem-second.result _ _ c.validate_subsystem-second.ensures c.in_default-second.not-Done
     ∙ sym (passed _ _ _ c.recount_size-first.ensures c.in-Done.is)
 
 pub bit-requires : goal.bit-requires
@@ -43,7 +43,7 @@ recount_lengths-third-requires c =
 
 pub returns-in_default-third : goal.returns-in_default-third
 returns-in_default-third c =
-    refused c.recount_lengths-third.result _ _ (lengths c.before) c.in_default-third.in_default-third-own.keys2
+    refused c.recount_lengths-third.result _ _ (lengths c.before) c.in_default-third.not-Done
     ∙ sym (passed _ _ _ c.validate_subsystem-second.ensures c.in-Done-second.is)
     ∙ sym (passed _ _ _ c.recount_size-first.ensures c.in-Done.is)
 

@@ -23,7 +23,7 @@ first_done c b = passed _ _ b c.square_refusal-first.ensures c.in-Done.is
 pub returns-in_default : goal.returns-in_default
 returns-in_default c =
     let r = c.square_refusal-first.result in
-    place-refused _ _ _ r (refused r _ _ c.square_refusal-first.ensures c.in_default.in_default-own.keys2) (stopped-number r c.in_default.in_default-own.keys2)
+    place-refused _ _ _ r (refused r _ _ c.square_refusal-first.ensures c.in_default.not-Done) (stopped-number r c.in_default.not-Done)
 
 pub trace_of-trace-requires : goal.trace_of-trace-requires
 trace_of-trace-requires c = square-done _ _ (was-done _ _ c.square_refusal-first.ensures c.enum_told-1.given.1)

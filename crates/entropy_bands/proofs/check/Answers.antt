@@ -6,7 +6,7 @@ use Rattle.entropy_bands.proofs.check.Goals as goal
 
 pub returns-in_default : goal.returns-in_default
 unfolding entropy_rest
-returns-in_default c = refused c.check_lengths-first.result _ _ c.check_lengths-first.ensures c.in_default.in_default-own.keys2
+returns-in_default c = refused c.check_lengths-first.result _ _ c.check_lengths-first.ensures c.in_default.not-Done
 
 pub returns : goal.returns
 unfolding entropy_rest

@@ -39,7 +39,7 @@ fits c = (rest-done _ _ _ _ _ (rest-passed c)).1
 
 pub returns-in_default : goal.returns-in_default
 unfolding entropy_tests
-returns-in_default c = let r = c.cut_refusal-first.result in entropy-refused _ _ _ _ _ _ r _ c.refused.ensures (refused r _ _ c.cut_refusal-first.ensures c.in_default.in_default-own.keys2) (stopped-number r c.in_default.in_default-own.keys2)
+returns-in_default c = let r = c.cut_refusal-first.result in entropy-refused _ _ _ _ _ _ r _ c.refused.ensures (refused r _ _ c.cut_refusal-first.ensures c.in_default.not-Done) (stopped-number r c.in_default.not-Done)
 
 pub sides_of-cut-requires : goal.sides_of-cut-requires
 sides_of-cut-requires c = parted c
@@ -48,7 +48,7 @@ pub check-second-requires : goal.check-second-requires
 check-second-requires c = ((parted c.before).listed.small, few c)
 
 pub returns-in_default-second : goal.returns-in_default-second
-returns-in_default-second c = let r = c.check-second.result in entropy-refused _ _ _ _ _ _ r _ c.refused-in_default-second.ensures (c.check-second.ensures ∙ tests-rest _ _ _ _ _ _ _ (rows_are c.before.before.before) (cut-passed c.before.before.before.before)) (stopped-number r c.in_default-second.in_default-second-own.keys2)
+returns-in_default-second c = let r = c.check-second.result in entropy-refused _ _ _ _ _ _ r _ c.refused-in_default-second.ensures (c.check-second.ensures ∙ tests-rest _ _ _ _ _ _ _ (rows_are c.before.before.before) (cut-passed c.before.before.before.before)) (stopped-number r c.in_default-second.not-Done)
 
 pub overflow_mul-need : goal.overflow_mul-need
 overflow_mul-need c = omega (arith, few c.before.before.before)

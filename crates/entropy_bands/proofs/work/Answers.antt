@@ -12,7 +12,7 @@ pub slice_bounds-dense_schmidt_values-end : goal.slice_bounds-dense_schmidt_valu
 slice_bounds-dense_schmidt_values-end c = sym (length-take-le _ _ c.requires.few)
 
 pub returns-in_default : goal.returns-in_default
-returns-in_default c = let g = c.dense_schmidt_values-got in let p = c.requires in work-refused _ _ _ _ _ _ _ g.result _ _ g.ensures (length-take-le _ _ p.few) p.rows_are p.passed _ _ (stopped-number g.result.answer c.in_default.in_default-own.keys2) c.refused.ensures (zero-all _ c.args.bands.now _ p.long c.zero_cells.ensures)
+returns-in_default c = let g = c.dense_schmidt_values-got in let p = c.requires in work-refused _ _ _ _ _ _ _ g.result _ _ g.ensures (length-take-le _ _ p.few) p.rows_are p.passed _ _ (stopped-number g.result.answer c.in_default.not-Done) c.refused.ensures (zero-all _ c.args.bands.now _ p.long c.zero_cells.ensures)
 
 pub slice_bounds-values-end-2 : goal.slice_bounds-values-end-2
 slice_bounds-values-end-2 c = let g = c.dense_schmidt_values-got in let p = c.requires in front_fits _ _ _ _ _ _ _ g.result _ _ g.ensures (length-take-le _ _ p.few) p.rows_are p.passed c.in-Done.is (g.auto.1.1.1.1.0 ∙ length-take-le _ _ p.few) _

@@ -7,4 +7,4 @@ pub returns-in-Done : goal.returns-in-Done
 returns-in-Done c = kept-done _ _ c.in-Done.is
 
 pub returns-in_default : goal.returns-in_default
-returns-in_default c = kept-none c.args.answer _ (stopped-number c.args.answer c.in_default.in_default-own.keys2) c.none.ensures
+returns-in_default c = kept-none c.args.answer _ (stopped-number c.args.answer c.in_default.not-Done) c.none.ensures

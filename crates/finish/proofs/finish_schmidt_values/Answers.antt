@@ -4,7 +4,7 @@ use Rattle.finish.proofs.OutcomeLaws.{outcome-refused, outcome-finished, refusal
 use Rattle.finish.proofs.finish_schmidt_values.Goals as goal
 
 pub returns-in_default : goal.returns-in_default
-returns-in_default c = outcome-refused _ _ c.finish_refusal-answer.result c.finish_refusal-answer.ensures (stopped-number c.finish_refusal-answer.result c.in_default.in_default-own.keys2)
+returns-in_default c = outcome-refused _ _ c.finish_refusal-answer.result c.finish_refusal-answer.ensures (stopped-number c.finish_refusal-answer.result c.in_default.not-Done)
 
 pub finish_values-requires : goal.finish_values-requires
 finish_values-requires c = refusal-room _ _ (was-done _ _ c.finish_refusal-answer.ensures c.in-Done.is)

@@ -20,7 +20,7 @@ cells : (c : In-Done) → let a = c.args in a.dim * a.dim ≤ 64 * 64
 cells c = mul-le-mul (accept c).side (accept c).side
 
 pub returns-in_default : goal.returns-in_default
-returns-in_default c = eigen-refused _ _ _ _ _ c.check-answer.result _ c.refused.ensures c.check-answer.ensures (stopped-number c.check-answer.result c.in_default.in_default-own.keys2)
+returns-in_default c = eigen-refused _ _ _ _ _ c.check-answer.result _ c.refused.ensures c.check-answer.ensures (stopped-number c.check-answer.result c.in_default.not-Done)
 
 pub overflow_mul-for_vectors : goal.overflow_mul-for_vectors
 overflow_mul-for_vectors c = omega (arith, cells c)

@@ -5,7 +5,7 @@ use native.Mathlib.Omega.{arith}
 use Rattle.lots.proofs.lot_sheet.Goals as goal
 
 pub returns-in_default : goal.returns-in_default
-returns-in_default c = lot-refused _ _ _ c.check_lot-answer.ensures (stopped-number c.check_lot-answer.result c.in_default.in_default-own.keys2)
+returns-in_default c = lot-refused _ _ _ c.check_lot-answer.ensures (stopped-number c.check_lot-answer.result c.in_default.not-Done)
 
 pub number_at-count-requires : goal.number_at-count-requires
 number_at-count-requires c = (header-fits _ (was-done c.check_lot-answer.result _ c.check_lot-answer.ensures c.in-Done.is)).0

@@ -3,6 +3,7 @@ use native.Mathlib.Omega.{arith}
 use mathlib.Core.Logic.{⊎_elim}
 use Rattle.numbers.proofs.Digits.{start, root-small, one, zero, last, down, up}
 use Rattle.numbers.proofs.slow_root.Goals as goal
+use Rattle.numbers.proofs.slow_root.Goals.{then-t-d, else-t-d}
 
 pub loop-i-init : goal.loop-i-init
 loop-i-init c = start c.args.n c.requires.1
@@ -30,11 +31,10 @@ overflow_mul-s-else-t-d c = omega (arith, root-small c.loop-i.invariant)
 
 pub loop-i-preserved : goal.loop-i-preserved
 loop-i-preserved c =
-    let at-loop = c.before.before in
-    ⊎_elim
-    (λ w. rw (w.1, w.2) (one _ _ _ _ _ at-loop.loop-i.invariant c.loop-i-test.true w.0.taken))
-    (λ w. rw (w.1, w.2) (zero _ _ _ _ _ at-loop.loop-i.invariant c.loop-i-test.true w.0.left))
-    c.if-t-d.branch
+    elim c.if-t-d.branch [
+      | then-t-d w ↦ rw (w.s-is, w.r-is) (one _ _ _ _ _ c.loop-i.invariant c.loop-i-test.true w.if-t-d.true)
+      | else-t-d w ↦ rw (w.s-is, w.r-is) (zero _ _ _ _ _ c.loop-i.invariant c.loop-i-test.true w.if-t-d.false)
+    ]
 
 pub overflow_add-result : goal.overflow_add-result
 overflow_add-result c = omega (arith, root-small c.loop-i.invariant)

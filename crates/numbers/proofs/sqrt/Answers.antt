@@ -13,8 +13,8 @@ use Rattle.numbers.proofs.sqrt.Goals.{Start}
 held : (c : Start) → T (fits binary64 c.args.x)
 held c = subst T (sym c.well_formed.0.1) tt
 
-both : (x r : Float) → T (fits binary64 x) → Sqrt x r → (r ≡ sqrt_of x) × Sqrt x r
-both x r f p = (sqrt-is x r f p, p)
+both : (x r : Float) → T (fits binary64 x) → Sqrt x r → record { is : r ≡ sqrt_of x; nearest : Sqrt x r }
+both x r f p = record { is = sqrt-is x r f p; nearest = p }
 
 pub returns-then-x : goal.returns-then-x
 returns-then-x c = both _ _ (held c.before.before) (of_nan _ _ c.if-x.true c.not_a_number.ensures)

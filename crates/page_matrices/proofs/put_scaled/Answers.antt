@@ -12,7 +12,7 @@ pub put_reply-requires : goal.put_reply-requires
 put_reply-requires c = omega (arith, c.requires.fits, square-some c.args.dim c.requires.some)
 
 pub returns-in_default : goal.returns-in_default
-returns-in_default c = record { puts = scaled-refused _ _ c.normalize_trace-answer.result _ c.normalize_trace-answer.ensures _ _ _ _ (stopped-number c.normalize_trace-answer.result c.in_default.in_default-own.keys2) c.put_reply.ensures; rho_after = scaled-left _ _ c.normalize_trace-answer.result _ c.normalize_trace-answer.ensures }
+returns-in_default c = record { puts = scaled-refused _ _ c.normalize_trace-answer.result _ c.normalize_trace-answer.ensures _ _ _ _ (stopped-number c.normalize_trace-answer.result c.in_default.not-Done) c.put_reply.ensures; rho_after = scaled-left _ _ c.normalize_trace-answer.result _ c.normalize_trace-answer.ensures }
 
 pub returns : goal.returns
 returns c = record { puts = scaled-done _ _ c.normalize_trace-answer.result _ c.normalize_trace-answer.ensures _ _ _ _ (ap (λ (a : Answer). (paper a).0) c.in-Done.is) c.put_cells.ensures; rho_after = scaled-left _ _ c.normalize_trace-answer.result _ c.normalize_trace-answer.ensures }

@@ -16,7 +16,7 @@ pub put_kept-requires : goal.put_kept-requires
 put_kept-requires c = omega (arith, c.requires.fits, c.put_reply-next.ensures.next, c.put_reply-next.auto.0, length-reply refused_word (paper c.dense_reduced_density-answer.result))
 
 pub returns-in_default : goal.returns-in_default
-returns-in_default c = two-refused _ _ _ _ _ c.dense_reduced_density-answer.result _ _ c.dense_reduced_density-answer.ensures refl refl _ _ _ _ _ _ _ _ (stopped-number c.dense_reduced_density-answer.result c.in_default.in_default-own.keys2) c.requires.fits c.put_reply-next.ensures c.put_kept.ensures
+returns-in_default c = two-refused _ _ _ _ _ c.dense_reduced_density-answer.result _ _ c.dense_reduced_density-answer.ensures refl refl _ _ _ _ _ _ _ _ (stopped-number c.dense_reduced_density-answer.result c.in_default.not-Done) c.requires.fits c.put_reply-next.ensures c.put_kept.ensures
 
 pub bit-dim-requires : goal.bit-dim-requires
 bit-dim-requires c = omega (arith, listed-few _ _ _ _ _ c.dense_reduced_density-answer.result _ _ c.dense_reduced_density-answer.ensures refl refl (ap (λ (a : Answer). (paper a).0) c.in-Done.is))

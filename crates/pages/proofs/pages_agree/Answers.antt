@@ -7,10 +7,10 @@ use Rattle.pages.proofs.AgreeLaws.{pages-refused, cut-refused, state-fits, held,
 use Rattle.pages.proofs.pages_agree.Goals as goal
 
 pub returns-in_default : goal.returns-in_default
-returns-in_default c = let z = c.args in pages-refused z.state.now z.n z.list.now z.cap c.recount_size-first.result c.recount_size-first.ensures (stopped-number c.recount_size-first.result c.in_default.in_default-own.keys2)
+returns-in_default c = let z = c.args in pages-refused z.state.now z.n z.list.now z.cap c.recount_size-first.result c.recount_size-first.ensures (stopped-number c.recount_size-first.result c.in_default.not-Done)
 
 pub returns-in_default-second : goal.returns-in_default-second
-returns-in_default-second c = let z = c.args in cut-refused z.state.now z.n z.list.now z.cap c.recount_size-first.result c.recount_size-first.ensures c.in-Done.is _ _ _ c.cut_matrix-second.ensures refl (stopped-number c.cut_matrix-second.result c.in_default-second.in_default-second-own.keys2)
+returns-in_default-second c = let z = c.args in cut-refused z.state.now z.n z.list.now z.cap c.recount_size-first.result c.recount_size-first.ensures c.in-Done.is _ _ _ c.cut_matrix-second.ensures refl (stopped-number c.cut_matrix-second.result c.in_default-second.not-Done)
 
 pub slice_bounds-matrix-end : goal.slice_bounds-matrix-end
 slice_bounds-matrix-end c = let z = c.args in omega (arith, state-fits z.state.now z.n z.list.now z.cap c.recount_size-first.result c.recount_size-first.ensures c.in-Done.is _ _ _ c.cut_matrix-second.ensures refl c.in-Done-second.is)

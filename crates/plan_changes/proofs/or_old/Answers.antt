@@ -7,7 +7,7 @@ use Rattle.answers.proofs.Stopped.{stopped-number}
 use Rattle.plan_changes.proofs.or_old.Goals as goal
 
 pub returns-in_default : goal.returns-in_default
-returns-in_default c = (refl, done-old _ _ _ (stopped-number c.args.made.answer c.in_default.in_default-own.keys2))
+returns-in_default c = (refl, done-old _ _ _ (stopped-number c.args.made.answer c.in_default.not-Done))
 
 pub returns : goal.returns
 returns c = (refl, done-new _ _ _ (ap (λ (a : Answer). (paper a).0) c.in-Done.is))

@@ -9,7 +9,7 @@ use Rattle.plans.proofs.cut_plan.Goals as goal
 pub returns-in_default : goal.returns-in_default
 returns-in_default c =
     let r = c.cut_refusal-first in
-    plan-refused _ _ _ _ r.ensures (stopped-number r.result c.in_default.in_default-own.keys2) c.no_plan-none.ensures
+    plan-refused _ _ _ _ r.ensures (stopped-number r.result c.in_default.not-Done) c.no_plan-none.ensures
 
 pub plan_of-plan-requires : goal.plan_of-plan-requires
 plan_of-plan-requires c =

@@ -30,7 +30,7 @@ pub returns-in_default : goal.returns-in_default
 returns-in_default c =
     let p = c.args.p in
     let r = c.cut_plan-again in
-    sym (made-refused p (λ z. stopped-number r.result.answer c.in_default.in_default-own.keys2 (ap (λ (x : Reply). x.0) r.ensures.answer ∙ z)))
+    sym (made-refused p (λ z. stopped-number r.result.answer c.in_default.not-Done (ap (λ (x : Reply). x.0) r.ensures.answer ∙ z)))
 
 pub returns : goal.returns
 returns c =

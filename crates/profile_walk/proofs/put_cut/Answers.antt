@@ -8,7 +8,7 @@ pub cut_alone-alone-requires : goal.cut_alone-alone-requires
 cut_alone-alone-requires c = alone-room _ _ _ _ _ c.args.values.now c.requires
 
 pub returns-in_default : goal.returns-in_default
-returns-in_default c = put_refused _ _ _ _ _ _ _ _ _ c.cut_alone-alone.result c.cut_alone-alone.ensures (stopped-number c.cut_alone-alone.result.answer c.in_default.in_default-own.keys2)
+returns-in_default c = put_refused _ _ _ _ _ _ _ _ _ c.cut_alone-alone.result c.cut_alone-alone.ensures (stopped-number c.cut_alone-alone.result.answer c.in_default.not-Done)
 
 pub bounds-header-place-2 : goal.bounds-header-place-2
 bounds-header-place-2 c = in-set c.args.header.now _ _ _ (omega (arith, c.requires.in-header))

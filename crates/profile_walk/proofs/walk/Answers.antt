@@ -13,7 +13,7 @@ pub put_cut-step-requires : goal.put_cut-step-requires
 put_cut-step-requires c = room-of-cut _ _ _ _ _ _ _ _ _ (omega (arith, c.loop-j-test.true)) c.loop-j.invariant.7 (room-now _ _ _ c.requires c.loop-j.invariant.1 c.loop-j.invariant.2 c.loop-j.invariant.3 c.loop-j.invariant.4 c.loop-j.invariant.5 c.loop-j.invariant.6)
 
 pub returns-in_default : goal.returns-in_default
-returns-in_default c = walk_refused _ _ _ _ _ _ _ _ _ (omega (arith, c.loop-j-test.true)) c.loop-j.invariant.7 c.put_cut-step.ensures (stopped-number c.put_cut-step.result.answer c.in_default.in_default-own.keys2)
+returns-in_default c = walk_refused _ _ _ _ _ _ _ _ _ (omega (arith, c.loop-j-test.true)) c.loop-j.invariant.7 c.put_cut-step.ensures (stopped-number c.put_cut-step.result.answer c.in_default.not-Done)
 
 pub overflow_step-j : goal.overflow_step-j
 overflow_step-j c = omega (arith, c.loop-j-test.true, c.requires.small)

@@ -26,7 +26,7 @@ scratch-fits : (c : After-values_room-room) → 8 * c.bit-cells.result + 2 * c.b
 scratch-fits c = omega (arith, scratch-is c, (accept c.before.before.before).scratch-fits)
 
 pub returns-in_default : goal.returns-in_default
-returns-in_default c = profile-refused _ _ _ _ _ _ _ _ _ c.check-answer.result c.check-answer.ensures (stopped-number c.check-answer.result c.in_default.in_default-own.keys2)
+returns-in_default c = profile-refused _ _ _ _ _ _ _ _ _ c.check-answer.result c.check-answer.ensures (stopped-number c.check-answer.result c.in_default.not-Done)
 
 pub bit-cells-requires : goal.bit-cells-requires
 bit-cells-requires c = omega (arith, (accept c).small)

@@ -9,7 +9,7 @@ pub walk-made-requires : goal.walk-made-requires
 walk-made-requires c = c.requires.room
 
 pub returns-in_default : goal.returns-in_default
-returns-in_default c = work-stopped c.args.state.now _ c.walk-made.result _ _ _ _ _ c.walk-made.ensures c.walk-made.new.1.1.1.1.1.1.1.1.0 (c.walk-made.auto.1.1.1.0 ∙ c.requires.header_is) (c.walk-made.auto.1.1.1.1.0 ∙ c.requires.values-is) (c.walk-made.auto.1.1.1.1.1.0 ∙ c.requires.largest-is) (c.walk-made.auto.1.1.1.1.1.1.0 ∙ c.requires.ranks-is) (c.walk-made.auto.1.1.1.1.1.1.1.0 ∙ c.requires.marks-is) (c.walk-made.auto.1.1.1.1.1.1.1.1.0 ∙ c.requires.scratch-is) c.zero_first.ensures (stopped-number c.walk-made.result.answer c.in_default.in_default-own.keys2) c.clear_page.ensures
+returns-in_default c = work-stopped c.args.state.now _ c.walk-made.result _ _ _ _ _ c.walk-made.ensures c.walk-made.new.1.1.1.1.1.1.1.1.0 (c.walk-made.auto.1.1.1.0 ∙ c.requires.header_is) (c.walk-made.auto.1.1.1.1.0 ∙ c.requires.values-is) (c.walk-made.auto.1.1.1.1.1.0 ∙ c.requires.largest-is) (c.walk-made.auto.1.1.1.1.1.1.0 ∙ c.requires.ranks-is) (c.walk-made.auto.1.1.1.1.1.1.1.0 ∙ c.requires.marks-is) (c.walk-made.auto.1.1.1.1.1.1.1.1.0 ∙ c.requires.scratch-is) c.zero_first.ensures (stopped-number c.walk-made.result.answer c.in_default.not-Done) c.clear_page.ensures
 
 pub overflow_sub-left : goal.overflow_sub-left
 overflow_sub-left c = walked-within _ _ c.walk-made.result _ _ _ _ _ c.walk-made.ensures c.in-Done.is

@@ -40,7 +40,7 @@ room : (c : After-smaller-cap)
 room c = let x = c.args in parts-room _ _ x.a.now x.q.now x.r.now x.scratch.now (long c) (q-same _ _ c.smaller-cap.ensures) (r-same _ _ c.smaller-cap.ensures) refl
 
 pub returns-in_default : goal.returns-in_default
-returns-in_default c = call-refused _ _ _ _ _ _ c.check-checked.result c.check-checked.ensures (stopped-number c.check-checked.result c.in_default.in_default-own.keys2)
+returns-in_default c = call-refused _ _ _ _ _ _ c.check-checked.result c.check-checked.ensures (stopped-number c.check-checked.result c.in_default.not-Done)
 
 pub overflow_mul-in_q : goal.overflow_mul-in_q
 overflow_mul-in_q c = omega (arith, q-cells c.args.rows c.args.cols c.smaller-cap.ensures, few c)

@@ -13,7 +13,7 @@ returns-in_default c =
     let z = c.before.before.before.before in
     let r = c.density_refusal-first.result in
     offsets-refused z.args.list.now z.args.n z.args.cap z.args.out.now r
-    (refused r _ _ c.density_refusal-first.ensures c.in_default.in_default-own.keys2) (stopped-number r c.in_default.in_default-own.keys2)
+    (refused r _ _ c.density_refusal-first.ensures c.in_default.not-Done) (stopped-number r c.in_default.not-Done)
 
 pub bit-count-requires : goal.bit-count-requires
 bit-count-requires c =

@@ -6,7 +6,7 @@ use Rattle.qubit_offsets.proofs.CallLaws.{traced-listed, traced-refused, traced-
 use Rattle.qubit_offsets.proofs.traced_base.Goals as goal
 
 pub returns-in_default : goal.returns-in_default
-returns-in_default c = traced-refused _ _ _ _ _ c.traced_refusal-answer.ensures (stopped-number c.traced_refusal-answer.result c.in_default.in_default-own.keys2) refl
+returns-in_default c = traced-refused _ _ _ _ _ c.traced_refusal-answer.ensures (stopped-number c.traced_refusal-answer.result c.in_default.not-Done) refl
 
 pub traced_base_of-requires : goal.traced_base_of-requires
 traced_base_of-requires c = traced-listed _ _ _ _ (was-done _ _ c.traced_refusal-answer.ensures c.in-Done.is)

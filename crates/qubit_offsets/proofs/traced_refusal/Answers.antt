@@ -7,7 +7,7 @@ use Rattle.qubit_offsets.proofs.CallLaws.{sizes-done}
 use Rattle.qubit_offsets.proofs.traced_refusal.Goals as goal
 
 pub returns-in_default : goal.returns-in_default
-returns-in_default c = refused c.density_size-size.result _ _ c.density_size-size.ensures c.in_default.in_default-own.keys2
+returns-in_default c = refused c.density_size-size.result _ _ c.density_size-size.ensures c.in_default.not-Done
 
 pub other_settings-requires : goal.other_settings-requires
 other_settings-requires c = let z = c.args in (sizes-done z.n (length z.list.now) z.cap (was-done _ _ c.density_size-size.ensures c.in-Done.is)).0

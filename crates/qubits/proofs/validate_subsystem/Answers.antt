@@ -5,7 +5,7 @@ use Rattle.answers.proofs.Stopped.{refused, passed}
 use Rattle.qubits.proofs.validate_subsystem.Goals as goal
 
 pub returns-in_default : goal.returns-in_default
-returns-in_default c = refused c.validate_qubit_set-first.result _ _ c.validate_qubit_set-first.ensures c.in_default.in_default-own.keys2
+returns-in_default c = refused c.validate_qubit_set-first.result _ _ c.validate_qubit_set-first.ensures c.in_default.not-Done
 
 pub returns-then-list-n : goal.returns-then-list-n
 returns-then-list-n c =

@@ -17,7 +17,7 @@ pub check_cells-answer-requires : goal.check_cells-answer-requires
 check_cells-answer-requires c = omega (arith, column_fits c.loop-i.i c.args.chi c.args.stride c.loop-i-test.true)
 
 pub returns-in_default : goal.returns-in_default
-returns-in_default c = refused c.check_cells-answer.result _ _ c.check_cells-answer.ensures c.in_default.in_default-own.keys2 ∙ lines_next _ _ _ _ _ c.loop-i.invariant.1 c.loop-i-test.true
+returns-in_default c = refused c.check_cells-answer.result _ _ c.check_cells-answer.ensures c.in_default.not-Done ∙ lines_next _ _ _ _ _ c.loop-i.invariant.1 c.loop-i-test.true
 
 pub loop-i-preserved : goal.loop-i-preserved
 loop-i-preserved c = (search rules, sym (passed _ _ _ c.check_cells-answer.ensures c.in-Done.is) ∙ lines_next _ _ _ _ _ c.loop-i.invariant.1 c.loop-i-test.true)

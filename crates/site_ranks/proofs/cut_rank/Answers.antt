@@ -7,7 +7,7 @@ use Rattle.site_ranks.proofs.RankLaws.{ranked-refused, ranked-done, cut-done, cu
 use Rattle.site_ranks.proofs.cut_rank.Goals as goal
 
 pub returns-in_default : goal.returns-in_default
-returns-in_default c = ranked-refused _ _ c.check_cut-answer.result c.check_cut-answer.ensures (stopped-number c.check_cut-answer.result c.in_default.in_default-own.keys2)
+returns-in_default c = ranked-refused _ _ c.check_cut-answer.result c.check_cut-answer.ensures (stopped-number c.check_cut-answer.result c.in_default.not-Done)
 
 pub overflow_mul-pair : goal.overflow_mul-pair
 overflow_mul-pair c = let s = cut-done _ _ _ (was-done _ _ c.check_cut-answer.ensures c.in-Done.is) in omega (arith, s.0, c.smaller-pair.ensures)

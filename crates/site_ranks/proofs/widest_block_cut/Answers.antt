@@ -6,7 +6,7 @@ use Rattle.site_ranks.proofs.RankLaws.{ranked-refused, ranked-done, widest-done,
 use Rattle.site_ranks.proofs.widest_block_cut.Goals as goal
 
 pub returns-in_default : goal.returns-in_default
-returns-in_default c = ranked-refused _ _ c.check_block-answer.result c.check_block-answer.ensures (stopped-number c.check_block-answer.result c.in_default.in_default-own.keys2)
+returns-in_default c = ranked-refused _ _ c.check_block-answer.result c.check_block-answer.ensures (stopped-number c.check_block-answer.result c.in_default.not-Done)
 
 pub widest_cut-requires : goal.widest_cut-requires
 widest_cut-requires c = widest-done _ _ _ (was-done _ _ c.check_block-answer.ensures c.in-Done.is)

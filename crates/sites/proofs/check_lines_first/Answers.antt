@@ -8,7 +8,7 @@ pub check_lines-answer-requires : goal.check_lines-answer-requires
 check_lines-answer-requires c = (c.requires.0, c.requires.1)
 
 pub returns-in_default : goal.returns-in_default
-returns-in_default c = refused c.check_lines-answer.result _ _ c.check_lines-answer.ensures c.in_default.in_default-own.keys2
+returns-in_default c = refused c.check_lines-answer.result _ _ c.check_lines-answer.ensures c.in_default.not-Done
 
 pub slice_bounds-check_values-end : goal.slice_bounds-check_values-end
 slice_bounds-check_values-end c = sym (length-take-le _ _ c.requires.2)

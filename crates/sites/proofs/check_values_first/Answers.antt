@@ -8,7 +8,7 @@ pub slice_bounds-check_values-end : goal.slice_bounds-check_values-end
 slice_bounds-check_values-end c = sym (length-take-le _ _ c.requires.2)
 
 pub returns-in_default : goal.returns-in_default
-returns-in_default c = refused c.check_values-answer.result _ _ c.check_values-answer.ensures c.in_default.in_default-own.keys2
+returns-in_default c = refused c.check_values-answer.result _ _ c.check_values-answer.ensures c.in_default.not-Done
 
 pub check_lines-requires : goal.check_lines-requires
 check_lines-requires c = (c.requires.0, c.requires.1)

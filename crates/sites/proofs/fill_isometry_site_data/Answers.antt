@@ -5,7 +5,7 @@ use Rattle.sites.proofs.CallLaws.{columns-done, plain_ready, size-refused, later
 use Rattle.sites.proofs.fill_isometry_site_data.Goals as goal
 
 pub returns-in_default : goal.returns-in_default
-returns-in_default c = size-refused _ _ _ _ _ c.check_columns-size.result c.check_columns-size.ensures (stopped-number c.check_columns-size.result c.in_default.in_default-own.keys2)
+returns-in_default c = size-refused _ _ _ _ _ c.check_columns-size.result c.check_columns-size.ensures (stopped-number c.check_columns-size.result c.in_default.not-Done)
 
 pub overflow_mul-width : goal.overflow_mul-width
 overflow_mul-width c = let s = columns-done _ _ _ (was-done _ _ c.check_columns-size.ensures c.in-Done.is) in omega (arith, s.0)
@@ -14,7 +14,7 @@ pub check_plain-answer-requires : goal.check_plain-answer-requires
 check_plain-answer-requires c = (columns-done _ _ _ (was-done _ _ c.check_columns-size.ensures c.in-Done.is)).1
 
 pub returns-in_default-answer : goal.returns-in_default-answer
-returns-in_default-answer c = later-refused _ _ _ _ _ c.check_columns-size.result c.check_plain-answer.result c.check_columns-size.ensures c.in-Done.is c.check_plain-answer.ensures (stopped-number c.check_plain-answer.result c.in_default-answer.in_default-answer-own.keys2)
+returns-in_default-answer c = later-refused _ _ _ _ _ c.check_columns-size.result c.check_plain-answer.result c.check_columns-size.ensures c.in-Done.is c.check_plain-answer.ensures (stopped-number c.check_plain-answer.result c.in_default-answer.not-Done)
 
 pub fill_isometry-requires : goal.fill_isometry-requires
 fill_isometry-requires c = plain_ready _ _ _ _ _ (columns-done _ _ _ (was-done _ _ c.check_columns-size.ensures c.in-Done.is)).1 (was-done _ _ c.check_plain-answer.ensures c.in-Done-answer.is)

@@ -5,7 +5,7 @@ use Rattle.sites.proofs.CallLaws.{columns-done, scaled-u-ready, size-refused, la
 use Rattle.sites.proofs.fill_scaled_u_site_data.Goals as goal
 
 pub returns-in_default : goal.returns-in_default
-returns-in_default c = size-refused _ _ _ _ _ c.check_columns-size.result c.check_columns-size.ensures (stopped-number c.check_columns-size.result c.in_default.in_default-own.keys2)
+returns-in_default c = size-refused _ _ _ _ _ c.check_columns-size.result c.check_columns-size.ensures (stopped-number c.check_columns-size.result c.in_default.not-Done)
 
 pub overflow_mul-width : goal.overflow_mul-width
 overflow_mul-width c = let s = columns-done _ _ _ (was-done _ _ c.check_columns-size.ensures c.in-Done.is) in omega (arith, s.0)
@@ -14,7 +14,7 @@ pub check_scaled_u-answer-requires : goal.check_scaled_u-answer-requires
 check_scaled_u-answer-requires c = (columns-done _ _ _ (was-done _ _ c.check_columns-size.ensures c.in-Done.is)).1
 
 pub returns-in_default-answer : goal.returns-in_default-answer
-returns-in_default-answer c = later-refused _ _ _ _ _ c.check_columns-size.result c.check_scaled_u-answer.result c.check_columns-size.ensures c.in-Done.is c.check_scaled_u-answer.ensures (stopped-number c.check_scaled_u-answer.result c.in_default-answer.in_default-answer-own.keys2)
+returns-in_default-answer c = later-refused _ _ _ _ _ c.check_columns-size.result c.check_scaled_u-answer.result c.check_columns-size.ensures c.in-Done.is c.check_scaled_u-answer.ensures (stopped-number c.check_scaled_u-answer.result c.in_default-answer.not-Done)
 
 pub fill_scaled_u-requires : goal.fill_scaled_u-requires
 fill_scaled_u-requires c = scaled-u-ready _ _ _ _ _ _ (columns-done _ _ _ (was-done _ _ c.check_columns-size.ensures c.in-Done.is)).1 (was-done _ _ c.check_scaled_u-answer.ensures c.in-Done-answer.is)

@@ -6,7 +6,7 @@ use Rattle.slabs.proofs.SlabLaws.{replace-refused, replace-sound-is, replace-fit
 use Rattle.slabs.proofs.replace.Goals as goal
 
 pub returns-in_default : goal.returns-in_default
-returns-in_default c = let a = c.args in let j = c.judge-v in replace-refused a.cells.now a.index.now a.site a.«data».now j.result j.ensures (stopped-number j.result.answer c.in_default.in_default-own.keys2)
+returns-in_default c = let a = c.args in let j = c.judge-v in replace-refused a.cells.now a.index.now a.site a.«data».now j.result j.ensures (stopped-number j.result.answer c.in_default.not-Done)
 
 pub overflow_cast-n : goal.overflow_cast-n
 overflow_cast-n c = let a = c.args in let j = c.judge-v in record { fits = omega (arith, sound-count a.cells.now a.index.now (replace-sound-is a.cells.now a.index.now a.site a.«data».now j.result j.ensures c.in-Done.is)) }

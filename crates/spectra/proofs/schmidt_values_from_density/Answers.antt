@@ -9,7 +9,7 @@ use Rattle.spectra.proofs.DensityLaws.{density-refused, density-worked}
 use Rattle.spectra.proofs.schmidt_values_from_density.Goals as goal
 
 pub returns-in_default : goal.returns-in_default
-returns-in_default c = density-refused _ _ _ _ c.square_refusal-answer.result _ c.refused_count.ensures c.square_refusal-answer.ensures (stopped-number c.square_refusal-answer.result c.in_default.in_default-own.keys2)
+returns-in_default c = density-refused _ _ _ _ c.square_refusal-answer.result _ c.refused_count.ensures c.square_refusal-answer.ensures (stopped-number c.square_refusal-answer.result c.in_default.not-Done)
 
 pub overflow_mul-need : goal.overflow_mul-need
 overflow_mul-need c = omega (arith, mul-le-mul_right c.args.dim (square-given _ _ _ _ (was-done _ _ c.square_refusal-answer.ensures c.in-Done.is)).side, (square-given _ _ _ _ (was-done _ _ c.square_refusal-answer.ensures c.in-Done.is)).side)

@@ -7,14 +7,14 @@ use Rattle.svd.proofs.check.Goals as goal
 
 pub returns-in_default : goal.returns-in_default
 unfolding svd_tests
-returns-in_default c = refused c.check_sizes-first.result _ _ c.check_sizes-first.ensures c.in_default.in_default-own.keys2
+returns-in_default c = refused c.check_sizes-first.result _ _ c.check_sizes-first.ensures c.in_default.not-Done
 
 pub check_lengths-second-requires : goal.check_lengths-second-requires
 check_lengths-second-requires c = (size-done _ _ (was-done _ _ c.check_sizes-first.ensures c.in-Done.is)).few
 
 pub returns-in_default-second : goal.returns-in_default-second
 unfolding svd_tests
-returns-in_default-second c = refused c.check_lengths-second.result _ _ c.check_lengths-second.ensures c.in_default-second.in_default-second-own.keys2 ∙ sym (passed _ _ _ c.check_sizes-first.ensures c.in-Done.is)
+returns-in_default-second c = refused c.check_lengths-second.result _ _ c.check_lengths-second.ensures c.in_default-second.not-Done ∙ sym (passed _ _ _ c.check_sizes-first.ensures c.in-Done.is)
 
 pub returns : goal.returns
 unfolding svd_tests

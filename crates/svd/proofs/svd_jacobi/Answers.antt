@@ -37,7 +37,7 @@ scratch-fits : (c : After-smaller_size-k) → let a = c.args in 6 * (a.m * a.n) 
 scratch-fits c = rw c.smaller_size-k.ensures (accept c.before).scratch-fits
 
 pub returns-in_default : goal.returns-in_default
-returns-in_default c = svd-refused _ _ _ _ _ _ _ c.check-answer.result _ c.refused.ensures c.check-answer.ensures (stopped-number c.check-answer.result c.in_default.in_default-own.keys2)
+returns-in_default c = svd-refused _ _ _ _ _ _ _ c.check-answer.result _ c.refused.ensures c.check-answer.ensures (stopped-number c.check-answer.result c.in_default.not-Done)
 
 pub overflow_mul-for_u : goal.overflow_mul-for_u
 overflow_mul-for_u c = omega (arith, (cells c).0, small c)
