@@ -120,6 +120,16 @@ class Names:
             place = self.parent.get(place) if place else None
         return place
 
+    def clause_fields(self, place, comp):
+        at = place
+        while at:
+            old = self.fields[at][0]
+            if old and plain(old) == plain(comp):
+                told = self.entry["clauses"][self.place_index[at]]
+                return told["fields"] if told else None
+            at = self.parent[at]
+        return None
+
     def arm(self, place, comps):
         """The new path for a path into an arm, or None."""
         at = place
@@ -204,12 +214,25 @@ class Turn:
                 self.missing.append(".".join(comps))
                 return ".".join([head] + comps)
             rest = comps[1:]
-            if callee and rest and rest[0] in ("ensures", "requires"):
-                clauses = self.contracts.get(callee, {}).get(rest[0], [])
-                rest = [rest[0]] + picked(clauses, rest[1:])
+            if rest and rest[0] == "ensures":
+                fields = self.n.clause_fields(at, first)
+                if fields and len(fields) == 1 and (len(rest) == 1 or rest[1] != fields[0]):
+                    rest = [rest[0], fields[0]] + rest[1:]
+                else:
+                    rest = [rest[0]] + picked(fields or self.contracts.get(callee, {}).get("ensures", []), rest[1:])
+            elif rest and rest[0] in ("auto", "new") and len(rest) > 1 and rest[1].isdigit():
+                lent = self.contracts.get(callee, {}).get("lent")
+                if plain(first).startswith("loop"):
+                    lent = None
+                k, used = 0, 1
+                while used < len(rest) and rest[used] == "1":
+                    k, used = k + 1, used + 1
+                if lent and used < len(rest) and rest[used] == "0" and k < len(lent):
+                    rest = [rest[0], lent[k]] + rest[used + 1 :]
             return ".".join([head, new] + rest)
 
-        return re.sub(r"(?<![\w'.-])([A-Za-z][\w'-]*)((?:\.[\w'-]+)+)", path, text)
+        text = re.sub(r"(?<![\w'.-])([A-Za-z][\w'-]*)((?:\.[\w'-]+)+)", path, text)
+        return re.sub(r"\(not-(?:true|false) (?:_|[\w.'-]+) (c\.if-not-[\w-]+\.(?:true|false))\)", r"\1", text)
 
 
 def contracts_of(root):
@@ -222,7 +245,8 @@ def contracts_of(root):
                     continue
                 impl = None
                 fn = None
-                for line in open(os.path.join(base, f), encoding="utf-8"):
+                source = open(os.path.join(base, f), encoding="utf-8").read()
+                for line in source.split("\n"):
                     m = re.match(r"impl(?:<[^>]*>)? (\w+)", line)
                     if m:
                         impl = m.group(1)
@@ -232,6 +256,13 @@ def contracts_of(root):
                     if m:
                         fn = f"{crate}::" + (f"{impl}::" if impl and line.startswith(" ") else "") + m.group(1)
                         out[fn] = {"requires": [], "ensures": []}
+                        at = source.find("fn " + m.group(1) + "(")
+                        if at < 0:
+                            at = source.find("fn " + m.group(1) + "<")
+                        params = source[at : source.find("{", at)].split(" -> ")[0]
+                        out[fn]["lent"] = re.findall(r"(\w+): &(?:'\w+ )?mut ", params)
+                        if re.search(r"\(\s*&mut self", params):
+                            out[fn]["lent"].insert(0, "self")
                     m = re.match(r"\s*(requires|ensures) (\w+ )?\{", line)
                     if m and fn:
                         out[fn][m.group(1)].append((m.group(2) or "").strip())
@@ -355,6 +386,29 @@ def function(crate, folder, path, entry, contracts, said):
     turn = Turn(names, contracts)
     head, uses, found = blocks(text)
     invariants, answers, helpers, places = [], [], [], set()
+    inner = {}
+
+    def with_inner(body, var):
+        """The body with the helpers that it uses bound before it, and their unfoldings."""
+        needed, unfold = [], []
+
+        def call(text):
+            for name in inner:
+                pat = rf"(?<![\w'.-]){re.escape(name)} \(?({var}|[\w'-]+)((?:\.before)*)\)?(?![\w'.-])"
+                if re.search(rf"(?<![\w'.-]){re.escape(name)}(?![\w'-])", text):
+                    if name not in [x for x, _ in needed]:
+                        kind, term, un, _ = inner[name]
+                        needed.append((name, None))
+                        k, tm = call(kind), call(term)
+                        needed.remove((name, None))
+                        needed.append((name, (k, tm)))
+                        unfold.extend(un)
+                    text = re.sub(rf"(?<![\w'.-]){re.escape(name)} (?:[\w']+)(?:\.before)*(?![\w'.-])", name, text)
+            return text
+
+        body = call(body)
+        pre = "".join(f"let {n} : {re.sub(chr(10) + ' *', ' ', k)} = {re.sub(chr(10) + ' *', ' ', tm)} in " for n, (k, tm) in needed)
+        return (" " + pre + body.strip() if pre else body), unfold
     done = set()
     for b in found:
         sig = b["sig"]
@@ -396,6 +450,8 @@ def function(crate, folder, path, entry, contracts, said):
                 said.append(f"{new}: params {params}")
             var = params[-1] if params else "c"
             body = turn.body(body, place, var)
+            body, unfold = with_inner(body, var)
+            b["unfolding"] = b["unfolding"] + unfold
             bare = body.strip()
             if bare == "search rules" or (bare == "omega arith" and not b["unfolding"]):
                 if not b["unfolding"]:
@@ -418,6 +474,22 @@ def function(crate, folder, path, entry, contracts, said):
             continue
         if re.search(r"\bstatement\b", sig) and "tie.close" in "\n".join(b["equations"]):
             continue
+        hm = re.match(r"((?:(?:abbrev|pub|unfoldable|private) )*)[\w'-]+\s*:\s*\(([\w']+) : tie\.([\w'-]+)((?: (?:invariant|decreases)-[\w'-]+)*)\)\s*→(.*)$", sig, re.S)
+        if hm and len(b["equations"]) == 1:
+            spot = [p for p in names.parent if plain(p) == plain(hm.group(3))]
+            hq = re.match(re.escape(b["name"]) + r"\s+([\w']+)((?:\s+[\w'₀-₉-]+)*)\s+=(\s.*)$", b["equations"][0], re.S)
+            if spot and hq:
+                kind = turn.told(hm.group(5).strip(), {hm.group(2): spot[0]})
+                term = turn.told(hq.group(3).strip(), {hq.group(1): spot[0]})
+                if hm.group(2) != "c":
+                    kind = re.sub(rf"(?<![\w'.-]){hm.group(2)}(?=\.)", "c", kind)
+                if hq.group(1) != "c":
+                    term = re.sub(rf"(?<![\w'.-]){hq.group(1)}(?=\.)", "c", term)
+                more = hq.group(2).split()
+                if more:
+                    term = "λ " + " ".join(more) + ". " + term
+                inner[b["name"]] = (kind, term, b["unfolding"], b["comments"])
+                continue
         it = "\n".join([sig] + b["unfolding"] + b["equations"])
         held = {}
         for var, place in re.findall(r"\(([\w']+) : tie\.([\w'-]+)", it):
