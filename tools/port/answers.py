@@ -181,6 +181,7 @@ class Turn:
         return self.told(text, {var: place})
 
     def told(self, text, known):
+        main = list(known)[0] if len(known) == 1 else None
         known = dict(known)
         # variables bound to an outer record
         for m in re.finditer(r"let ([\w'-]+) =\s+([\w'-]+)((?:\.before)*)\s+in\b", text):
@@ -200,6 +201,8 @@ class Turn:
                 ups += 1
             if not comps:
                 return head + ".before" * ups
+            if main:
+                head = main
             first = comps[0]
             if first == "requires":
                 comps = [first] + picked(self.n.pre, comps[1:])
@@ -232,6 +235,9 @@ class Turn:
             return ".".join([head, new] + rest)
 
         text = re.sub(r"(?<![\w'.-])([A-Za-z][\w'-]*)((?:\.[\w'-]+)+)", path, text)
+        for m in list(re.finditer(r"let ([\w'-]+) =\s+([\w'-]+)((?:\.before)*)\s+in\b\s*", text)):
+            if main and m.group(1) in known and m.group(1) != main and len(re.findall(rf"(?<![\w'.-]){re.escape(m.group(1))}(?![\w'-])", text)) == 1:
+                text = text.replace(m.group(0), "", 1)
         return re.sub(r"\(not-(?:true|false) (?:_|[\w.'-]+) (c\.if-not-[\w-]+\.(?:true|false))\)", r"\1", text)
 
 
@@ -407,8 +413,8 @@ def function(crate, folder, path, entry, contracts, said):
             return text
 
         body = call(body)
-        pre = "".join(f"let {n} : {re.sub(chr(10) + ' *', ' ', k)} = {re.sub(chr(10) + ' *', ' ', tm)} in " for n, (k, tm) in needed)
-        return (" " + pre + body.strip() if pre else body), unfold
+        pre = "".join(f"\n    let {n} : {re.sub(chr(10) + ' *', ' ', k)} = {re.sub(chr(10) + ' *', ' ', tm)} in" for n, (k, tm) in needed)
+        return (pre + "\n    " + body.strip() if pre else body), unfold
     done = set()
     for b in found:
         sig = b["sig"]

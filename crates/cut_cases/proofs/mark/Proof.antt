@@ -1,0 +1,53 @@
+-- `cut_cases::mark` is safe and ends: the slice keeps its length. Assumes nothing.
+use Rattle.std.proofs.Common.{◌≡◌, ◌-◌, length, rules}
+use Rattle.cut_cases.proofs.mark.Statement.{statement}
+use Rattle.cut_cases.proofs.mark.Tie as tie
+
+abbrev invariant-loop : tie.invariant-loop
+invariant-loop s₀ i₀ s i = length s ≡ length s₀
+
+abbrev decreases-loop : tie.decreases-loop
+decreases-loop s₀ i₀ s i = length s₀ - i
+
+loop-holds : tie.Need-loop-init invariant-loop decreases-loop
+loop-holds c = search rules
+
+wrapping-add-usize-requires : tie.Need-wrapping-add-usize-requires invariant-loop decreases-loop
+wrapping-add-usize-requires c κs = search rules
+
+mul-s : tie.Need-overflow-mul-s invariant-loop decreases-loop
+mul-s c = search rules
+
+slice-write-s : tie.Need-slice-write-s invariant-loop decreases-loop
+slice-write-s c = search rules
+
+add-i : tie.Need-overflow-add-i invariant-loop decreases-loop
+add-i c = search rules
+
+loop-less : tie.Need-loop-smaller invariant-loop decreases-loop
+loop-less c = search rules
+
+loop-again : tie.Need-loop-preserved invariant-loop decreases-loop
+loop-again c = search rules
+
+same_length : tie.Need-same-length invariant-loop decreases-loop
+same_length c = search rules
+
+returns : tie.Need-returns invariant-loop decreases-loop
+returns c = search rules
+
+pub mark_spec : {M : Type 1} → statement M
+mark_spec =
+    tie.close
+    (tie.spec
+    invariant-loop
+    decreases-loop
+    loop-holds
+    wrapping-add-usize-requires
+    mul-s
+    slice-write-s
+    add-i
+    loop-less
+    loop-again
+    same_length
+    returns)

@@ -1,0 +1,63 @@
+-- `cuts::fill_cut` meets its contract. The loop's invariant and step are those of `CutLaws`; here they meet the code.
+-- Assumes nothing.
+use Prim.Native.Nat.{◌-◌}
+use native.Mathlib.Omega.{arith}
+use Rattle.qubits.proofs.NamedLaws.{pow_small}
+use Rattle.cuts.proofs.CutLaws.{Columns, columns-begin, column-ready, columns-step, columns-end}
+use borrow.Author.Rules.{rules}
+use Rattle.cuts.proofs.fill_cut.Statement.{statement}
+use Rattle.cuts.proofs.fill_cut.Tie as tie
+
+abbrev invariant-loop : tie.invariant-loop
+invariant-loop state n row column rows columns out₀ c₀ at₀ bits₀ out c at bits = Columns n row column rows columns state out₀ out c at bits
+
+abbrev decreases-loop : tie.decreases-loop
+decreases-loop state n row column rows columns out₀ c₀ at₀ bits₀ out c at bits = columns - c
+
+loop-holds : tie.Need-loop-init invariant-loop decreases-loop
+loop-holds c = columns-begin _ _ _ _ _ _ _ c.before.before.requires
+
+fill-column-requires : tie.Need-fill-column-requires invariant-loop decreases-loop
+fill-column-requires c κs = column-ready _ _ _ _ _ _ _ c.before.before.before.before.before.requires _ _ _ _ c.before.before.loop.invariant c.before.loop-test.true
+
+next-submask-requires : tie.Need-next-submask-requires invariant-loop decreases-loop
+next-submask-requires c κs = search rules
+
+add_at : tie.Need-overflow-add-at invariant-loop decreases-loop
+add_at c =
+    let z = c.before.before.before.before.before.before.before.before.before.requires in
+    omega (arith, (column-ready _ _ _ _ _ _ _ z _ _ _ _ c.before.before.before.before.before.before.loop.invariant c.before.before.before.before.before.loop-test.true).last, pow_small _ z.small)
+
+add-c : tie.Need-overflow-add-c invariant-loop decreases-loop
+add-c c = search rules
+
+loop-less : tie.Need-loop-smaller invariant-loop decreases-loop
+loop-less c = search rules
+
+loop-again : tie.Need-loop-preserved invariant-loop decreases-loop
+loop-again c =
+    let z = c.before.before.before.before.before.before.before.before.before.requires in
+    columns-step _ _ _ _ _ _ _ z _ _ _ _ c.before.before.before.before.before.before.loop.invariant c.before.before.before.before.before.loop-test.true _ _ c.before.before.before.fill-column.auto.1.1.1.1.1.1.0
+    c.before.before.before.fill-column.ensures c.next-submask.ensures
+
+same_length : tie.Need-same-length invariant-loop decreases-loop
+same_length c = c.before.loop.invariant.long
+
+returns : tie.Need-returns invariant-loop decreases-loop
+returns c = columns-end _ _ _ _ _ _ _ c.before.before.before.before.requires _ _ _ _ c.before.loop.invariant c.loop-test.false
+
+pub fill-cut-spec : {M : Type 1} → statement M
+fill-cut-spec =
+    tie.close
+    (tie.spec
+    invariant-loop
+    decreases-loop
+    loop-holds
+    fill-column-requires
+    next-submask-requires
+    add_at
+    add-c
+    loop-less
+    loop-again
+    same_length
+    returns)

@@ -1,0 +1,46 @@
+-- `lines::put_quiet` meets its contract. Assumes nothing.
+use mathlib.Core.Path.{sym, ap}
+use Rattle.lines.specs.Lines.{quiet_text}
+use Rattle.texts.proofs.TextLaws.{puts-as}
+use borrow.Author.Rules.{rules}
+use Rattle.lines.proofs.put_quiet.Statement.{statement}
+use Rattle.lines.proofs.put_quiet.Tie as tie
+
+slice-aggregate-put-text : tie.Need-slice-aggregate-put-text
+slice-aggregate-put-text c = search rules
+
+put-text-requires : tie.Need-put-text-requires
+put-text-requires c κs = search rules
+
+same_length : tie.Need-same-length
+same_length c = search rules
+
+returns : tie.Need-returns
+unfolding quiet_text
+returns c = puts-as _ _ _ _ _ _ (sym (ap quiet_text c.before.before.before.before.before.if1.true)) c.before.before.put-text.ensures
+
+slice-aggregate-put-text-2 : tie.Need-slice-aggregate-put-text-2
+slice-aggregate-put-text-2 c = search rules
+
+put-text-requires-2 : tie.Need-put-text-requires-2
+put-text-requires-2 c κs = search rules
+
+same-length-2 : tie.Need-same-length-2
+same-length-2 c = search rules
+
+returns-2 : tie.Need-returns-2
+unfolding quiet_text
+returns-2 c = puts-as _ _ _ _ _ _ (sym (ap quiet_text c.before.before.before.before.before.if1.false)) c.before.before.put-text2.ensures
+
+pub put-quiet-spec : {M : Type 1} → statement M
+put-quiet-spec =
+    tie.close
+    (tie.spec
+    slice-aggregate-put-text
+    put-text-requires
+    same_length
+    returns
+    slice-aggregate-put-text-2
+    put-text-requires-2
+    same-length-2
+    returns-2)

@@ -1,0 +1,75 @@
+-- `qr::check_lengths` meets its contract: four lengths, one after the other. Assumes nothing.
+use native.Mathlib.Omega.{arith}
+use Rattle.qr.proofs.CallLaws.{q-cells, r-cells, rows-within, made-lengths}
+use borrow.Author.Rules.{rules}
+use Rattle.qr.proofs.check_lengths.Statement.{statement}
+use Rattle.qr.proofs.check_lengths.Tie as tie
+
+smaller-requires : tie.Need-smaller-requires
+smaller-requires c κs = search rules
+
+mul-exact-length : tie.Need-overflow-mul-exact-length
+mul-exact-length c = omega (arith, c.before.requires)
+
+mul-exact-length-2 : tie.Need-overflow-mul-exact-length-2
+mul-exact-length-2 c = omega (arith, c.before.requires)
+
+exact-length-requires : tie.Need-exact-length-requires
+exact-length-requires c κs = search rules
+
+mul-enough-room : tie.Need-overflow-mul-enough-room
+mul-enough-room c = omega (arith, q-cells c.before.before.args.rows c.before.before.args.cols c.before.smaller.ensures, c.before.before.requires)
+
+mul-enough-room-2 : tie.Need-overflow-mul-enough-room-2
+mul-enough-room-2 c = omega (arith, q-cells c.before.before.args.rows c.before.before.args.cols c.before.smaller.ensures, c.before.before.requires)
+
+enough-room-requires : tie.Need-enough-room-requires
+enough-room-requires c κs = search rules
+
+mul-enough-room-3 : tie.Need-overflow-mul-enough-room-3
+mul-enough-room-3 c = omega (arith, r-cells c.before.before.before.args.rows c.before.before.before.args.cols c.before.before.smaller.ensures, c.before.before.before.requires)
+
+mul-enough-room-4 : tie.Need-overflow-mul-enough-room-4
+mul-enough-room-4 c = omega (arith, r-cells c.before.before.before.args.rows c.before.before.before.args.cols c.before.before.smaller.ensures, c.before.before.before.requires)
+
+enough-room-requires-2 : tie.Need-enough-room-requires-2
+enough-room-requires-2 c κs = search rules
+
+mul-enough-room-5 : tie.Need-overflow-mul-enough-room-5
+mul-enough-room-5 c = omega (arith, rows-within c.before.before.before.before.args.rows c.before.before.before.before.args.cols c.before.before.before.before.requires.some-columns, c.before.before.before.before.requires)
+
+enough-room-requires-3 : tie.Need-enough-room-requires-3
+enough-room-requires-3 c κs = search rules
+
+and-then-requires : tie.Need-and-then-requires
+and-then-requires c κs = search rules
+
+and-then-requires-2 : tie.Need-and-then-requires-2
+and-then-requires-2 c κs = search rules
+
+and-then-requires-3 : tie.Need-and-then-requires-3
+and-then-requires-3 c κs = search rules
+
+returns : tie.Need-returns
+returns c = made-lengths _ _ _ _ _ _ c.before.before.before.before.before.before.before.smaller.ensures c.before.before.before.before.before.before.exact-length.ensures c.before.before.before.before.before.enough-room.ensures c.before.before.before.before.enough-room2.ensures c.before.before.before.enough-room3.ensures c.before.before.and_then.ensures c.before.and-then2.ensures c.and-then3.ensures
+
+pub check-lengths-spec : {M : Type 1} → statement M
+check-lengths-spec =
+    tie.close
+    (tie.spec
+    smaller-requires
+    mul-exact-length
+    mul-exact-length-2
+    exact-length-requires
+    mul-enough-room
+    mul-enough-room-2
+    enough-room-requires
+    mul-enough-room-3
+    mul-enough-room-4
+    enough-room-requires-2
+    mul-enough-room-5
+    enough-room-requires-3
+    and-then-requires
+    and-then-requires-2
+    and-then-requires-3
+    returns)

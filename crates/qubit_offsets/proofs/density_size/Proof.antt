@@ -1,0 +1,37 @@
+-- `qubit_offsets::density_size` meets its contract: each way out is one of the paper's tests. Assumes nothing.
+use borrow.Author.Tests.{lt-ltb, le-ltb}
+use native.Mathlib.Omega.{arith}
+use Prim.Native.Nat.{◌*◌, ◌<◌, ◌≤◌, min}
+use borrow.Author.Rules.{rules}
+use Rattle.qubit_offsets.proofs.density_size.Statement.{statement}
+use Rattle.qubit_offsets.proofs.density_size.Tie as tie
+
+returns : tie.Need-returns
+returns c = simp (lt-ltb _ _ c.if1.true)
+
+returns-2 : tie.Need-returns-2
+returns-2 c = simp (le-ltb _ _ c.before.if1.false, lt-ltb _ _ c.if2.true)
+
+returns-3 : tie.Need-returns-3
+returns-3 c =
+    let a = c.before.before.before.args in
+    let h : min a.cap 13 < 2 * a.k = omega arith in
+    simp (le-ltb _ _ c.before.before.if1.false, le-ltb _ _ c.before.if2.false, lt-ltb _ _ h)
+
+mul-if4 : tie.Need-overflow-mul-if4
+mul-if4 c = search rules
+
+returns-4 : tie.Need-returns-4
+returns-4 c =
+    let a = c.before.before.before.before.args in
+    let h : min a.cap 13 < 2 * a.k = omega arith in
+    simp (le-ltb _ _ c.before.before.before.if1.false, le-ltb _ _ c.before.before.if2.false, lt-ltb _ _ h)
+
+returns-5 : tie.Need-returns-5
+returns-5 c =
+    let a = c.before.before.before.before.args in
+    let h : 2 * a.k ≤ min a.cap 13 = omega arith in
+    simp (le-ltb _ _ c.before.before.before.if1.false, le-ltb _ _ c.before.before.if2.false, le-ltb _ _ h)
+
+pub density-size-spec : {M : Type 1} → statement M
+density-size-spec = tie.close (tie.spec returns returns-2 returns-3 mul-if4 returns-4 returns-5)

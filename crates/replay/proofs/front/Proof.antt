@@ -1,0 +1,16 @@
+-- `replay::front` is safe: the part lies in its slice. Assumes nothing.
+use Rattle.std.proofs.Common.{sym, arith, length-take-le, rules}
+use Rattle.replay.proofs.front.Statement.{statement}
+use Rattle.replay.proofs.front.Tie as tie
+
+returns : tie.Need-returns
+returns c = search rules
+
+slice-aggregate-result : tie.Need-slice-aggregate-result
+slice-aggregate-result c = sym (length-take-le _ _ (omega arith))
+
+returns-2 : tie.Need-returns-2
+returns-2 c = search rules
+
+pub front-spec : {M : Type 1} → statement M
+front-spec = tie.close (tie.spec returns slice-aggregate-result returns-2)

@@ -1,0 +1,49 @@
+-- `replay::word_start` is safe, ends, and stays in the text. Assumes nothing.
+use Rattle.std.proofs.Common.{◌-◌, ◌≤◌, length, rules}
+use Rattle.replay.proofs.word_start.Statement.{statement}
+use Rattle.replay.proofs.word_start.Tie as tie
+
+abbrev invariant-loop : tie.invariant-loop
+invariant-loop text at i₀ comment₀ i comment = (at ≤ i) × (i ≤ length text)
+
+abbrev decreases-loop : tie.decreases-loop
+decreases-loop text at i₀ comment₀ i comment = length text - i
+
+loop-holds : tie.Need-loop-init invariant-loop decreases-loop
+loop-holds c = search rules
+
+shared-slice-read-b : tie.Need-shared-slice-read-b invariant-loop decreases-loop
+shared-slice-read-b c = search rules
+
+digit-requires : tie.Need-digit-requires invariant-loop decreases-loop
+digit-requires c κs = search rules
+
+returns : tie.Need-returns invariant-loop decreases-loop
+returns c = search rules
+
+add-i : tie.Need-overflow-add-i invariant-loop decreases-loop
+add-i c = search rules
+
+loop-less : tie.Need-loop-smaller invariant-loop decreases-loop
+loop-less c = search rules
+
+loop-again : tie.Need-loop-preserved invariant-loop decreases-loop
+loop-again c = search rules
+
+returns-2 : tie.Need-returns-2 invariant-loop decreases-loop
+returns-2 c = search rules
+
+pub word-start-spec : {M : Type 1} → statement M
+word-start-spec =
+    tie.close
+    (tie.spec
+    invariant-loop
+    decreases-loop
+    loop-holds
+    shared-slice-read-b
+    digit-requires
+    returns
+    add-i
+    loop-less
+    loop-again
+    returns-2)

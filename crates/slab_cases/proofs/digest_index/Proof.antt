@@ -1,0 +1,57 @@
+-- `slab_cases::digest_index` is safe and ends: the sum stays below 2^31 - 1. Assumes nothing.
+use Rattle.std.proofs.Common.{◌-◌, ◌≤◌, length, rules}
+use Rattle.slab_cases.proofs.digest_index.Statement.{statement}
+use Rattle.slab_cases.proofs.digest_index.Tie as tie
+
+abbrev invariant-loop : tie.invariant-loop
+invariant-loop s sum₀ i₀ sum i = sum ≤ 2147483646
+
+abbrev decreases-loop : tie.decreases-loop
+decreases-loop s sum₀ i₀ sum i = length s - i
+
+loop-holds : tie.Need-loop-init invariant-loop decreases-loop
+loop-holds c = search rules
+
+mul-sum : tie.Need-overflow-mul-sum invariant-loop decreases-loop
+mul-sum c = search rules
+
+mul_wide : tie.Need-overflow-mul-wide invariant-loop decreases-loop
+mul_wide c = search rules
+
+shared-slice-read-wide : tie.Need-shared-slice-read-wide invariant-loop decreases-loop
+shared-slice-read-wide c = search rules
+
+wide-requires : tie.Need-wide-requires invariant-loop decreases-loop
+wide-requires c κs = search rules
+
+add-sum : tie.Need-overflow-add-sum invariant-loop decreases-loop
+add-sum c = search rules
+
+add-i : tie.Need-overflow-add-i invariant-loop decreases-loop
+add-i c = search rules
+
+loop-less : tie.Need-loop-smaller invariant-loop decreases-loop
+loop-less c = search rules
+
+loop-again : tie.Need-loop-preserved invariant-loop decreases-loop
+loop-again c = search rules
+
+returns : tie.Need-returns invariant-loop decreases-loop
+returns c = search rules
+
+pub digest-index-spec : {M : Type 1} → statement M
+digest-index-spec =
+    tie.close
+    (tie.spec
+    invariant-loop
+    decreases-loop
+    loop-holds
+    mul-sum
+    mul_wide
+    shared-slice-read-wide
+    wide-requires
+    add-sum
+    add-i
+    loop-less
+    loop-again
+    returns)
