@@ -1,5 +1,6 @@
 // Inner: the bits of a float, as the printout and the comparison of two pages need them.
 #![tactic(auto)]
+
 ghost use Rattle.std.specs.Prelude.{◌≡◌};
 ghost use Rattle.std.specs.Float.{binary64};
 ghost use Rattle.std.specs.Float.Ieee.{to_bits};

@@ -1,5 +1,6 @@
 // Inner: whether every number of a list is finite and no zero, and the front of a list copied behind itself and back.
 #![tactic(auto)]
+
 ghost use Rattle.std.specs.Prelude.{◌≡◌, true, ◌*◌, ◌≤◌, length, take, drop};
 ghost use Rattle.clean_numbers.specs.Clean.{clean, EachClean};
 ghost use Rattle.clean_numbers.specs.Copies.{CopiedBehind};

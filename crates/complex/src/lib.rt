@@ -1,5 +1,6 @@
 // Complex numbers by value, and cells of two adjacent f64 in a slice, real part first.
 #![tactic(auto)]
+
 ghost use Rattle.std.specs.Prelude.{◌≡◌, ◌+◌, ◌*◌, ◌<◌, ◌≤◌, length};
 ghost use Rattle.complex.specs.Arithmetic.{complex_of, product, sum_of, difference, negation, conjugate, scaled, times_real, quotient, norm_sqr};
 ghost use Rattle.complex.specs.Cells.{cell_at, set_cell};

@@ -1,5 +1,6 @@
 // Inner: answer 7 of a call's own states and matrices. The scan takes several numbers at once.
 #![tactic(auto)]
+
 ghost use Rattle.std.specs.Prelude.{◌≡◌};
 ghost use Rattle.answers.specs.Paper.{paper};
 ghost use Rattle.complex.specs.Cells.{components};

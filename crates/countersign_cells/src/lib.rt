@@ -1,6 +1,7 @@
 // Inner: the numbers and the cells of a slice, in whole numbers of 2^-18. What is off the grid counts as 0; an
 // accepted call has none.
 #![tactic(auto)]
+
 ghost use Rattle.std.specs.Prelude.{◌≡◌, ◌+◌, ◌*◌, ◌<◌, length};
 ghost use Rattle.countersign_cells.specs.Cells.{value_at, whole_cell};
 

@@ -1,5 +1,6 @@
 // Inner: a float as a whole number of 2^-18, from its bits.
 #![tactic(auto)]
+
 ghost use Rattle.std.specs.Prelude.{◌≡◌, ◌^◌, ◌<◌};
 ghost use Rattle.countersign_grid.specs.Grid.{GridBits, grid_of};
 

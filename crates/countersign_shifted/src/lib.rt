@@ -1,6 +1,7 @@
 // Inner: the numbers of a slice as whole numbers from 0 on, read from its floats once: each is 2^18 more than it is in
 // whole numbers of 2^-18, so that a product of two needs no sign.
 #![tactic(auto)]
+
 ghost use Rattle.std.specs.Prelude.{◌≡◌, ◌+◌, ◌*◌, ◌^◌, ◌<◌, ◌≤◌, length};
 ghost use Rattle.tables.specs.Tables.{filled};
 ghost use Rattle.countersign_sums.specs.Gaussians.{by_whole};

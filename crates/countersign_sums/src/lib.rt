@@ -1,6 +1,7 @@
 // Inner: exact whole numbers with a sign, and complex numbers whose two parts are such numbers. No sum or product
 // wraps: a caller shows one bound for each, by the weights of what it adds or multiplies.
 #![tactic(auto)]
+
 ghost use Rattle.std.specs.Prelude.{◌≡◌, ◌+◌, ◌*◌, ◌^◌, ◌<◌, leb};
 ghost use Rattle.countersign_sums.specs.Wholes.{weight, plus_of, times_of, opposite_of, apart, at_most};
 ghost use Rattle.countersign_sums.specs.Gaussians.{heft, sum_of, difference_of, product_of, by_whole, conjugate_of, both_within};

@@ -1,6 +1,7 @@
 // The cut file: six header fields, a list of qubits, a state. The core, on a slice of bytes and numbers: what the header
 // is answered by, and the entries and amplitudes behind it.
 #![tactic(auto)]
+
 ghost use Rattle.std.specs.Prelude.{◌≡◌, ◌+◌, ◌*◌, ◌^◌, ◌<◌, ◌≤◌, length};
 ghost use Rattle.answers.specs.Paper.{paper};
 ghost use Rattle.cutfile.specs.Bytes.{word32, word64, begins, all_zero};

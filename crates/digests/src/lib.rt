@@ -1,5 +1,6 @@
 // FNV-1a of 64 bits: a check against mixing files up, not against forgery.
 #![tactic(auto)]
+
 ghost use Rattle.std.specs.Prelude.{◌≡◌, ◌*◌, ◌%◌, ◌^◌};
 ghost use Rattle.std.specs.Int.Bits.{bit_xor};
 ghost use Rattle.digests.specs.Digest.{prime, mixed, digest_of};

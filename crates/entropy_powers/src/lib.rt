@@ -1,5 +1,6 @@
 // Inner: how many powers of two lie between the 4096th powers of two whole numbers, from bounds of both by twelve squarings.
 #![tactic(auto)]
+
 ghost use Rattle.std.specs.Prelude.{◌≡◌, ◌+◌, ◌-◌, ◌*◌, ◌^◌, ◌≤◌, ◌<◌};
 ghost use Rattle.entropy_powers.specs.Powers.{Narrow, PowersSized, halves_of, squared_of, squarings, powers_of, doublings_of, band_of};
 

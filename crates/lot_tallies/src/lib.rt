@@ -1,6 +1,7 @@
 // Inner: the sheet of a lot as a struct by value, and the step that adds one file's result. Each number of the sheet is defined from
 // the list of single results.
 #![tactic(auto)]
+
 ghost use Rattle.std.specs.Prelude.{◌≡◌, [], ◌+◌, ◌<◌, ◌≤◌, length};
 ghost use Rattle.lot_tallies.specs.Tallies.{Fair, Adds, Tallied, sheet_of, sheet_numbers, smaller_mark, larger_mark, part_put};
 

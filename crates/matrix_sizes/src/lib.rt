@@ -1,5 +1,6 @@
 // Inner: the sizes of a matrix, which of them are taken, and the smaller of the two.
 #![tactic(auto)]
+
 ghost use Rattle.std.specs.Prelude.{◌≡◌};
 ghost use Rattle.answers.specs.Paper.{paper};
 ghost use Rattle.matrix_sizes.specs.Sizes.{side_of, matrix_sizes};

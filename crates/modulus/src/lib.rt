@@ -1,6 +1,7 @@
 // The modulus of a complex number. Both parts are scaled by the power of two that brings the larger magnitude to at
 // least 1 and under 2, and the root of the sum of their squares is scaled back.
 #![tactic(auto)]
+
 ghost use Rattle.std.specs.Prelude.{◌≡◌, true, false, ◌&&◌, ◌+◌, ◌-◌, ◌^◌, ◌≤◌, ◌<◌, max};
 ghost use Rattle.std.specs.Float.{binary64};
 ghost use Rattle.std.specs.Float.Ieee.{mul};

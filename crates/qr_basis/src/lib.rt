@@ -1,6 +1,7 @@
 // Inner: the basis q of QR while it is built. Each of its columns is held as planes, all real parts and then all
 // imaginary parts, one column after the other; a contract names the list of cells that this stands for.
 #![tactic(auto)]
+
 ghost use Rattle.std.specs.Prelude.{◌≡◌, ◌+◌, ◌*◌, ◌<◌, ◌≤◌, length};
 ghost use Rattle.complex.specs.Cells.{cell_at, set_cell};
 ghost use Rattle.qr_basis.specs.Matrix.{matrix_of};

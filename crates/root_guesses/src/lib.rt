@@ -2,6 +2,7 @@
 // guess is the root; where it is not, the root is worked out. So a guess decides the time and never
 // the result, and several guesses can be made side by side before the first root is known.
 #![tactic(auto)]
+
 ghost use Rattle.std.specs.Prelude.{◌≡◌, ◌-◌, ◌*◌, ◌^◌, ◌<◌, ◌≤◌, true};
 ghost use Rattle.numbers.specs.Root.{sqrt_of};
 ghost use Rattle.numbers.specs.Steps.{NearestWhole};

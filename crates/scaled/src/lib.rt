@@ -1,5 +1,6 @@
 // Inner: a quick test that every number is an allowed component.
 #![tactic(auto)]
+
 ghost use Rattle.std.specs.Prelude.{◌≡◌, true, ◌+◌, ◌≤◌, length};
 ghost use Rattle.scaled.specs.Each.{EachAllowed};
 ghost use Rattle.scaled.specs.Eight.{no_sums, with_eight, joined};

@@ -1,6 +1,7 @@
 // Inner: the lines of a source that a fill reads, and the site that they become. A source has chi lines whose first cells
 // stand stride cells apart, and only the first width cells of a line are read.
 #![tactic(auto)]
+
 ghost use Rattle.std.specs.Prelude.{◌≡◌, ℕ, ◌+◌, ◌*◌, ◌<◌, ◌≤◌, length};
 ghost use Rattle.answers.specs.Paper.{paper};
 ghost use Rattle.complex.specs.Cells.{written};

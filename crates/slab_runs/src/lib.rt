@@ -1,5 +1,6 @@
 // Inner: runs of free cells in a map that says of each cell whether it is held.
 #![tactic(auto)]
+
 ghost use Rattle.std.specs.Prelude.{◌≡◌, ◌≤◌};
 ghost use Rattle.slab_runs.specs.Runs.{lowest};
 

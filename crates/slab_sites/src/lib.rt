@@ -1,6 +1,7 @@
 // Inner: the index of a slab and its sites. The index is 193 numbers: how many sites are held, then three
 // numbers for each: the site's number, its first cell and its count of cells.
 #![tactic(auto)]
+
 ghost use Rattle.std.specs.Prelude.{◌≡◌, ◌+◌, ◌*◌, ◌≤◌, ◌<◌};
 ghost use Rattle.slab_sites.specs.Sites.{site_at, set_site, inside, apart, apart_from, each_apart, find_site, shifted};
 

@@ -1,6 +1,7 @@
 // Inner: the stable downward order of a list of values, kept in lent floats: each place is a whole
 // number in a float. The caller's scratch holds it, as the paper asks.
 #![tactic(auto)]
+
 ghost use Rattle.std.specs.Prelude.{◌≡◌, ◌<◌, ◌≤◌, length, get_or};
 ghost use Rattle.stable_order.specs.Places.{places_of, places_in, Places};
 ghost use Rattle.stable_order.specs.Push.{push_at};

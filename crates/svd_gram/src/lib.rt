@@ -1,5 +1,6 @@
 // Inner: the Gram sums of a pair of columns of a matrix that is lent as planes.
 #![tactic(auto)]
+
 ghost use Rattle.std.specs.Prelude.{◌≡◌, ◌+◌, ◌*◌, ◌<◌, ◌≤◌, length};
 ghost use Rattle.svd_gram.specs.Gram.{no_sums, one_row, gram_to};
 ghost use Rattle.svd_gram.specs.Terms.{Terms, added_to};

@@ -1,6 +1,7 @@
 // Texts put into a lent buffer of bytes: bytes, a number in decimal or hexadecimal, a word and a number. Inner: the caller
 // gives room. Each function answers the place past what it put, and touches nothing else.
 #![tactic(auto)]
+
 ghost use Rattle.std.specs.Prelude.{[], ◌∷◌, ◌++◌, ◌≡◌, ◌+◌, ◌*◌, ◌<◌, ◌≤◌, length};
 ghost use Rattle.texts.specs.Text.{decimal, hex, Puts, item_text, line, pair_line};
 ghost use Rattle.texts.specs.Text.{digit as Text·digit};

@@ -1,5 +1,6 @@
 // Inner: how an exported call tells its answer: the number is returned, the place is stored.
 #![tactic(auto)]
+
 ghost use Rattle.std.specs.Prelude.{◌≡◌, ◌≤◌};
 ghost use Rattle.told.specs.Told.{Told};
 

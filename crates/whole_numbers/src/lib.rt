@@ -1,5 +1,6 @@
 // Inner: 2 to the q, and laws of whole numbers that several families cite.
 #![tactic(auto)]
+
 ghost use Rattle.std.specs.Prelude.{◌≡◌, ◌<◌, ◌^◌};
 
 // 2 to the q.

@@ -26,7 +26,7 @@ pub slice_bounds-put_two-end : goal.slice_bounds-put_two-end
 slice_bounds-put_two-end c = sym (length-take-le _ _ (omega (arith, c.decode_state.auto.1.1.1.0, c.bit-components.ensures, components-fit _ _ _ _ _ _ c.requires)))
 
 pub put_text-requires : goal.put_text-requires
-put_text-requires c = omega (arith, c.requires.room-left, c.put_two-next.auto.0, two-next _ _ _ _ _ _ _ _ _ c.put_two-next.ensures)
+put_text-requires c = omega (arith, c.requires.room-left, c.put_two-next.auto.out, two-next _ _ _ _ _ _ _ _ _ c.put_two-next.ensures)
 
 pub returns : goal.returns
 returns c = back_done _ _ _ _ _ _ c.requires _ _ _ (ap (λ (x : ℕ). 2 * x) c.bit-components.ensures) c.decode_state.ensures _ _ _ _ _ _ _ _ refl c.kept_total.ensures c.bits_of-total.ensures c.put_two-next.ensures c.put_text.ensures

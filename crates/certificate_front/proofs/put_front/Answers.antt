@@ -10,13 +10,13 @@ use Rattle.certificate_front.proofs.FrontLaws.{length-head, length-one}
 use Rattle.certificate_front.proofs.put_front.Goals as goal
 
 pub put_one-second-requires : goal.put_one-second-requires
-put_one-second-requires c = record { printable = c.requires.printable; fits = omega (arith, c.requires.fits, c.put_head-first.ensures.next, c.put_head-first.auto.0, length-head page_one_line c.args.digest) }
+put_one-second-requires c = record { printable = c.requires.printable; fits = omega (arith, c.requires.fits, c.put_head-first.ensures.next, c.put_head-first.auto.out, length-head page_one_line c.args.digest) }
 
 pub put_head-third-requires : goal.put_head-third-requires
-put_head-third-requires c = omega (arith, c.requires.fits, c.put_head-first.ensures.next, c.put_head-first.auto.0, length-head page_one_line c.args.digest, c.put_one-second.ensures.next, c.put_one-second.auto.0, length-one (paper c.args.answer) c.args.n c.args.list.now c.args.values.now c.args.begun c.args.quiet c.args.exact c.requires.printable)
+put_head-third-requires c = omega (arith, c.requires.fits, c.put_head-first.ensures.next, c.put_head-first.auto.out, length-head page_one_line c.args.digest, c.put_one-second.ensures.next, c.put_one-second.auto.out, length-one (paper c.args.answer) c.args.n c.args.list.now c.args.values.now c.args.begun c.args.quiet c.args.exact c.requires.printable)
 
 pub put_list-requires : goal.put_list-requires
-put_list-requires c = omega (arith, c.requires.fits, c.requires.few, c.put_head-first.ensures.next, c.put_head-first.auto.0, length-head page_one_line c.args.digest, c.put_one-second.ensures.next, c.put_one-second.auto.0, length-one (paper c.args.answer) c.args.n c.args.list.now c.args.values.now c.args.begun c.args.quiet c.args.exact c.requires.printable, c.put_head-third.ensures.next, c.put_head-third.auto.0, length-head page_two_line c.args.digest)
+put_list-requires c = omega (arith, c.requires.fits, c.requires.few, c.put_head-first.ensures.next, c.put_head-first.auto.out, length-head page_one_line c.args.digest, c.put_one-second.ensures.next, c.put_one-second.auto.out, length-one (paper c.args.answer) c.args.n c.args.list.now c.args.values.now c.args.begun c.args.quiet c.args.exact c.requires.printable, c.put_head-third.ensures.next, c.put_head-third.auto.out, length-head page_two_line c.args.digest)
 
 pub returns : goal.returns
 unfolding front_text

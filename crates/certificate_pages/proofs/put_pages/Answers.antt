@@ -29,7 +29,7 @@ pub slice_bounds-put_back-end : goal.slice_bounds-put_back-end
 slice_bounds-put_back-end c = let q = c.cut_result-result in let h : length q.new.1.0 ≡ 64 = q.ensures.list-long in sym (length-take-le _ _ (omega (arith, few-listed _ _ _ q.result _ _ q.ensures (is-ended _ _ _ q.result _ _ q.ensures _ _ c.number_of-reply.ensures.0 c.was_begun.ensures c.if-was_begun.true), h)))
 
 pub put_back-length-requires : goal.put_back-length-requires
-put_back-length-requires c = let q = c.cut_result-result in back-asked _ _ _ q.result _ _ q.ensures (is-ended _ _ _ q.result _ _ q.ensures _ _ c.number_of-reply.ensures.0 c.was_begun.ensures c.if-was_begun.true) _ _ (omega (arith, c.requires, c.put_front-next.auto.0)) (next-few _ _ _ q.result _ _ q.ensures (is-ended _ _ _ q.result _ _ q.ensures _ _ c.number_of-reply.ensures.0 c.was_begun.ensures c.if-was_begun.true) _ _ _ _ c.put_front-next.ensures)
+put_back-length-requires c = let q = c.cut_result-result in back-asked _ _ _ q.result _ _ q.ensures (is-ended _ _ _ q.result _ _ q.ensures _ _ c.number_of-reply.ensures.0 c.was_begun.ensures c.if-was_begun.true) _ _ (omega (arith, c.requires, c.put_front-next.auto.out)) (next-few _ _ _ q.result _ _ q.ensures (is-ended _ _ _ q.result _ _ q.ensures _ _ c.number_of-reply.ensures.0 c.was_begun.ensures c.if-was_begun.true) _ _ _ _ c.put_front-next.ensures)
 
 pub returns-then-was_begun : goal.returns-then-was_begun
 returns-then-was_begun c = let q = c.cut_result-result in pages-done _ _ _ q.result _ _ q.ensures (is-ended _ _ _ q.result _ _ q.ensures _ _ c.number_of-reply.ensures.0 c.was_begun.ensures c.if-was_begun.true) _ _ _ _ _ _ _ c.digest-digest.ensures c.number_of-reply.ensures.0 c.requires c.put_front-next.ensures c.put_back-length.ensures

@@ -8,10 +8,10 @@ use Rattle.chain_lines.specs.ChainLines.{site_cell_word, site_cell_line}
 use Rattle.chain_lines.proofs.put_cell.Goals as goal
 
 pub put_hex_item-last-requires : goal.put_hex_item-last-requires
-put_hex_item-last-requires c = omega (arith, c.put_item-past.ensures.next, c.put_item-past.auto.0, length-item site_cell_word c.args.k, c.requires)
+put_hex_item-last-requires c = omega (arith, c.put_item-past.ensures.next, c.put_item-past.auto.out, length-item site_cell_word c.args.k, c.requires)
 
 pub put_bits-requires : goal.put_bits-requires
-put_bits-requires c = omega (arith, c.put_item-past.ensures.next, c.put_item-past.auto.0, length-item site_cell_word c.args.k, c.put_hex_item-last.ensures.next, c.put_hex_item-last.auto.0, length-hex-item blank c.args.re, c.requires)
+put_bits-requires c = omega (arith, c.put_item-past.ensures.next, c.put_item-past.auto.out, length-item site_cell_word c.args.k, c.put_hex_item-last.ensures.next, c.put_hex_item-last.auto.out, length-hex-item blank c.args.re, c.requires)
 
 pub returns : goal.returns
 unfolding site_cell_line

@@ -5,7 +5,7 @@ use Rattle.chain_lines.specs.ChainLines.{site_word, site_line}
 use Rattle.chain_lines.proofs.put_shape.Goals as goal
 
 pub put_pair_line-requires : goal.put_pair_line-requires
-put_pair_line-requires c = omega (arith, c.put_item-past.ensures.next, c.put_item-past.auto.0, length-item site_word c.args.j, c.requires)
+put_pair_line-requires c = omega (arith, c.put_item-past.ensures.next, c.put_item-past.auto.out, length-item site_word c.args.j, c.requires)
 
 pub returns : goal.returns
 unfolding site_line

@@ -9,9 +9,8 @@ returns-then-rows-columns c = work-rows _ _ _ c.if-rows-columns.true c.load_rows
 
 pub load_columns-requires : goal.load_columns-requires
 load_columns-requires c =
-    let start = c.before.before.before.before in
-    let e = mul_comm start.args.columns start.args.rows in
-    (omega (arith, e, start.requires.0), omega (arith, e, start.requires.1), omega (arith, e, start.requires.2))
+    let e = mul_comm c.args.columns c.args.rows in
+    (omega (arith, e, c.requires.0), omega (arith, e, c.requires.1), omega (arith, e, c.requires.2))
 
 pub returns : goal.returns
 returns c = work-columns _ _ _ c.if-rows-columns.false c.load_columns.ensures

@@ -11,18 +11,6 @@ use Rattle.chain_load.proofs.CarriedLaws.{across-is}
 use Rattle.svd_load.proofs.LoadingLaws.{planes-none, planes-more}
 use borrow.Author.Rules.{rules}
 use Rattle.chain_load.proofs.load_column.Goals as goal
-use Rattle.chain_load.proofs.load_column.Goals.{In-loop-r}
-
--- the cell that is read, and the one that is written, lie within the matrix
-source : (c : In-loop-r)
-    → let a = c.args in c.loop-r.r * a.columns + a.col < a.columns * a.rows
-source c =
-    let s = c.before.before.before.before in
-    rw (mul_comm s.args.columns s.args.rows) (digits_lt c.loop-r-test.true s.requires.0)
-
-goal : (c : In-loop-r)
-    → let a = c.args in a.col * a.rows + c.loop-r.r < a.columns * a.rows
-goal c = digits_lt c.requires.0 c.loop-r-test.true
 
 pub overflow_mul-to : goal.overflow_mul-to
 overflow_mul-to c = omega (arith, column_fits c.args.col c.args.columns c.args.rows c.requires.0)
@@ -31,19 +19,29 @@ pub loop-r-init : goal.loop-r-init
 loop-r-init c = (search rules, refl, planes-none _ _ _ _)
 
 pub overflow_mul-r : goal.overflow_mul-r
-overflow_mul-r c = omega (arith, source c)
+overflow_mul-r c =
+    let source : let a = c.args in c.loop-r.r * a.columns + a.col < a.columns * a.rows = rw (mul_comm c.args.columns c.args.rows) (digits_lt c.loop-r-test.true c.requires.0) in
+    omega (arith, source)
 
 pub overflow_add-r : goal.overflow_add-r
-overflow_add-r c = omega (arith, source c)
+overflow_add-r c =
+    let source : let a = c.args in c.loop-r.r * a.columns + a.col < a.columns * a.rows = rw (mul_comm c.args.columns c.args.rows) (digits_lt c.loop-r-test.true c.requires.0) in
+    omega (arith, source)
 
 pub read_cell-z-requires : goal.read_cell-z-requires
-read_cell-z-requires c = omega (arith, source c)
+read_cell-z-requires c =
+    let source : let a = c.args in c.loop-r.r * a.columns + a.col < a.columns * a.rows = rw (mul_comm c.args.columns c.args.rows) (digits_lt c.loop-r-test.true c.requires.0) in
+    omega (arith, source)
 
 pub overflow_add-to : goal.overflow_add-to
-overflow_add-to c = omega (arith, goal c.before.before)
+overflow_add-to c =
+    let goal : let a = c.args in a.col * a.rows + c.loop-r.r < a.columns * a.rows = digits_lt c.requires.0 c.loop-r-test.true in
+    omega (arith, goal)
 
 pub write_plane-requires : goal.write_plane-requires
-write_plane-requires c = omega (arith, goal c.before.before)
+write_plane-requires c =
+    let goal : let a = c.args in a.col * a.rows + c.loop-r.r < a.columns * a.rows = digits_lt c.requires.0 c.loop-r-test.true in
+    omega (arith, goal)
 
 pub loop-r-preserved : goal.loop-r-preserved
 loop-r-preserved c = (search rules, search rules, planes-more _ _ _ _ _ c.loop-r.invariant.2 (across-is _ _ _ _ _ c.loop-r-test.true c.read_cell-z.ensures) c.write_plane.ensures)

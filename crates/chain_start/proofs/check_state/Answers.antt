@@ -9,15 +9,14 @@ loop-i-init c = (omega arith, refl)
 
 pub loop-i-preserved : goal.loop-i-preserved
 loop-i-preserved c =
-    let b = c.before.before in (
+    (
       omega arith,
-      b.loop-i.invariant.1 ∙ state-good _ _ _ b.loop-i-test.true (sym c.state_allowed.ensures ∙ c.if-state_allowed.true),
+      c.loop-i.invariant.1 ∙ state-good _ _ _ c.loop-i-test.true (sym c.state_allowed.ensures ∙ c.if-state_allowed.true),
     )
 
 pub returns-else-state_allowed : goal.returns-else-state_allowed
 returns-else-state_allowed c =
-    let b = c.before.before in
-    sym (b.loop-i.invariant.1 ∙ state-bad _ _ _ b.loop-i-test.true (sym c.state_allowed.ensures ∙ c.if-state_allowed.false))
+    sym (c.loop-i.invariant.1 ∙ state-bad _ _ _ c.loop-i-test.true (sym c.state_allowed.ensures ∙ c.if-state_allowed.false))
 
 pub returns : goal.returns
 returns c = sym (c.loop-i.invariant.1 ∙ state-end _ _ _ c.loop-i-test.false)

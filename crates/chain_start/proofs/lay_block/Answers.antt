@@ -40,11 +40,10 @@ loop-x-smaller c = omega (arith, c.loop-x-test.true, c.bit-count.ensures)
 
 pub loop-x-preserved : goal.loop-x-preserved
 loop-x-preserved c =
-    let start = c.before.before.before.before.before.before.before.before.before.before.before.before.before in
-    let h : c.loop-x.x < 2 ^ start.args.low = below c.loop-x-test.true c.bit-count.ensures in (
+    let h : c.loop-x.x < 2 ^ c.args.low = below c.loop-x-test.true c.bit-count.ensures in (
       omega (arith, h),
       search rules,
-      λ old l e. block_more start.args.state.now _ _ _ _ _ old c.bit-count.ensures l start.requires.inside h (c.loop-x.invariant.2 old l e) (from_is _ _ _ start.args.state.now start.args.backs.now start.requires _ _ _ h refl c.other_way-from.ensures) c.read_cell-z.ensures c.write_cell.ensures,
+      λ old l e. block_more c.args.state.now _ _ _ _ _ old c.bit-count.ensures l c.requires.inside h (c.loop-x.invariant.2 old l e) (from_is _ _ _ c.args.state.now c.args.backs.now c.requires _ _ _ h refl c.other_way-from.ensures) c.read_cell-z.ensures c.write_cell.ensures,
     )
 
 pub shape_of-u : goal.shape_of-u
@@ -52,5 +51,4 @@ shape_of-u c = c.loop-x.invariant.1
 
 pub returns : goal.returns
 returns c =
-    let start = c.before.before.before.before.before.before.before in
-    λ old l e. c.loop-x.invariant.2 old l e ∙ ap (λ (k : ℕ). written (start.args.y * 2 ^ start.args.low + k) (cell_reversed start.args.state.now (start.args.low + start.args.high)) old) (omega (arith, c.loop-x-test.false, c.bit-count.ensures, c.loop-x.invariant.0))
+    λ old l e. c.loop-x.invariant.2 old l e ∙ ap (λ (k : ℕ). written (c.args.y * 2 ^ c.args.low + k) (cell_reversed c.args.state.now (c.args.low + c.args.high)) old) (omega (arith, c.loop-x-test.false, c.bit-count.ensures, c.loop-x.invariant.0))

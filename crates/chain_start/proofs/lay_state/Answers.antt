@@ -15,7 +15,7 @@ pub loop-y-init : goal.loop-y-init
 loop-y-init c = (omega arith, refl, blocks-none c.args.state.now _ _ _)
 
 pub lay_block-requires : goal.lay_block-requires
-lay_block-requires c = let start = c.before.before.before.before.before.before.before.before.before.before in block_room _ _ _ _ _ start.requires.0 (below c.loop-y-test.true c.bit-blocks.ensures) start.requires.1 c.loop-y.invariant.1 start.requires.2 c.turn_round.ensures.0 c.turn_round.ensures.1
+lay_block-requires c = block_room _ _ _ _ _ c.requires.0 (below c.loop-y-test.true c.bit-blocks.ensures) c.requires.1 c.loop-y.invariant.1 c.requires.2 c.turn_round.ensures.0 c.turn_round.ensures.1
 
 pub overflow_step-y : goal.overflow_step-y
 overflow_step-y c = omega (arith, below c.loop-y-test.true c.bit-blocks.ensures, power-few _ (halves _ c.requires.0).1)
@@ -30,4 +30,4 @@ pub shape_of-u : goal.shape_of-u
 shape_of-u c = c.loop-y.invariant.1
 
 pub returns : goal.returns
-returns c = let start = c.before.before.before.before.before.before.before.before in blocks-all start.args.state.now _ _ _ _ _ (halves _ start.requires.0).2 start.requires.2 (omega (arith, c.loop-y-test.false, c.bit-blocks.ensures, c.loop-y.invariant.0)) c.loop-y.invariant.2
+returns c = blocks-all c.args.state.now _ _ _ _ _ (halves _ c.requires.0).2 c.requires.2 (omega (arith, c.loop-y-test.false, c.bit-blocks.ensures, c.loop-y.invariant.0)) c.loop-y.invariant.2

@@ -56,11 +56,10 @@ factor_loaded-requires c =
 
 pub returns : goal.returns
 returns c =
-    let start = c.before.before.before.before.before.before.before.before.before.before.before.before.before.before.before.before.before.before.before.before.before.before.before in
-    let z = start.requires in
+    let z = c.requires in
     let k = c.smaller_size-k.ensures in
     let r = rooms _ _ k z.0.few in
-    let h : 2 * (start.args.rows * start.args.columns) ≤ length start.args.scratch.now = omega (arith, z.0.scratch-is) in
+    let h : 2 * (c.args.rows * c.args.columns) ≤ length c.args.scratch.now = omega (arith, z.0.scratch-is) in
     let w = c.factor_loaded in
     let loaded = c.load in
-    factored start.args.u.now _ _ _ w.result _ _ k (take_at _ _ _ (loaded.auto.1.1.1.0 ∙ length-take-le _ _ h) ∙ loaded.ensures) (w.auto.1.1.0 ∙ length-take-le _ _ (omega (arith, r.2, z.0.carried-is))) (w.auto.1.1.1.1.0 ∙ length-take-le _ _ (omega (arith, r.3, z.0.vt_is))) w.ensures
+    factored c.args.u.now _ _ _ w.result _ _ k (take_at _ _ _ (loaded.auto.1.1.1.0 ∙ length-take-le _ _ h) ∙ loaded.ensures) (w.auto.1.1.0 ∙ length-take-le _ _ (omega (arith, r.2, z.0.carried-is))) (w.auto.1.1.1.1.0 ∙ length-take-le _ _ (omega (arith, r.3, z.0.vt_is))) w.ensures

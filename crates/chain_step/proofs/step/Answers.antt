@@ -17,7 +17,7 @@ pub factor-factors-requires : goal.factor-factors-requires
 factor-factors-requires c = (c.requires.0, length-take-le _ _ (values-few _ _ c.smaller_size-k.ensures c.requires.0.few) ∙ c.smaller_size-k.ensures)
 
 pub shape_of-u-in_default : goal.shape_of-u-in_default
-shape_of-u-in_default c = c.factor-factors.auto.1.1.0
+shape_of-u-in_default c = c.factor-factors.auto.vt
 
 pub shape_of-vt-in_default : goal.shape_of-vt-in_default
 shape_of-vt-in_default c = c.factor-factors.auto.1.1.1.1.0
@@ -35,10 +35,10 @@ pub overflow_mul-for_vt-2 : goal.overflow_mul-for_vt-2
 overflow_mul-for_vt-2 c = omega (arith, (rooms _ _ c.smaller_size-k.ensures c.requires.0.few).1)
 
 pub slice_bounds-s-end-2 : goal.slice_bounds-s-end-2
-slice_bounds-s-end-2 c = front-in _ c.factor-factors.new.1.1.1.0 _ (c.factor-factors.auto.1.1.1.0 ∙ length-take-le _ _ (values-few _ _ c.smaller_size-k.ensures c.requires.0.few))
+slice_bounds-s-end-2 c = front-in _ c.factor-factors.new.scratch _ (c.factor-factors.auto.scratch ∙ length-take-le _ _ (values-few _ _ c.smaller_size-k.ensures c.requires.0.few))
 
 pub slice_bounds-keep-end : goal.slice_bounds-keep-end
-slice_bounds-keep-end c = sym (front_length _ c.factor-factors.new.1.1.1.0 _ (c.factor-factors.auto.1.1.1.0 ∙ length-take-le _ _ (values-few _ _ c.smaller_size-k.ensures c.requires.0.few)))
+slice_bounds-keep-end c = sym (front_length _ c.factor-factors.new.scratch _ (c.factor-factors.auto.scratch ∙ length-take-le _ _ (values-few _ _ c.smaller_size-k.ensures c.requires.0.few)))
 
 pub slice_bounds-keep-end-2 : goal.slice_bounds-keep-end-2
 slice_bounds-keep-end-2 c = omega (arith, c.factor-factors.auto.1.1.1.1.0, (rooms _ _ c.smaller_size-k.ensures c.requires.0.few).3, c.requires.0.vt_is)
@@ -47,13 +47,13 @@ pub slice_bounds-keep-end-3 : goal.slice_bounds-keep-end-3
 slice_bounds-keep-end-3 c = sym (length-take-le _ _ (omega (arith, c.factor-factors.auto.1.1.1.1.0, (rooms _ _ c.smaller_size-k.ensures c.requires.0.few).3, c.requires.0.vt_is)))
 
 pub keep-requires : goal.keep-requires
-keep-requires c = keepable _ _ _ _ _ _ _ _ _ _ c.smaller_size-k.ensures c.requires.0 c.requires.1 (front_length _ c.factor-factors.new.1.1.1.0 _ (c.factor-factors.auto.1.1.1.0 ∙ length-take-le _ _ (values-few _ _ c.smaller_size-k.ensures c.requires.0.few))) (length-take-le _ _ (omega (arith, c.factor-factors.auto.1.1.1.1.0, (rooms _ _ c.smaller_size-k.ensures c.requires.0.few).3, c.requires.0.vt_is))) c.factor-factors.auto.1.1.0
+keep-requires c = keepable _ _ _ _ _ _ _ _ _ _ c.smaller_size-k.ensures c.requires.0 c.requires.1 (front_length _ c.factor-factors.new.scratch _ (c.factor-factors.auto.scratch ∙ length-take-le _ _ (values-few _ _ c.smaller_size-k.ensures c.requires.0.few))) (length-take-le _ _ (omega (arith, c.factor-factors.auto.1.1.1.1.0, (rooms _ _ c.smaller_size-k.ensures c.requires.0.few).3, c.requires.0.vt_is))) c.factor-factors.auto.vt
 
 pub shape_of-site : goal.shape_of-site
 shape_of-site c = c.keep.auto.1.1.1.1.1.1.1.0
 
 pub shape_of-u : goal.shape_of-u
-shape_of-u c = c.keep.auto.1.1.1.1.1.1.1.1.0 ∙ c.factor-factors.auto.1.1.0
+shape_of-u c = c.keep.auto.1.1.1.1.1.1.1.1.0 ∙ c.factor-factors.auto.vt
 
 pub shape_of-vt : goal.shape_of-vt
 shape_of-vt c = c.factor-factors.auto.1.1.1.1.0
@@ -62,4 +62,4 @@ pub shape_of-scratch : goal.shape_of-scratch
 shape_of-scratch c = c.factor-factors.auto.1.1.1.1.1.0
 
 pub returns : goal.returns
-returns c = stepped _ _ _ _ _ _ c.factor-factors.result c.keep.result _ _ _ _ c.factor-factors.ensures (ap (λ (r : Answer). (paper r).0) c.enum_told-1.given.1) (take_at _ _ _ (c.factor-factors.auto.1.1.1.0 ∙ length-take-le _ _ (values-few _ _ c.smaller_size-k.ensures c.requires.0.few))) refl (vt-front _ _ _ c.smaller_size-k.ensures) c.keep.ensures
+returns c = stepped _ _ _ _ _ _ c.factor-factors.result c.keep.result _ _ _ _ c.factor-factors.ensures (ap (λ (r : Answer). (paper r).0) c.enum_told-1.given.1) (take_at _ _ _ (c.factor-factors.auto.scratch ∙ length-take-le _ _ (values-few _ _ c.smaller_size-k.ensures c.requires.0.few))) refl (vt-front _ _ _ c.smaller_size-k.ensures) c.keep.ensures

@@ -10,127 +10,175 @@ use Rattle.chain_room.proofs.RoomLaws.{room-few}
 use Rattle.chain_checks.proofs.CheckLaws.{ChainAccepted, accepted, plane-few, side-few}
 use Rattle.chains.proofs.ChainsLaws.{chain-worked, chain-refused}
 use Rattle.chains.proofs.chain_of_sites.Goals as goal
-use Rattle.chains.proofs.chain_of_sites.Goals.{After-room_of-room, In-Done}
-
--- the tests passed
-accept : (c : In-Done)
-    → ChainAccepted c.args.n c.args.limit (length c.args.state.now) (length c.args.sites.now) (length c.args.bonds.now) (length c.args.starts.now) (length c.args.marks.now) (length c.args.matrix.now) (length c.args.u.now) (length c.args.vt.now) (length c.args.scratch.now)
-accept c = accepted _ _ _ _ _ _ _ _ _ _ _ (was-done _ _ c.check-answer.ensures c.in-Done.is)
-
--- each part fits its slice
-sites-fit : (c : After-room_of-room) → 2 * c.room_of-room.result ≤ length c.args.sites.now
-sites-fit c = rw c.room_of-room.ensures (accept c.before.before.before).sites-fit
-
-plane-is : (c : After-room_of-room) → 2 * c.bit-cells.result ≡ 2 * 2 ^ c.args.n
-plane-is c = ap (λ (x : ℕ). 2 * x) c.bit-cells.ensures
-
-scratch-is : (c : After-room_of-room) → 6 * c.bit-cells.result + 2 * c.bit-side.result ≡ 6 * 2 ^ c.args.n + 2 * 2 ^ (c.args.n / 2)
-scratch-is c = ap₂ (λ (x y : ℕ). 6 * x + 2 * y) c.bit-cells.ensures c.bit-side.ensures
+use Rattle.chains.proofs.chain_of_sites.Goals.{After-room_of-room}
 
 plane-fits : (c : After-room_of-room) {l : ℕ} → 2 * 2 ^ c.args.n ≤ l → 2 * c.bit-cells.result ≤ l
 plane-fits c h = omega (arith, plane-is c)
-
-scratch-fits : (c : After-room_of-room) → 6 * c.bit-cells.result + 2 * c.bit-side.result ≤ length c.args.scratch.now
-scratch-fits c = omega (arith, scratch-is c, (accept c.before.before.before).scratch-fits)
 
 pub returns-in_default : goal.returns-in_default
 returns-in_default c = chain-refused _ _ _ _ _ _ _ _ _ _ _ _ c.check-answer.result c.check-answer.ensures (stopped-number c.check-answer.result c.in_default.not-Done)
 
 pub bit-cells-requires : goal.bit-cells-requires
-bit-cells-requires c = omega (arith, (accept c).small)
+bit-cells-requires c =
+    let accept : ChainAccepted c.args.n c.args.limit (length c.args.state.now) (length c.args.sites.now) (length c.args.bonds.now) (length c.args.starts.now) (length c.args.marks.now) (length c.args.matrix.now) (length c.args.u.now) (length c.args.vt.now) (length c.args.scratch.now) = accepted _ _ _ _ _ _ _ _ _ _ _ (was-done _ _ c.check-answer.ensures c.in-Done.is) in
+    omega (arith, (accept).small)
 
 pub bit-side-requires : goal.bit-side-requires
-bit-side-requires c = omega (arith, (accept c.before).small)
+bit-side-requires c =
+    let accept : ChainAccepted c.args.n c.args.limit (length c.args.state.now) (length c.args.sites.now) (length c.args.bonds.now) (length c.args.starts.now) (length c.args.marks.now) (length c.args.matrix.now) (length c.args.u.now) (length c.args.vt.now) (length c.args.scratch.now) = accepted _ _ _ _ _ _ _ _ _ _ _ (was-done _ _ c.check-answer.ensures c.in-Done.is) in
+    omega (arith, (accept).small)
 
 pub room_of-room-requires : goal.room_of-room-requires
-room_of-room-requires c = (accept c.before.before).small
+room_of-room-requires c =
+    let accept : ChainAccepted c.args.n c.args.limit (length c.args.state.now) (length c.args.sites.now) (length c.args.bonds.now) (length c.args.starts.now) (length c.args.marks.now) (length c.args.matrix.now) (length c.args.u.now) (length c.args.vt.now) (length c.args.scratch.now) = accepted _ _ _ _ _ _ _ _ _ _ _ (was-done _ _ c.check-answer.ensures c.in-Done.is) in
+    (accept).small
 
 pub overflow_mul-for_sites : goal.overflow_mul-for_sites
-overflow_mul-for_sites c = omega (arith, c.room_of-room.ensures, room-few c.args.n c.args.limit c.args.n (accept c.before.before.before).small, (accept c.before.before.before).small)
+overflow_mul-for_sites c =
+    let accept : ChainAccepted c.args.n c.args.limit (length c.args.state.now) (length c.args.sites.now) (length c.args.bonds.now) (length c.args.starts.now) (length c.args.marks.now) (length c.args.matrix.now) (length c.args.u.now) (length c.args.vt.now) (length c.args.scratch.now) = accepted _ _ _ _ _ _ _ _ _ _ _ (was-done _ _ c.check-answer.ensures c.in-Done.is) in
+    omega (arith, c.room_of-room.ensures, room-few c.args.n c.args.limit c.args.n (accept).small, (accept).small)
 
 pub overflow_add-count : goal.overflow_add-count
-overflow_add-count c = omega (arith, (accept c.before.before.before).small)
+overflow_add-count c =
+    let accept : ChainAccepted c.args.n c.args.limit (length c.args.state.now) (length c.args.sites.now) (length c.args.bonds.now) (length c.args.starts.now) (length c.args.marks.now) (length c.args.matrix.now) (length c.args.u.now) (length c.args.vt.now) (length c.args.scratch.now) = accepted _ _ _ _ _ _ _ _ _ _ _ (was-done _ _ c.check-answer.ensures c.in-Done.is) in
+    omega (arith, (accept).small)
 
 pub overflow_sub-for_marks : goal.overflow_sub-for_marks
-overflow_sub-for_marks c = omega (arith, (accept c.before.before.before).some)
+overflow_sub-for_marks c =
+    let accept : ChainAccepted c.args.n c.args.limit (length c.args.state.now) (length c.args.sites.now) (length c.args.bonds.now) (length c.args.starts.now) (length c.args.marks.now) (length c.args.matrix.now) (length c.args.u.now) (length c.args.vt.now) (length c.args.scratch.now) = accepted _ _ _ _ _ _ _ _ _ _ _ (was-done _ _ c.check-answer.ensures c.in-Done.is) in
+    omega (arith, (accept).some)
 
 pub overflow_mul-for_marks : goal.overflow_mul-for_marks
-overflow_mul-for_marks c = omega (arith, (accept c.before.before.before).small)
+overflow_mul-for_marks c =
+    let accept : ChainAccepted c.args.n c.args.limit (length c.args.state.now) (length c.args.sites.now) (length c.args.bonds.now) (length c.args.starts.now) (length c.args.marks.now) (length c.args.matrix.now) (length c.args.u.now) (length c.args.vt.now) (length c.args.scratch.now) = accepted _ _ _ _ _ _ _ _ _ _ _ (was-done _ _ c.check-answer.ensures c.in-Done.is) in
+    omega (arith, (accept).small)
 
 pub overflow_mul-plane : goal.overflow_mul-plane
-overflow_mul-plane c = omega (arith, c.bit-cells.ensures, plane-few _ (accept c.before.before.before).small)
+overflow_mul-plane c =
+    let accept : ChainAccepted c.args.n c.args.limit (length c.args.state.now) (length c.args.sites.now) (length c.args.bonds.now) (length c.args.starts.now) (length c.args.marks.now) (length c.args.matrix.now) (length c.args.u.now) (length c.args.vt.now) (length c.args.scratch.now) = accepted _ _ _ _ _ _ _ _ _ _ _ (was-done _ _ c.check-answer.ensures c.in-Done.is) in
+    omega (arith, c.bit-cells.ensures, plane-few _ (accept).small)
 
 pub overflow_mul-need : goal.overflow_mul-need
-overflow_mul-need c = omega (arith, c.bit-cells.ensures, plane-few _ (accept c.before.before.before).small)
+overflow_mul-need c =
+    let accept : ChainAccepted c.args.n c.args.limit (length c.args.state.now) (length c.args.sites.now) (length c.args.bonds.now) (length c.args.starts.now) (length c.args.marks.now) (length c.args.matrix.now) (length c.args.u.now) (length c.args.vt.now) (length c.args.scratch.now) = accepted _ _ _ _ _ _ _ _ _ _ _ (was-done _ _ c.check-answer.ensures c.in-Done.is) in
+    omega (arith, c.bit-cells.ensures, plane-few _ (accept).small)
 
 pub overflow_mul-need-2 : goal.overflow_mul-need-2
-overflow_mul-need-2 c = omega (arith, c.bit-side.ensures, side-few _ (accept c.before.before.before).small)
+overflow_mul-need-2 c =
+    let accept : ChainAccepted c.args.n c.args.limit (length c.args.state.now) (length c.args.sites.now) (length c.args.bonds.now) (length c.args.starts.now) (length c.args.marks.now) (length c.args.matrix.now) (length c.args.u.now) (length c.args.vt.now) (length c.args.scratch.now) = accepted _ _ _ _ _ _ _ _ _ _ _ (was-done _ _ c.check-answer.ensures c.in-Done.is) in
+    omega (arith, c.bit-side.ensures, side-few _ (accept).small)
 
 pub overflow_add-need : goal.overflow_add-need
-overflow_add-need c = omega (arith, c.bit-cells.ensures, plane-few _ (accept c.before.before.before).small, c.bit-side.ensures, side-few _ (accept c.before.before.before).small)
+overflow_add-need c =
+    let accept : ChainAccepted c.args.n c.args.limit (length c.args.state.now) (length c.args.sites.now) (length c.args.bonds.now) (length c.args.starts.now) (length c.args.marks.now) (length c.args.matrix.now) (length c.args.u.now) (length c.args.vt.now) (length c.args.scratch.now) = accepted _ _ _ _ _ _ _ _ _ _ _ (was-done _ _ c.check-answer.ensures c.in-Done.is) in
+    omega (arith, c.bit-cells.ensures, plane-few _ (accept).small, c.bit-side.ensures, side-few _ (accept).small)
 
 pub slice_bounds-work-end : goal.slice_bounds-work-end
-slice_bounds-work-end c = sites-fit c
+slice_bounds-work-end c =
+    let accept : ChainAccepted c.args.n c.args.limit (length c.args.state.now) (length c.args.sites.now) (length c.args.bonds.now) (length c.args.starts.now) (length c.args.marks.now) (length c.args.matrix.now) (length c.args.u.now) (length c.args.vt.now) (length c.args.scratch.now) = accepted _ _ _ _ _ _ _ _ _ _ _ (was-done _ _ c.check-answer.ensures c.in-Done.is) in
+    let sites-fit : 2 * c.room_of-room.result ≤ length c.args.sites.now = rw c.room_of-room.ensures (accept).sites-fit in
+    sites-fit
 
 pub slice_bounds-work-end-2 : goal.slice_bounds-work-end-2
-slice_bounds-work-end-2 c = sym (length-take-le _ _ (sites-fit c.before))
+slice_bounds-work-end-2 c =
+    let accept : ChainAccepted c.args.n c.args.limit (length c.args.state.now) (length c.args.sites.now) (length c.args.bonds.now) (length c.args.starts.now) (length c.args.marks.now) (length c.args.matrix.now) (length c.args.u.now) (length c.args.vt.now) (length c.args.scratch.now) = accepted _ _ _ _ _ _ _ _ _ _ _ (was-done _ _ c.check-answer.ensures c.in-Done.is) in
+    let sites-fit : 2 * c.room_of-room.result ≤ length c.args.sites.now = rw c.room_of-room.ensures (accept).sites-fit in
+    sym (length-take-le _ _ (sites-fit))
 
 pub slice_bounds-work-end-3 : goal.slice_bounds-work-end-3
-slice_bounds-work-end-3 c = (accept c.before.before.before.before).bonds-fit
+slice_bounds-work-end-3 c =
+    let accept : ChainAccepted c.args.n c.args.limit (length c.args.state.now) (length c.args.sites.now) (length c.args.bonds.now) (length c.args.starts.now) (length c.args.marks.now) (length c.args.matrix.now) (length c.args.u.now) (length c.args.vt.now) (length c.args.scratch.now) = accepted _ _ _ _ _ _ _ _ _ _ _ (was-done _ _ c.check-answer.ensures c.in-Done.is) in
+    (accept).bonds-fit
 
 pub slice_bounds-work-end-4 : goal.slice_bounds-work-end-4
-slice_bounds-work-end-4 c = sym (length-take-le _ _ (accept c.before.before.before.before.before).bonds-fit)
+slice_bounds-work-end-4 c =
+    let accept : ChainAccepted c.args.n c.args.limit (length c.args.state.now) (length c.args.sites.now) (length c.args.bonds.now) (length c.args.starts.now) (length c.args.marks.now) (length c.args.matrix.now) (length c.args.u.now) (length c.args.vt.now) (length c.args.scratch.now) = accepted _ _ _ _ _ _ _ _ _ _ _ (was-done _ _ c.check-answer.ensures c.in-Done.is) in
+    sym (length-take-le _ _ (accept).bonds-fit)
 
 pub slice_bounds-work-end-5 : goal.slice_bounds-work-end-5
-slice_bounds-work-end-5 c = (accept c.before.before.before.before.before).starts_fit
+slice_bounds-work-end-5 c =
+    let accept : ChainAccepted c.args.n c.args.limit (length c.args.state.now) (length c.args.sites.now) (length c.args.bonds.now) (length c.args.starts.now) (length c.args.marks.now) (length c.args.matrix.now) (length c.args.u.now) (length c.args.vt.now) (length c.args.scratch.now) = accepted _ _ _ _ _ _ _ _ _ _ _ (was-done _ _ c.check-answer.ensures c.in-Done.is) in
+    (accept).starts_fit
 
 pub slice_bounds-work-end-6 : goal.slice_bounds-work-end-6
-slice_bounds-work-end-6 c = sym (length-take-le _ _ (accept c.before.before.before.before.before.before).starts_fit)
+slice_bounds-work-end-6 c =
+    let accept : ChainAccepted c.args.n c.args.limit (length c.args.state.now) (length c.args.sites.now) (length c.args.bonds.now) (length c.args.starts.now) (length c.args.marks.now) (length c.args.matrix.now) (length c.args.u.now) (length c.args.vt.now) (length c.args.scratch.now) = accepted _ _ _ _ _ _ _ _ _ _ _ (was-done _ _ c.check-answer.ensures c.in-Done.is) in
+    sym (length-take-le _ _ (accept).starts_fit)
 
 pub slice_bounds-work-end-7 : goal.slice_bounds-work-end-7
-slice_bounds-work-end-7 c = (accept c.before.before.before.before.before.before).marks-fit
+slice_bounds-work-end-7 c =
+    let accept : ChainAccepted c.args.n c.args.limit (length c.args.state.now) (length c.args.sites.now) (length c.args.bonds.now) (length c.args.starts.now) (length c.args.marks.now) (length c.args.matrix.now) (length c.args.u.now) (length c.args.vt.now) (length c.args.scratch.now) = accepted _ _ _ _ _ _ _ _ _ _ _ (was-done _ _ c.check-answer.ensures c.in-Done.is) in
+    (accept).marks-fit
 
 pub slice_bounds-work-end-8 : goal.slice_bounds-work-end-8
-slice_bounds-work-end-8 c = sym (length-take-le _ _ (accept c.before.before.before.before.before.before.before).marks-fit)
+slice_bounds-work-end-8 c =
+    let accept : ChainAccepted c.args.n c.args.limit (length c.args.state.now) (length c.args.sites.now) (length c.args.bonds.now) (length c.args.starts.now) (length c.args.marks.now) (length c.args.matrix.now) (length c.args.u.now) (length c.args.vt.now) (length c.args.scratch.now) = accepted _ _ _ _ _ _ _ _ _ _ _ (was-done _ _ c.check-answer.ensures c.in-Done.is) in
+    sym (length-take-le _ _ (accept).marks-fit)
 
 pub slice_bounds-work-end-9 : goal.slice_bounds-work-end-9
-slice_bounds-work-end-9 c = plane-fits c.before.before.before.before (accept c.before.before.before.before.before.before.before).matrix-fits
+slice_bounds-work-end-9 c =
+    let accept : ChainAccepted c.args.n c.args.limit (length c.args.state.now) (length c.args.sites.now) (length c.args.bonds.now) (length c.args.starts.now) (length c.args.marks.now) (length c.args.matrix.now) (length c.args.u.now) (length c.args.vt.now) (length c.args.scratch.now) = accepted _ _ _ _ _ _ _ _ _ _ _ (was-done _ _ c.check-answer.ensures c.in-Done.is) in
+    plane-fits c.before.before.before.before (accept).matrix-fits
 
 pub slice_bounds-work-end-10 : goal.slice_bounds-work-end-10
-slice_bounds-work-end-10 c = sym (length-take-le _ _ (plane-fits c.before.before.before.before.before (accept c.before.before.before.before.before.before.before.before).matrix-fits))
+slice_bounds-work-end-10 c =
+    let accept : ChainAccepted c.args.n c.args.limit (length c.args.state.now) (length c.args.sites.now) (length c.args.bonds.now) (length c.args.starts.now) (length c.args.marks.now) (length c.args.matrix.now) (length c.args.u.now) (length c.args.vt.now) (length c.args.scratch.now) = accepted _ _ _ _ _ _ _ _ _ _ _ (was-done _ _ c.check-answer.ensures c.in-Done.is) in
+    sym (length-take-le _ _ (plane-fits c.before.before.before.before.before (accept).matrix-fits))
 
 pub slice_bounds-work-end-11 : goal.slice_bounds-work-end-11
-slice_bounds-work-end-11 c = plane-fits c.before.before.before.before.before (accept c.before.before.before.before.before.before.before.before).u-fits
+slice_bounds-work-end-11 c =
+    let accept : ChainAccepted c.args.n c.args.limit (length c.args.state.now) (length c.args.sites.now) (length c.args.bonds.now) (length c.args.starts.now) (length c.args.marks.now) (length c.args.matrix.now) (length c.args.u.now) (length c.args.vt.now) (length c.args.scratch.now) = accepted _ _ _ _ _ _ _ _ _ _ _ (was-done _ _ c.check-answer.ensures c.in-Done.is) in
+    plane-fits c.before.before.before.before.before (accept).u-fits
 
 pub slice_bounds-work-end-12 : goal.slice_bounds-work-end-12
-slice_bounds-work-end-12 c = sym (length-take-le _ _ (plane-fits c.before.before.before.before.before.before (accept c.before.before.before.before.before.before.before.before.before).u-fits))
+slice_bounds-work-end-12 c =
+    let accept : ChainAccepted c.args.n c.args.limit (length c.args.state.now) (length c.args.sites.now) (length c.args.bonds.now) (length c.args.starts.now) (length c.args.marks.now) (length c.args.matrix.now) (length c.args.u.now) (length c.args.vt.now) (length c.args.scratch.now) = accepted _ _ _ _ _ _ _ _ _ _ _ (was-done _ _ c.check-answer.ensures c.in-Done.is) in
+    sym (length-take-le _ _ (plane-fits c.before.before.before.before.before.before (accept).u-fits))
 
 pub slice_bounds-work-end-13 : goal.slice_bounds-work-end-13
-slice_bounds-work-end-13 c = plane-fits c.before.before.before.before.before.before (accept c.before.before.before.before.before.before.before.before.before).vt-fits
+slice_bounds-work-end-13 c =
+    let accept : ChainAccepted c.args.n c.args.limit (length c.args.state.now) (length c.args.sites.now) (length c.args.bonds.now) (length c.args.starts.now) (length c.args.marks.now) (length c.args.matrix.now) (length c.args.u.now) (length c.args.vt.now) (length c.args.scratch.now) = accepted _ _ _ _ _ _ _ _ _ _ _ (was-done _ _ c.check-answer.ensures c.in-Done.is) in
+    plane-fits c.before.before.before.before.before.before (accept).vt-fits
 
 pub slice_bounds-work-end-14 : goal.slice_bounds-work-end-14
-slice_bounds-work-end-14 c = sym (length-take-le _ _ (plane-fits c.before.before.before.before.before.before.before (accept c.before.before.before.before.before.before.before.before.before.before).vt-fits))
+slice_bounds-work-end-14 c =
+    let accept : ChainAccepted c.args.n c.args.limit (length c.args.state.now) (length c.args.sites.now) (length c.args.bonds.now) (length c.args.starts.now) (length c.args.marks.now) (length c.args.matrix.now) (length c.args.u.now) (length c.args.vt.now) (length c.args.scratch.now) = accepted _ _ _ _ _ _ _ _ _ _ _ (was-done _ _ c.check-answer.ensures c.in-Done.is) in
+    sym (length-take-le _ _ (plane-fits c.before.before.before.before.before.before.before (accept).vt-fits))
 
 pub slice_bounds-work-end-15 : goal.slice_bounds-work-end-15
-slice_bounds-work-end-15 c = scratch-fits c.before.before.before.before.before.before.before
+slice_bounds-work-end-15 c =
+    let accept : ChainAccepted c.args.n c.args.limit (length c.args.state.now) (length c.args.sites.now) (length c.args.bonds.now) (length c.args.starts.now) (length c.args.marks.now) (length c.args.matrix.now) (length c.args.u.now) (length c.args.vt.now) (length c.args.scratch.now) = accepted _ _ _ _ _ _ _ _ _ _ _ (was-done _ _ c.check-answer.ensures c.in-Done.is) in
+    let scratch-is : 6 * c.bit-cells.result + 2 * c.bit-side.result ≡ 6 * 2 ^ c.args.n + 2 * 2 ^ (c.args.n / 2) = ap₂ (λ (x y : ℕ). 6 * x + 2 * y) c.bit-cells.ensures c.bit-side.ensures in
+    let scratch-fits : 6 * c.bit-cells.result + 2 * c.bit-side.result ≤ length c.args.scratch.now = omega (arith, scratch-is, (accept).scratch-fits) in
+    scratch-fits
 
 pub slice_bounds-work-end-16 : goal.slice_bounds-work-end-16
-slice_bounds-work-end-16 c = sym (length-take-le _ _ (scratch-fits c.before.before.before.before.before.before.before.before))
+slice_bounds-work-end-16 c =
+    let accept : ChainAccepted c.args.n c.args.limit (length c.args.state.now) (length c.args.sites.now) (length c.args.bonds.now) (length c.args.starts.now) (length c.args.marks.now) (length c.args.matrix.now) (length c.args.u.now) (length c.args.vt.now) (length c.args.scratch.now) = accepted _ _ _ _ _ _ _ _ _ _ _ (was-done _ _ c.check-answer.ensures c.in-Done.is) in
+    let scratch-is : 6 * c.bit-cells.result + 2 * c.bit-side.result ≡ 6 * 2 ^ c.args.n + 2 * 2 ^ (c.args.n / 2) = ap₂ (λ (x y : ℕ). 6 * x + 2 * y) c.bit-cells.ensures c.bit-side.ensures in
+    let scratch-fits : 6 * c.bit-cells.result + 2 * c.bit-side.result ≤ length c.args.scratch.now = omega (arith, scratch-is, (accept).scratch-fits) in
+    sym (length-take-le _ _ (scratch-fits))
 
 pub work-requires : goal.work-requires
-work-requires c = (record { some = (accept c.before.before.before.before.before.before.before.before.before.before.before).some; small = (accept c.before.before.before.before.before.before.before.before.before.before.before).small; limit-some = (accept c.before.before.before.before.before.before.before.before.before.before.before).limit-some; state-is = (accept c.before.before.before.before.before.before.before.before.before.before.before).state-is; sites-is = length-take-le _ _ (sites-fit c.before.before.before.before.before.before.before.before) ∙ ap (λ (x : ℕ). 2 * x) c.room_of-room.ensures; bonds-is = length-take-le _ _ (accept c.before.before.before.before.before.before.before.before.before.before.before).bonds-fit; starts_is = length-take-le _ _ (accept c.before.before.before.before.before.before.before.before.before.before.before).starts_fit; marks-is = length-take-le _ _ (accept c.before.before.before.before.before.before.before.before.before.before.before).marks-fit; u-is = length-take-le _ _ (plane-fits c.before.before.before.before.before.before.before.before (accept c.before.before.before.before.before.before.before.before.before.before.before).u-fits) ∙ plane-is c.before.before.before.before.before.before.before.before; vt_is = length-take-le _ _ (plane-fits c.before.before.before.before.before.before.before.before (accept c.before.before.before.before.before.before.before.before.before.before.before).vt-fits) ∙ plane-is c.before.before.before.before.before.before.before.before; scratch-is = length-take-le _ _ (scratch-fits c.before.before.before.before.before.before.before.before) ∙ scratch-is c.before.before.before.before.before.before.before.before }, length-take-le _ _ (plane-fits c.before.before.before.before.before.before.before.before (accept c.before.before.before.before.before.before.before.before.before.before.before).matrix-fits) ∙ plane-is c.before.before.before.before.before.before.before.before)
+work-requires c =
+    let accept : ChainAccepted c.args.n c.args.limit (length c.args.state.now) (length c.args.sites.now) (length c.args.bonds.now) (length c.args.starts.now) (length c.args.marks.now) (length c.args.matrix.now) (length c.args.u.now) (length c.args.vt.now) (length c.args.scratch.now) = accepted _ _ _ _ _ _ _ _ _ _ _ (was-done _ _ c.check-answer.ensures c.in-Done.is) in
+    let sites-fit : 2 * c.room_of-room.result ≤ length c.args.sites.now = rw c.room_of-room.ensures (accept).sites-fit in
+    let plane-is : 2 * c.bit-cells.result ≡ 2 * 2 ^ c.args.n = ap (λ (x : ℕ). 2 * x) c.bit-cells.ensures in
+    let scratch-is : 6 * c.bit-cells.result + 2 * c.bit-side.result ≡ 6 * 2 ^ c.args.n + 2 * 2 ^ (c.args.n / 2) = ap₂ (λ (x y : ℕ). 6 * x + 2 * y) c.bit-cells.ensures c.bit-side.ensures in
+    let scratch-fits : 6 * c.bit-cells.result + 2 * c.bit-side.result ≤ length c.args.scratch.now = omega (arith, scratch-is, (accept).scratch-fits) in
+    (record { some = (accept).some; small = (accept).small; limit-some = (accept).limit-some; state-is = (accept).state-is; sites-is = length-take-le _ _ (sites-fit) ∙ ap (λ (x : ℕ). 2 * x) c.room_of-room.ensures; bonds-is = length-take-le _ _ (accept).bonds-fit; starts_is = length-take-le _ _ (accept).starts_fit; marks-is = length-take-le _ _ (accept).marks-fit; u-is = length-take-le _ _ (plane-fits c.before.before.before.before.before.before.before.before (accept).u-fits) ∙ plane-is; vt_is = length-take-le _ _ (plane-fits c.before.before.before.before.before.before.before.before (accept).vt-fits) ∙ plane-is; scratch-is = length-take-le _ _ (scratch-fits) ∙ scratch-is }, length-take-le _ _ (plane-fits c.before.before.before.before.before.before.before.before (accept).matrix-fits) ∙ plane-is)
 
 pub shape_of-sites : goal.shape_of-sites
-shape_of-sites c = same_len (2 * c.room_of-room.result) c.args.sites.now c.work.new.1.1.1.1.0 c.work.auto.1.1.1.1.0
+shape_of-sites c = same_len (2 * c.room_of-room.result) c.args.sites.now c.work.new.matrix c.work.auto.matrix
 
 pub shape_of-bonds : goal.shape_of-bonds
-shape_of-bonds c = same_len (c.args.n + 1) c.args.bonds.now c.work.new.1.1.1.1.1.0 c.work.auto.1.1.1.1.1.0
+shape_of-bonds c = same_len (c.args.n + 1) c.args.bonds.now c.work.new.u c.work.auto.u
 
 pub shape_of-starts : goal.shape_of-starts
-shape_of-starts c = same_len (c.args.n + 1) c.args.starts.now c.work.new.1.1.1.1.1.1.0 c.work.auto.1.1.1.1.1.1.0
+shape_of-starts c = same_len (c.args.n + 1) c.args.starts.now c.work.new.vt c.work.auto.vt
 
 pub shape_of-marks : goal.shape_of-marks
-shape_of-marks c = same_len (3 * (c.args.n - 1)) c.args.marks.now c.work.new.1.1.1.1.1.1.1.0 c.work.auto.1.1.1.1.1.1.1.0
+shape_of-marks c = same_len (3 * (c.args.n - 1)) c.args.marks.now c.work.new.scratch c.work.auto.scratch
 
 pub shape_of-matrix : goal.shape_of-matrix
 shape_of-matrix c = same_len (2 * c.bit-cells.result) c.args.matrix.now c.work.new.1.1.1.1.1.1.1.1.0 c.work.auto.1.1.1.1.1.1.1.1.0

@@ -15,10 +15,10 @@ loop-i-init c = (omega arith, refl)
 
 pub loop-i-preserved : goal.loop-i-preserved
 loop-i-preserved c =
-    let b = c.before.before.before in (
+    (
       omega arith,
-      every_more _ _ b.loop-i.every c.loop-i-test.true b.loop-i.invariant.1
-          ∙ ap (λ (x : Bool). (b.loop-i.every && x) && every_allowed (drop (b.loop-i.i + 1) b.args.s.now)) (sym c.component_allowed-one.ensures),
+      every_more _ _ c.loop-i.every c.loop-i-test.true c.loop-i.invariant.1
+          ∙ ap (λ (x : Bool). (c.loop-i.every && x) && every_allowed (drop (c.loop-i.i + 1) c.args.s.now)) (sym c.component_allowed-one.ensures),
     )
 
 pub returns : goal.returns

@@ -10,15 +10,14 @@ loop-i-init c = (omega arith, refl)
 
 pub loop-i-preserved : goal.loop-i-preserved
 loop-i-preserved c =
-    let b = c.before.before in (
+    (
       omega arith,
-      b.loop-i.invariant.1 ∙ components-good _ _ b.loop-i-test.true (sym c.component_allowed.ensures ∙ c.if-component_allowed.true),
+      c.loop-i.invariant.1 ∙ components-good _ _ c.loop-i-test.true (sym c.component_allowed.ensures ∙ c.if-component_allowed.true),
     )
 
 pub returns-else-component_allowed : goal.returns-else-component_allowed
 returns-else-component_allowed c =
-    let b = c.before.before in
-    sym (b.loop-i.invariant.1 ∙ components-bad _ _ b.loop-i-test.true (sym c.component_allowed.ensures ∙ c.if-component_allowed.false))
+    sym (c.loop-i.invariant.1 ∙ components-bad _ _ c.loop-i-test.true (sym c.component_allowed.ensures ∙ c.if-component_allowed.false))
 
 pub returns : goal.returns
 returns c = sym (c.loop-i.invariant.1 ∙ components-end _ _ c.loop-i-test.false)

@@ -4,7 +4,7 @@ use Rattle.countersign.proofs.VerdictLaws.{out-product, out-left, out-right, out
 use Rattle.countersign.proofs.judge.Goals as goal
 
 pub first_product-entry-requires : goal.first_product-entry-requires
-first_product-entry-requires c = let b = c.before.before.before.before.before.before.before in record { read = b.requires.read; factors = (factors _ _ _ _ _ _ _ b.requires.accepted, b.requires.accepted.a-is, b.requires.accepted.cells) }
+first_product-entry-requires c = record { read = c.requires.read; factors = (factors _ _ _ _ _ _ _ c.requires.accepted, c.requires.accepted.a-is, c.requires.accepted.cells) }
 
 pub overflow_mul-m : goal.overflow_mul-m
 overflow_mul-m c = omega (arith, c.requires.accepted.cells)
@@ -13,7 +13,7 @@ pub returns-then-entry-m : goal.returns-then-entry-m
 returns-then-entry-m c = out-product _ _ _ _ _ _ _ _ c.first_product-entry.ensures c.if-entry-m.true
 
 pub first_inner-left-requires : goal.first_inner-left-requires
-first_inner-left-requires c = let b = c.before.before.before.before.before.before.before.before.before in (b.requires.read.u-read, left_is _ _ _ _ _ _ _ b.requires.accepted, left-most _ _ _ _ _ _ _ b.requires.accepted, square _ _ _ _ _ _ _ b.requires.accepted)
+first_inner-left-requires c = (c.requires.read.u-read, left_is _ _ _ _ _ _ _ c.requires.accepted, left-most _ _ _ _ _ _ _ c.requires.accepted, square _ _ _ _ _ _ _ c.requires.accepted)
 
 pub overflow_mul-k : goal.overflow_mul-k
 overflow_mul-k c = omega (arith, square _ _ _ _ _ _ _ c.requires.accepted)
@@ -22,7 +22,7 @@ pub returns-then-left-k : goal.returns-then-left-k
 returns-then-left-k c = out-left _ _ _ _ _ _ _ _ c.first_product-entry.ensures c.if-entry-m.false c.first_inner-left.ensures c.if-left-k.true
 
 pub first_inner-right-requires : goal.first_inner-right-requires
-first_inner-right-requires c = let b = c.before.before.before.before.before.before.before.before.before.before.before in (b.requires.read.vt-read, b.requires.accepted.vt_is, right-most _ _ _ _ _ _ _ b.requires.accepted, square _ _ _ _ _ _ _ b.requires.accepted)
+first_inner-right-requires c = (c.requires.read.vt-read, c.requires.accepted.vt_is, right-most _ _ _ _ _ _ _ c.requires.accepted, square _ _ _ _ _ _ _ c.requires.accepted)
 
 pub overflow_mul-k-2 : goal.overflow_mul-k-2
 overflow_mul-k-2 c = omega (arith, square _ _ _ _ _ _ _ c.requires.accepted)

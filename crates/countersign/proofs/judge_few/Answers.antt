@@ -3,4 +3,4 @@ use Rattle.countersign.proofs.VerdictLaws.{few-left, few-right, values-room}
 use Rattle.countersign.proofs.judge_few.Goals as goal
 
 pub read_and_judge-requires : goal.read_and_judge-requires
-read_and_judge-requires c = let b = c.before.before.before.before.before.before.before in record { accepted = b.requires.0; u_in_bounds = (few-left _ _ _ _ _ _ _ b.requires.0 b.requires.1, values-room _ _ _ _ _ _ _ b.requires.0, few-right _ _ _ _ _ _ _ b.requires.0 b.requires.1) }
+read_and_judge-requires c = record { accepted = c.requires.0; u_in_bounds = (few-left _ _ _ _ _ _ _ c.requires.0 c.requires.1, values-room _ _ _ _ _ _ _ c.requires.0, few-right _ _ _ _ _ _ _ c.requires.0 c.requires.1) }

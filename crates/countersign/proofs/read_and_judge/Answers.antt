@@ -3,4 +3,4 @@ use Rattle.countersign_shifted.proofs.ShiftedLaws.{made_list}
 use Rattle.countersign.proofs.read_and_judge.Goals as goal
 
 pub judge-requires : goal.judge-requires
-judge-requires c = let b = c.before.before.before.before.before.before.before.before.before.before.before.before.before.before.before.before.before.before.before.before.before.before in record { accepted = b.requires.accepted; read = record { u-read = made_list _ _ _ b.requires.u_in_bounds.0 c.shift.ensures; s_read = made_list _ _ _ b.requires.u_in_bounds.1 c.shift-2.ensures; vt-read = made_list _ _ _ b.requires.u_in_bounds.2 c.shift-3.ensures } }
+judge-requires c = record { accepted = c.requires.accepted; read = record { u-read = made_list _ _ _ c.requires.u_in_bounds.0 c.shift.ensures; s_read = made_list _ _ _ c.requires.u_in_bounds.1 c.shift-2.ensures; vt-read = made_list _ _ _ c.requires.u_in_bounds.2 c.shift-3.ensures } }

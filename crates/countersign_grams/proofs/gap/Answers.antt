@@ -11,7 +11,7 @@ use Rattle.countersign_grams.proofs.gap.Goals as goal
 -- rem-inners c = omega (arith, some _ _ c.requires.3)
 
 pub inners-sum-requires : goal.inners-sum-requires
-inners-sum-requires c = let b = c.before.before in (b.requires.0, b.requires.1, b.requires.2, first-in _ _ b.requires.3, mod-lt _ (some _ _ b.requires.3))
+inners-sum-requires c = (c.requires.0, c.requires.1, c.requires.2, first-in _ _ c.requires.3, mod-lt _ (some _ _ c.requires.3))
 
 -- LEFT: no goal nonzero-div-identity
 -- div-identity c = omega (arith, some _ _ c.requires.3)

@@ -7,7 +7,7 @@ pub loop-t-init : goal.loop-t-init
 loop-t-init c = (omega arith, terms-none _ _ _ _ _ _ _)
 
 pub one_term-requires : goal.one_term-requires
-one_term-requires c = let b = c.before.before.before.before.before.before.before.before in record { read = b.requires.read; i_in_bounds = (in-u _ _ _ _ _ b.requires.factors.0.u-is c.loop-t-test.true b.requires.factors.1, omega (arith, b.requires.factors.0.s-is, c.loop-t-test.true), in-vt _ _ _ _ _ b.requires.factors.0.vt_is c.loop-t-test.true b.requires.factors.2) }
+one_term-requires c = record { read = c.requires.read; i_in_bounds = (in-u _ _ _ _ _ c.requires.factors.0.u-is c.loop-t-test.true c.requires.factors.1, omega (arith, c.requires.factors.0.s-is, c.loop-t-test.true), in-vt _ _ _ _ _ c.requires.factors.0.vt_is c.loop-t-test.true c.requires.factors.2) }
 
 pub plus-sum-requires : goal.plus-sum-requires
 plus-sum-requires c = sum_fits _ _ _ _ _ _ _ _ c.loop-t.invariant.1 c.one_term.ensures _ c.loop-t-test.true c.requires.factors.0.most

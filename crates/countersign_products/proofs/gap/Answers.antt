@@ -11,7 +11,7 @@ use Rattle.countersign_products.proofs.gap.Goals as goal
 -- div-entry c = omega (arith, rows-some _ _ _ c.requires.factors.2)
 
 pub entry-sum-requires : goal.entry-sum-requires
-entry-sum-requires c = let b = c.before.before.before.before.before.before.before in record { read = b.requires.read; factors = (b.requires.factors.0, mod-lt _ (rows-some _ _ _ b.requires.factors.2), column-in _ _ _ b.requires.factors.2) }
+entry-sum-requires c = record { read = c.requires.read; factors = (c.requires.factors.0, mod-lt _ (rows-some _ _ _ c.requires.factors.2), column-in _ _ _ c.requires.factors.2) }
 
 pub by-cell-requires : goal.by-cell-requires
 by-cell-requires c = one-fits _ _ c.cell_at.ensures

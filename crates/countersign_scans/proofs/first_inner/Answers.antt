@@ -19,7 +19,7 @@ pub loop-c-preserved-then-c-k : goal.loop-c-preserved-then-c-k
 loop-c-preserved-then-c-k c = (omega arith, scan_good _ _ _ c.loop-c.invariant.1 c.loop-c-test.true (mirrored-holds _ _ (gram-swap _ _ _ _) _ _ c.loop-c.invariant.1 c.loop-c-test.true c.if-c-k.true))
 
 pub fits-requires : goal.fits-requires
-fits-requires c = let b = c.before.before.before.before.before in (b.requires.0, b.requires.1, b.requires.2, c.loop-c-test.true)
+fits-requires c = (c.requires.0, c.requires.1, c.requires.2, c.loop-c-test.true)
 
 pub loop-c-preserved : goal.loop-c-preserved
 loop-c-preserved c = (omega arith, scan_good _ _ _ c.loop-c.invariant.1 c.loop-c-test.true (sym c.fits2.ensures ∙ c.if-fits.true))

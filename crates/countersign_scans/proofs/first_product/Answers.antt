@@ -8,7 +8,7 @@ pub loop-c-init : goal.loop-c-init
 loop-c-init c = (omega arith, scan-begin _ _)
 
 pub fits-requires : goal.fits-requires
-fits-requires c = let b = c.before.before.before.before.before.before.before.before.before in record { read = b.requires.read; factors = (b.requires.factors.0, b.requires.factors.1, c.loop-c-test.true) }
+fits-requires c = record { read = c.requires.read; factors = (c.requires.factors.0, c.requires.factors.1, c.loop-c-test.true) }
 
 pub loop-c-preserved : goal.loop-c-preserved
 loop-c-preserved c = (omega arith, scan_good _ _ _ c.loop-c.invariant.1 c.loop-c-test.true (sym c.fits2.ensures ∙ c.if-fits.true))

@@ -3,4 +3,4 @@ use Rattle.countersign_shifted.proofs.ShiftedLaws.{made-cell}
 use Rattle.countersign_shifted.proofs.cell_of.Goals as goal
 
 pub returns : goal.returns
-returns c = let b = c.before.before.before.before.before.before in made-cell _ _ b.requires.0 _ b.requires.1 c.wide-re.ensures c.wide-im.ensures
+returns c = made-cell _ _ c.requires.0 _ c.requires.1 c.wide-re.ensures c.wide-im.ensures

@@ -7,14 +7,10 @@ mask_of-mask-requires c = c.requires.listed
 
 pub returns-then-k-rest : goal.returns-then-k-rest
 returns-then-k-rest c =
-    let m = c.before.before.before.before in
-    let z = c.before.before.before.before.before.before in
-    sides-named z.args.list.now z.args.n _ _ _ _ z.requires.part m.mask_of-mask.ensures.0 c.bit.ensures
+    sides-named c.args.list.now c.args.n _ _ _ _ c.requires.part c.mask_of-mask.ensures.0 c.bit.ensures
     c.bit-then-k-rest.ensures c.bit-then-k-rest-2.ensures c.if-k-rest.true
 
 pub returns : goal.returns
 returns c =
-    let m = c.before.before.before.before in
-    let z = c.before.before.before.before.before.before in
-    sides-others z.args.list.now z.args.n _ _ _ _ z.requires.part m.mask_of-mask.ensures.0 c.bit.ensures
+    sides-others c.args.list.now c.args.n _ _ _ _ c.requires.part c.mask_of-mask.ensures.0 c.bit.ensures
     c.bit-3.ensures c.bit-2.ensures c.if-k-rest.false

@@ -6,11 +6,6 @@ use Rattle.cut_sides.proofs.SideLaws.{is-parted}
 use Rattle.cut_values.specs.Schmidt.{cut_values_tests}
 use Rattle.cut_values.proofs.SchmidtLaws.{schmidt-refused, schmidt-is-over}
 use Rattle.cut_values.proofs.dense_schmidt_values.Goals as goal
-use Rattle.cut_values.proofs.dense_schmidt_values.Goals.{In-Done}
-
--- 1 to 5 do not refuse
-cut-passed : (c : In-Done) → let a = c.args in (cut_refusal a.list.now a.n a.cap).0 ≡ 0
-cut-passed c = was-done _ _ c.cut_refusal-first.ensures c.in-Done.is
 
 pub returns-in_default : goal.returns-in_default
 unfolding cut_values_tests
@@ -19,10 +14,16 @@ returns-in_default c =
     schmidt-refused _ _ _ _ _ _ r _ c.refused.ensures (refused r _ _ c.cut_refusal-first.ensures c.in_default.not-Done) (stopped-number r c.in_default.not-Done)
 
 pub sides_of-cut-requires : goal.sides_of-cut-requires
-sides_of-cut-requires c = is-parted _ _ _ (cut-passed c)
+sides_of-cut-requires c =
+    let cut-passed : let a = c.args in (cut_refusal a.list.now a.n a.cap).0 ≡ 0 = was-done _ _ c.cut_refusal-first.ensures c.in-Done.is in
+    is-parted _ _ _ (cut-passed)
 
 pub values_over-requires : goal.values_over-requires
-values_over-requires c = record { list = _; parted = is-parted _ _ _ (cut-passed c.before.before.before); are = c.sides_of-cut.ensures }
+values_over-requires c =
+    let cut-passed : let a = c.args in (cut_refusal a.list.now a.n a.cap).0 ≡ 0 = was-done _ _ c.cut_refusal-first.ensures c.in-Done.is in
+    record { list = _; parted = is-parted _ _ _ (cut-passed); are = c.sides_of-cut.ensures }
 
 pub returns : goal.returns
-returns c = schmidt-is-over _ _ _ _ _ _ _ c.sides_of-cut.ensures (cut-passed c.before.before.before.before.before.before.before.before) _ c.values_over.ensures
+returns c =
+    let cut-passed : let a = c.args in (cut_refusal a.list.now a.n a.cap).0 ≡ 0 = was-done _ _ c.cut_refusal-first.ensures c.in-Done.is in
+    schmidt-is-over _ _ _ _ _ _ _ c.sides_of-cut.ensures (cut-passed) _ c.values_over.ensures

@@ -9,11 +9,6 @@ use Rattle.qubits.proofs.NamedLaws.{pow_small}
 use Rattle.cut_values.proofs.SchmidtLaws.{rows_fit, front_length, front-in, le_same, values-made}
 use borrow.Author.Rules.{rules}
 use Rattle.cut_values.proofs.singular_values.Goals as goal
-use Rattle.cut_values.proofs.singular_values.Goals.{After-bit-all}
-
--- the order has room at the front of scratch
-small-enough : (c : After-bit-all) → let a = c.args in a.cut.rows ≤ length a.scratch.now
-small-enough c = omega (arith, rows_fit _ _ _ c.requires.0, c.requires.2)
 
 pub bit-all-requires : goal.bit-all-requires
 bit-all-requires c = omega (arith, c.requires.0.small)
@@ -46,15 +41,20 @@ pub slice_bounds-sort-end : goal.slice_bounds-sort-end
 slice_bounds-sort-end c = sym (front_length _ c.sweep-swept.new.1.1.1.1.0 _ (c.sweep-swept.auto.1.1.1.1.0 ∙ length-take-le _ _ c.requires.0.few))
 
 pub slice_bounds-sort-end-2 : goal.slice_bounds-sort-end-2
-slice_bounds-sort-end-2 c = le_same (small-enough c.before.before.before.before.before.before.before.before) (search rules)
+slice_bounds-sort-end-2 c =
+    let small-enough : let a = c.args in a.cut.rows ≤ length a.scratch.now = omega (arith, rows_fit _ _ _ c.requires.0, c.requires.2) in
+    le_same (small-enough) (search rules)
 
 pub slice_bounds-sort-end-3 : goal.slice_bounds-sort-end-3
-slice_bounds-sort-end-3 c = sym (length-take-le _ _ (le_same (small-enough c.before.before.before.before.before.before.before.before.before) (search rules)))
+slice_bounds-sort-end-3 c =
+    let small-enough : let a = c.args in a.cut.rows ≤ length a.scratch.now = omega (arith, rows_fit _ _ _ c.requires.0, c.requires.2) in
+    sym (length-take-le _ _ (le_same (small-enough) (search rules)))
 
 pub sort-requires : goal.sort-requires
 sort-requires c =
+    let small-enough : let a = c.args in a.cut.rows ≤ length a.scratch.now = omega (arith, rows_fit _ _ _ c.requires.0, c.requires.2) in
     let p = c.requires in
-    (p.0.few, front_length _ c.sweep-swept.new.1.1.1.1.0 _ (c.sweep-swept.auto.1.1.1.1.0 ∙ length-take-le _ _ p.0.few), p.1, length-take-le _ _ (le_same (small-enough c.before.before.before.before.before.before.before.before.before) (search rules)))
+    (p.0.few, front_length _ c.sweep-swept.new.1.1.1.1.0 _ (c.sweep-swept.auto.1.1.1.1.0 ∙ length-take-le _ _ p.0.few), p.1, length-take-le _ _ (le_same (small-enough) (search rules)))
 
 pub returns : goal.returns
 returns c =

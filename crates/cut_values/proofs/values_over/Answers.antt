@@ -11,17 +11,9 @@ use Rattle.cut_sides.specs.Sides.{Sided}
 use Rattle.cut_values.specs.Schmidt.{cut_values_rest}
 use Rattle.cut_values.proofs.SchmidtLaws.{rest-done, sides-few, sized, over-refused, over-worked}
 use Rattle.cut_values.proofs.values_over.Goals as goal
-use Rattle.cut_values.proofs.values_over.Goals.{After-bit, In-Done}
 
 few : (n : ℕ) (z : Sides) → Sided n z → z.rows ≤ 64
 few n z p = sides-few n p.list z p.parted p.are
-
--- 6 and 7 do not refuse
-rest-passed : (c : In-Done) → let a = c.args in (cut_values_rest a.state.now a.n a.cut.rows (length a.out.now) (length a.scratch.now)).0 ≡ 0
-rest-passed c = was-done _ _ c.check-first.ensures c.in-Done.is
-
-fits : (c : After-bit) → let a = c.args in 8 * c.bit.result + 2 * a.cut.rows ≤ length a.scratch.now
-fits c = omega (arith, c.bit.ensures, (rest-done _ _ _ _ _ (rest-passed c.before)).2)
 
 pub check-first-requires : goal.check-first-requires
 check-first-requires c = let p = c.requires in (p.parted.listed.small, few _ _ p)
@@ -44,17 +36,26 @@ pub overflow_add-need : goal.overflow_add-need
 overflow_add-need c = omega (arith, few _ _ c.requires, c.bit.ensures, pow_small _ c.requires.parted.listed.small)
 
 pub slice_bounds-work-end : goal.slice_bounds-work-end
-slice_bounds-work-end c = fits c.before.before
+slice_bounds-work-end c =
+    let rest-passed : let a = c.args in (cut_values_rest a.state.now a.n a.cut.rows (length a.out.now) (length a.scratch.now)).0 ≡ 0 = was-done _ _ c.check-first.ensures c.in-Done.is in
+    let fits : let a = c.args in 8 * c.bit.result + 2 * a.cut.rows ≤ length a.scratch.now = omega (arith, c.bit.ensures, (rest-done _ _ _ _ _ (rest-passed)).2) in
+    fits
 
 pub slice_bounds-work-end-2 : goal.slice_bounds-work-end-2
-slice_bounds-work-end-2 c = sym (length-take-le _ _ (fits c.before.before.before))
+slice_bounds-work-end-2 c =
+    let rest-passed : let a = c.args in (cut_values_rest a.state.now a.n a.cut.rows (length a.out.now) (length a.scratch.now)).0 ≡ 0 = was-done _ _ c.check-first.ensures c.in-Done.is in
+    let fits : let a = c.args in 8 * c.bit.result + 2 * a.cut.rows ≤ length a.scratch.now = omega (arith, c.bit.ensures, (rest-done _ _ _ _ _ (rest-passed)).2) in
+    sym (length-take-le _ _ (fits))
 
 pub work-requires : goal.work-requires
 work-requires c =
+    let rest-passed : let a = c.args in (cut_values_rest a.state.now a.n a.cut.rows (length a.out.now) (length a.scratch.now)).0 ≡ 0 = was-done _ _ c.check-first.ensures c.in-Done.is in
+    let fits : let a = c.args in 8 * c.bit.result + 2 * a.cut.rows ≤ length a.scratch.now = omega (arith, c.bit.ensures, (rest-done _ _ _ _ _ (rest-passed)).2) in
     let p = c.requires in
-    let d = rest-done _ _ _ _ _ (rest-passed c.before.before.before.before) in
-    (sized _ _ _ _ p.parted p.are d.0, d.1, length-take-le _ _ (fits c.before.before.before) ∙ omega (arith, c.bit.ensures))
+    let d = rest-done _ _ _ _ _ (rest-passed) in
+    (sized _ _ _ _ p.parted p.are d.0, d.1, length-take-le _ _ (fits) ∙ omega (arith, c.bit.ensures))
 
 pub returns : goal.returns
 returns c =
-    over-worked _ _ _ _ _ c.work.result _ (ap (λ (x : ℕ). 8 * x + 2 * c.args.cut.rows) c.bit.ensures) (rest-passed c.before.before.before.before.before.before.before.before.before) c.work.ensures
+    let rest-passed : let a = c.args in (cut_values_rest a.state.now a.n a.cut.rows (length a.out.now) (length a.scratch.now)).0 ≡ 0 = was-done _ _ c.check-first.ensures c.in-Done.is in
+    over-worked _ _ _ _ _ c.work.result _ (ap (λ (x : ℕ). 8 * x + 2 * c.args.cut.rows) c.bit.ensures) (rest-passed) c.work.ensures

@@ -13,18 +13,16 @@ returns-then-file-lt24 c = refusal _ _ Malformed (header-short _ c.if-file-lt24.
 
 pub returns-in_default : goal.returns-in_default
 returns-in_default c =
-    let b = c.before.before.before in
     refusal _ _ c.answer_fields-answer.result
-    (header_is _ _ _ _ b.if-file-lt24.false (sym b.begins_with.ensures ∙ b.if-begins_with.true) b.field-n.ensures b.field-k.ensures c.answer_fields-answer.ensures)
+    (header_is _ _ _ _ c.if-file-lt24.false (sym c.begins_with.ensures ∙ c.if-begins_with.true) c.field-n.ensures c.field-k.ensures c.answer_fields-answer.ensures)
     (stopped-number c.answer_fields-answer.result c.in_default.not-Done) c.refused-in_default.ensures
 
 pub returns-in-Done : goal.returns-in-Done
 returns-in-Done c =
-    let b = c.before.before.before in
     acceptance _ _ refl
-    (header_is _ _ _ _ b.if-file-lt24.false (sym b.begins_with.ensures ∙ b.if-begins_with.true) b.field-n.ensures b.field-k.ensures
+    (header_is _ _ _ _ c.if-file-lt24.false (sym c.begins_with.ensures ∙ c.if-begins_with.true) c.field-n.ensures c.field-k.ensures
     (ap paper (sym c.in-Done.is) ∙ c.answer_fields-answer.ensures))
-    b.field-n.ensures b.field-k.ensures
+    c.field-n.ensures c.field-k.ensures
 
 pub returns-else-begins_with : goal.returns-else-begins_with
 returns-else-begins_with c = refusal _ _ Malformed (header-mark _ c.if-file-lt24.false (sym c.begins_with.ensures ∙ c.if-begins_with.false)) (λ g. omega arith) c.refused-else-begins_with.ensures

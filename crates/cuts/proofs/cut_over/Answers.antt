@@ -26,7 +26,7 @@ returns-in_default c =
 pub returns-in_default-second : goal.returns-in_default-second
 returns-in_default-second c =
     let f = c.before.before in
-    let z = f.args in
+    let z = c.args in
     let r = c.check_components-second.result in
     over-refused z.state.now z.n z.cut z.out.now r
     (c.check_components-second.ensures ∙ sym (first_done f _)) (stopped-number r c.in_default-second.not-Done)
@@ -34,14 +34,13 @@ returns-in_default-second c =
 pub fill_cut-requires : goal.fill_cut-requires
 fill_cut-requires c =
     let f = c.before.before.before.before in
-    let z = f.before.before.before.before.before in
-    let d = lengths-done _ _ _ (was-done _ _ f.cut_lengths-first.ensures f.in-Done.is) in
-    ready-sides _ _ _ _ z.requires d.0 d.1
+    let d = lengths-done _ _ _ (was-done _ _ c.cut_lengths-first.ensures c.in-Done.is) in
+    ready-sides _ _ _ _ c.requires d.0 d.1
 
 pub returns : goal.returns
 returns c =
     let d = c.before.before.before.before in
     let f = d.before.before.before in
-    let z = f.args in
+    let z = c.args in
     over_done z.state.now z.n z.cut z.out.now _
-    (ap paper (sym d.in-Done-second.is) ∙ d.check_components-second.ensures ∙ sym (first_done f _)) _ refl c.fill_cut.ensures
+    (ap paper (sym c.in-Done-second.is) ∙ c.check_components-second.ensures ∙ sym (first_done f _)) _ refl c.fill_cut.ensures

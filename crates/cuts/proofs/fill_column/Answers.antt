@@ -18,8 +18,7 @@ write_cell-requires c = cell_in _ _ _ _ _ _ _ c.requires _ _ _ c.loop-j.invarian
 
 pub loop-j-preserved : goal.loop-j-preserved
 loop-j-preserved c =
-    let z = c.before.before.before.before.before.before.before.before.before.before in
-    column-step _ _ _ _ _ _ _ z.requires _ _ _ c.loop-j.invariant c.loop-j-test.true _ _ _
+    column-step _ _ _ _ _ _ _ c.requires _ _ _ c.loop-j.invariant c.loop-j-test.true _ _ _
     c.read_cell-z.ensures c.write_cell.ensures c.next_submask-row_bits.ensures
 
 pub shape_of-out : goal.shape_of-out

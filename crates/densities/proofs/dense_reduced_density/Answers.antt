@@ -8,11 +8,6 @@ use Rattle.qubit_offsets.specs.Calls.{density_refusal}
 use Rattle.qubit_offsets.proofs.CallLaws.{density-listed}
 use Rattle.densities.proofs.DensityLaws.{density-named, density-refused, density-is-over}
 use Rattle.densities.proofs.dense_reduced_density.Goals as goal
-use Rattle.densities.proofs.dense_reduced_density.Goals.{In-Done}
-
--- past the first call: 1 to 4 do not refuse
-accepted : (c : In-Done) → let a = c.args in (density_refusal a.n a.cap a.list.now).0 ≡ 0
-accepted c = was-done _ _ c.density_refusal-first.ensures c.in-Done.is
 
 pub returns-in_default : goal.returns-in_default
 returns-in_default c =
@@ -20,10 +15,14 @@ returns-in_default c =
     density-refused _ _ _ _ _ _ r (refused r _ _ c.density_refusal-first.ensures c.in_default.not-Done) (stopped-number r c.in_default.not-Done)
 
 pub mask_of-mask-requires : goal.mask_of-mask-requires
-mask_of-mask-requires c = (density-listed _ _ _ (accepted c)).0
+mask_of-mask-requires c =
+    let accepted : let a = c.args in (density_refusal a.n a.cap a.list.now).0 ≡ 0 = was-done _ _ c.density_refusal-first.ensures c.in-Done.is in
+    (density-listed _ _ _ (accepted)).0
 
 pub bit-requires : goal.bit-requires
-bit-requires c = let a = c.args in omega (arith, (density-listed a.n a.cap a.list.now (accepted c.before)).0.small)
+bit-requires c =
+    let accepted : let a = c.args in (density_refusal a.n a.cap a.list.now).0 ≡ 0 = was-done _ _ c.density_refusal-first.ensures c.in-Done.is in
+    let a = c.args in omega (arith, (density-listed a.n a.cap a.list.now (accepted)).0.small)
 
 pub overflow_sub-rest : goal.overflow_sub-rest
 overflow_sub-rest c = omega (arith, c.bit.ensures, pow_pos c.args.n)
@@ -33,7 +32,10 @@ overflow_sub-rest-2 c = omega (arith, c.bit.ensures, c.mask_of-mask.ensures.1)
 
 pub density_over-requires : goal.density_over-requires
 density_over-requires c =
-    density-named _ _ _ _ (accepted c.before.before.before.before) (ap₂ (λ (x y : ℕ). x - 1 - y) c.bit.ensures c.mask_of-mask.ensures.0)
+    let accepted : let a = c.args in (density_refusal a.n a.cap a.list.now).0 ≡ 0 = was-done _ _ c.density_refusal-first.ensures c.in-Done.is in
+    density-named _ _ _ _ (accepted) (ap₂ (λ (x y : ℕ). x - 1 - y) c.bit.ensures c.mask_of-mask.ensures.0)
 
 pub returns : goal.returns
-returns c = density-is-over _ _ _ _ _ _ _ _ _ (accepted c.before.before.before.before.before.before.before.before.before) c.density_over.ensures
+returns c =
+    let accepted : let a = c.args in (density_refusal a.n a.cap a.list.now).0 ≡ 0 = was-done _ _ c.density_refusal-first.ensures c.in-Done.is in
+    density-is-over _ _ _ _ _ _ _ _ _ (accepted) c.density_over.ensures

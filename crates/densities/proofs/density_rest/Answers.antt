@@ -9,21 +9,17 @@ use Rattle.qubits.proofs.NamedLaws.{pow_small}
 use Rattle.densities.specs.Density.{density_lengths}
 use Rattle.densities.proofs.DensityLaws.{side-small}
 use Rattle.densities.proofs.density_rest.Goals as goal
-use Rattle.densities.proofs.density_rest.Goals.{After-density_lengths-first}
 
 pub density_lengths-first-requires : goal.density_lengths-first-requires
 density_lengths-first-requires c =
-    let z = c.before.before.before in
-    (omega (arith, c.bit-size.ensures, pow_small z.args.n z.requires.0), omega (arith, c.bit-dim.ensures, side-small z.args.k z.requires.1))
-
--- what the lengths answered, of the register and the list
-lengths : (c : After-density_lengths-first) → let a = c.args in paper c.density_lengths-first.result ≡ density_lengths (2 ^ a.n) (2 ^ a.k) (length a.state.now) a.out a.scratch
-lengths c =
-    let a = c.args in
-    c.density_lengths-first.ensures ∙ ap₂ (λ (x y : ℕ). density_lengths x y (length a.state.now) a.out a.scratch) c.bit-size.ensures c.bit-dim.ensures
+    (omega (arith, c.bit-size.ensures, pow_small c.args.n c.requires.0), omega (arith, c.bit-dim.ensures, side-small c.args.k c.requires.1))
 
 pub returns-in_default : goal.returns-in_default
-returns-in_default c = refused c.density_lengths-first.result _ _ (lengths c.before) c.in_default.not-Done
+returns-in_default c =
+    let lengths : let a = c.args in paper c.density_lengths-first.result ≡ density_lengths (2 ^ a.n) (2 ^ a.k) (length a.state.now) a.out a.scratch = let a = c.args in c.density_lengths-first.ensures ∙ ap₂ (λ (x y : ℕ). density_lengths x y (length a.state.now) a.out a.scratch) c.bit-size.ensures c.bit-dim.ensures in
+    refused c.density_lengths-first.result _ _ (lengths) c.in_default.not-Done
 
 pub returns : goal.returns
-returns c = c.check_components.ensures ∙ sym (passed _ _ _ (lengths c.before.before.before) c.in-Done.is)
+returns c =
+    let lengths : let a = c.args in paper c.density_lengths-first.result ≡ density_lengths (2 ^ a.n) (2 ^ a.k) (length a.state.now) a.out a.scratch = let a = c.args in c.density_lengths-first.ensures ∙ ap₂ (λ (x y : ℕ). density_lengths x y (length a.state.now) a.out a.scratch) c.bit-size.ensures c.bit-dim.ensures in
+    c.check_components.ensures ∙ sym (passed _ _ _ (lengths) c.in-Done.is)

@@ -14,23 +14,20 @@ pub bit-groups-requires : goal.bit-groups-requires
 bit-groups-requires c = omega (arith, c.requires.0.listed.small)
 
 pub fill_offsets-requires : goal.fill_offsets-requires
-fill_offsets-requires c = let z = c.before.before.before.before.before.before in record { listed = z.requires.0.listed; dim_in_bounds = rw c.bit-dim.ensures (side-small (length z.args.list.now) z.requires.0.few) }
+fill_offsets-requires c = record { listed = c.requires.0.listed; dim_in_bounds = rw c.bit-dim.ensures (side-small (length c.args.list.now) c.requires.0.few) }
 
 pub fill_lower-requires : goal.fill_lower-requires
-fill_lower-requires c = let z = c.before.before.before.before.before.before.before.before.before.before in
-    let dim = c.bit-dim.ensures in record { entries_ready = (
-        density-ready _ _ _ z.args.out.now z.requires.0 _ _ _ _ dim c.fill_offsets.ensures (rw dim (side-small (length z.args.list.now) z.requires.0.few)) z.requires.1,
-        z.requires.0.allowed,
-      ); square = ((density-square _ _ _ _ z.requires.0 _ dim, density-few _ _ _ z.args.out.now z.requires.0 _ _ dim c.bit-groups.ensures), ) }
+fill_lower-requires c = let dim = c.bit-dim.ensures in record { entries_ready = (
+        density-ready _ _ _ c.args.out.now c.requires.0 _ _ _ _ dim c.fill_offsets.ensures (rw dim (side-small (length c.args.list.now) c.requires.0.few)) c.requires.1,
+        c.requires.0.allowed,
+      ); square = ((density-square _ _ _ _ c.requires.0 _ dim, density-few _ _ _ c.args.out.now c.requires.0 _ _ dim c.bit-groups.ensures), ) }
 
 pub mirror-requires : goal.mirror-requires
 mirror-requires c =
-    let z = c.before.before.before.before.before.before.before.before.before.before.before.before.before.before in
-    let q = density-square z.args.state.now z.args.n z.args.list.now z.args.out.now z.requires.0 _ c.bit-dim.ensures in
+    let q = density-square c.args.state.now c.args.n c.args.list.now c.args.out.now c.requires.0 _ c.bit-dim.ensures in
     record { small = q.small; room = omega (arith, q.room, c.fill_lower.ensures.long) }
 
 pub returns : goal.returns
 returns c =
-    let z = c.before.before.before.before.before.before.before.before.before.before.before.before.before.before.before.before.before in
-    density-end _ _ _ _ z.requires.0 _ _ _ _ _ _ _ c.bit-dim.ensures c.fill_offsets.ensures z.requires.1 c.bit-groups.ensures
+    density-end _ _ _ _ c.requires.0 _ _ _ _ _ _ _ c.bit-dim.ensures c.fill_offsets.ensures c.requires.1 c.bit-groups.ensures
     c.fill_lower.ensures c.mirror.ensures

@@ -10,7 +10,7 @@ pub returns-in_default : goal.returns-in_default
 returns-in_default c = refused c.block_sizes-first.result _ _ c.block_sizes-first.ensures c.in_default.not-Done
 
 pub block_lengths-second-requires : goal.block_lengths-second-requires
-block_lengths-second-requires c = let z = c.before.before.before.before.before.before in let q = accepted-sizes z.args.dim z.args.positions.now z.args.side (was-done _ _ c.block_sizes-first.ensures c.in-Done.is) in (q.1, rw q.2 (side-small (length z.args.positions.now) q.0))
+block_lengths-second-requires c = let q = accepted-sizes c.args.dim c.args.positions.now c.args.side (was-done _ _ c.block_sizes-first.ensures c.in-Done.is) in (q.1, rw q.2 (side-small (length c.args.positions.now) q.0))
 
 pub returns-in_default-second : goal.returns-in_default-second
 returns-in_default-second c = refused c.block_lengths-second.result _ _ c.block_lengths-second.ensures c.in_default-second.not-Done ∙ sym (passed _ _ _ c.block_sizes-first.ensures c.in-Done.is)

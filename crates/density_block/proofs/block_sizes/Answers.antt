@@ -9,13 +9,13 @@ use Rattle.density_block.proofs.AnswerLaws.{sizes-places, sizes-side, sizes-good
 use Rattle.density_block.proofs.block_sizes.Goals as goal
 
 pub returns-in_default : goal.returns-in_default
-returns-in_default c = let z = c.before.before.before.before in let r = c.validate_qubit_set-places.result in let e = c.validate_qubit_set-places.ensures ∙ ap (λ (w : ℕ). qubit_set w z.args.positions.now) c.width_of.ensures in sym (sizes-places z.args.dim z.args.positions.now z.args.side (λ n. stopped-number r c.in_default.not-Done (ap (λ (x : Reply). x.0) e ∙ n)))
+returns-in_default c = let r = c.validate_qubit_set-places.result in let e = c.validate_qubit_set-places.ensures ∙ ap (λ (w : ℕ). qubit_set w c.args.positions.now) c.width_of.ensures in sym (sizes-places c.args.dim c.args.positions.now c.args.side (λ n. stopped-number r c.in_default.not-Done (ap (λ (x : Reply). x.0) e ∙ n)))
 
 pub bit-requires : goal.bit-requires
-bit-requires c = let z = c.before.before.before.before.before in let e = c.validate_qubit_set-places.ensures ∙ ap (λ (w : ℕ). qubit_set w z.args.positions.now) c.width_of.ensures in omega (arith, short-list z.args.dim z.args.positions.now z.args.side (was-done _ _ e c.in-Done.is))
+bit-requires c = let e = c.validate_qubit_set-places.ensures ∙ ap (λ (w : ℕ). qubit_set w c.args.positions.now) c.width_of.ensures in omega (arith, short-list c.args.dim c.args.positions.now c.args.side (was-done _ _ e c.in-Done.is))
 
 pub returns-then-side-bit : goal.returns-then-side-bit
-returns-then-side-bit c = let z = c.before.before.before.before.before.before.before in let e = c.validate_qubit_set-places.ensures ∙ ap (λ (w : ℕ). qubit_set w z.args.positions.now) c.width_of.ensures in sym (sizes-side z.args.dim z.args.positions.now z.args.side (was-done _ _ e c.in-Done.is) (λ h. c.if-side-bit.true (h ∙ sym c.bit.ensures)))
+returns-then-side-bit c = let e = c.validate_qubit_set-places.ensures ∙ ap (λ (w : ℕ). qubit_set w c.args.positions.now) c.width_of.ensures in sym (sizes-side c.args.dim c.args.positions.now c.args.side (was-done _ _ e c.in-Done.is) (λ h. c.if-side-bit.true (h ∙ sym c.bit.ensures)))
 
 pub returns : goal.returns
-returns c = let z = c.before.before.before.before.before.before.before in let e = c.validate_qubit_set-places.ensures ∙ ap (λ (w : ℕ). qubit_set w z.args.positions.now) c.width_of.ensures in sym (sizes-good z.args.dim z.args.positions.now z.args.side (was-done _ _ e c.in-Done.is) (c.if-side-bit.false ∙ c.bit.ensures))
+returns c = let e = c.validate_qubit_set-places.ensures ∙ ap (λ (w : ℕ). qubit_set w c.args.positions.now) c.width_of.ensures in sym (sizes-good c.args.dim c.args.positions.now c.args.side (was-done _ _ e c.in-Done.is) (c.if-side-bit.false ∙ c.bit.ensures))

@@ -8,7 +8,7 @@ pub loop-t-init : goal.loop-t-init
 loop-t-init c = all-begin _ _ _
 
 pub multiply_row-requires : goal.multiply_row-requires
-multiply_row-requires c = let z = c.before.before.before.before.before.before in let p = z.requires in (record { below = p.below; small = p.small; matrix = c.loop-t.invariant.long ∙ p.matrix; side-is = p.side-is; factor = p.factor }, c.loop-t-test.true)
+multiply_row-requires c = let p = c.requires in (record { below = p.below; small = p.small; matrix = c.loop-t.invariant.long ∙ p.matrix; side-is = p.side-is; factor = p.factor }, c.loop-t-test.true)
 
 pub overflow_add-t : goal.overflow_add-t
 overflow_add-t c = omega (arith, c.loop-t-test.true, c.requires.small)
@@ -20,4 +20,4 @@ pub shape_of-rho : goal.shape_of-rho
 shape_of-rho c = c.loop-t.invariant.long
 
 pub returns : goal.returns
-returns c = let z = c.before.before.before.before.before in all_end z.args.rho.now z.args.dim z.args.positions.now z.args.factor.now z.args.side _ _ c.requires.matrix c.loop-t.invariant c.loop-t-test.false
+returns c = all_end c.args.rho.now c.args.dim c.args.positions.now c.args.factor.now c.args.side _ _ c.requires.matrix c.loop-t.invariant c.loop-t-test.false

@@ -9,31 +9,30 @@ use Rattle.density_diagonal.proofs.CornerRowsLaws.{corner-written, corner-filled
 use Rattle.density_diagonal.proofs.fill_corner.Goals as goal
 
 pub corner_sums-corner-requires : goal.corner_sums-corner-requires
-corner_sums-corner-requires c = let z = c.before.before.before.before.before in (ready-reach _ _ _ _ _ (2 * z.args.t) (2 * z.args.t) z.requires.entries_ready.0 z.requires.square.1 z.requires.square.1, z.requires.entries_ready.1)
+corner_sums-corner-requires c = (ready-reach _ _ _ _ _ (2 * c.args.t) (2 * c.args.t) c.requires.entries_ready.0 c.requires.square.1 c.requires.square.1, c.requires.entries_ready.1)
 
 pub overflow_mul-r-2 : goal.overflow_mul-r-2
-overflow_mul-r-2 c = let z = c.before.before.before.before.before.before.before in omega (arith, index-small z.args.dim (2 * z.args.t) (2 * z.args.t) z.requires.square.0.small (omega (arith, z.requires.square.1)) (omega (arith, z.requires.square.1)))
+overflow_mul-r-2 c = omega (arith, index-small c.args.dim (2 * c.args.t) (2 * c.args.t) c.requires.square.0.small (omega (arith, c.requires.square.1)) (omega (arith, c.requires.square.1)))
 
 pub overflow_add-r : goal.overflow_add-r
-overflow_add-r c = let z = c.before.before.before.before.before.before.before in omega (arith, index-small z.args.dim (2 * z.args.t) (2 * z.args.t) z.requires.square.0.small (omega (arith, z.requires.square.1)) (omega (arith, z.requires.square.1)))
+overflow_add-r c = omega (arith, index-small c.args.dim (2 * c.args.t) (2 * c.args.t) c.requires.square.0.small (omega (arith, c.requires.square.1)) (omega (arith, c.requires.square.1)))
 
 pub write_cell-requires : goal.write_cell-requires
-write_cell-requires c = let z = c.before.before.before.before.before.before.before.before in cell_in _ _ (2 * z.args.t) (2 * z.args.t) z.requires.square.0 (omega (arith, z.requires.square.1)) (omega (arith, z.requires.square.1))
+write_cell-requires c = cell_in _ _ (2 * c.args.t) (2 * c.args.t) c.requires.square.0 (omega (arith, c.requires.square.1)) (omega (arith, c.requires.square.1))
 
 pub overflow_mul-r-3 : goal.overflow_mul-r-3
-overflow_mul-r-3 c = let z = c.before.before.before.before.before.before.before.before.before.before.before.before.before.before.before.before.before.before in omega (arith, index-small z.args.dim (2 * z.args.t) (2 * z.args.t + 1) z.requires.square.0.small (omega (arith, z.requires.square.1)) z.requires.square.1)
+overflow_mul-r-3 c = omega (arith, index-small c.args.dim (2 * c.args.t) (2 * c.args.t + 1) c.requires.square.0.small (omega (arith, c.requires.square.1)) c.requires.square.1)
 
 pub overflow_add-r-2 : goal.overflow_add-r-2
-overflow_add-r-2 c = let z = c.before.before.before.before.before.before.before.before.before.before.before.before.before.before.before.before.before.before in omega (arith, index-small z.args.dim (2 * z.args.t) (2 * z.args.t + 1) z.requires.square.0.small (omega (arith, z.requires.square.1)) z.requires.square.1)
+overflow_add-r-2 c = omega (arith, index-small c.args.dim (2 * c.args.t) (2 * c.args.t + 1) c.requires.square.0.small (omega (arith, c.requires.square.1)) c.requires.square.1)
 
 pub write_cell-requires-2 : goal.write_cell-requires-2
-write_cell-requires-2 c = let z = c.before.before.before.before.before.before.before.before.before.before.before.before.before.before.before.before.before.before in omega (arith, cell_in _ _ (2 * z.args.t) (2 * z.args.t + 1) z.requires.square.0 (omega (arith, z.requires.square.1)) z.requires.square.1, c.write_cell.auto.0, c.write_pair.auto.0)
+write_cell-requires-2 c = omega (arith, cell_in _ _ (2 * c.args.t) (2 * c.args.t + 1) c.requires.square.0 (omega (arith, c.requires.square.1)) c.requires.square.1, c.write_cell.auto.s, c.write_pair.auto.out)
 
 pub returns : goal.returns
 returns c =
-    let z = c.before.before.before.before.before.before.before.before.before.before.before.before.before.before.before.before.before.before.before.before.before in
     let sums = c.corner_sums-corner.ensures in
-    let entry = table_entry z.args.n z.args.state.now z.args.mask z.args.groups z.args.offsets.now in
+    let entry = table_entry c.args.n c.args.state.now c.args.mask c.args.groups c.args.offsets.now in
     corner-filled entry _ _ _ _ _ _ _ _
     (corner-written entry _ _ _ _ _ _ _ _ c.write_cell.ensures c.write_pair.ensures
     (c.new.ensures ∙ sums.first-is) sums.between_is (c.new-last.ensures ∙ sums.last-is))

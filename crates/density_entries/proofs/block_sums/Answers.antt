@@ -8,16 +8,16 @@ pub loop-e-init : goal.loop-e-init
 loop-e-init c = sums-begin _ _ _ _ _ _ _ _ _ c.new-zero.result c.new-zero.ensures refl
 
 pub read_cell-x0-requires : goal.read_cell-x0-requires
-read_cell-x0-requires c = let z = c.before.before.before.before in reached _ _ _ _ _ _ _ _ _ _ z.requires c.loop-e.invariant.base-is z.requires.a0-lt
+read_cell-x0-requires c = reached _ _ _ _ _ _ _ _ _ _ c.requires c.loop-e.invariant.base-is c.requires.a0-lt
 
 pub read_cell-x1-requires : goal.read_cell-x1-requires
-read_cell-x1-requires c = let z = c.before.before.before.before.before in reached _ _ _ _ _ _ _ _ _ _ z.requires c.loop-e.invariant.base-is z.requires.a1-lt
+read_cell-x1-requires c = reached _ _ _ _ _ _ _ _ _ _ c.requires c.loop-e.invariant.base-is c.requires.a1-lt
 
 pub read_cell-y0-requires : goal.read_cell-y0-requires
-read_cell-y0-requires c = let z = c.before.before.before.before.before.before in reached _ _ _ _ _ _ _ _ _ _ z.requires c.loop-e.invariant.base-is z.requires.b0-lt
+read_cell-y0-requires c = reached _ _ _ _ _ _ _ _ _ _ c.requires c.loop-e.invariant.base-is c.requires.b0-lt
 
 pub read_cell-y1-requires : goal.read_cell-y1-requires
-read_cell-y1-requires c = let z = c.before.before.before.before.before.before.before in reached _ _ _ _ _ _ _ _ _ _ z.requires c.loop-e.invariant.base-is z.requires.b1-lt
+read_cell-y1-requires c = reached _ _ _ _ _ _ _ _ _ _ c.requires c.loop-e.invariant.base-is c.requires.b1-lt
 
 pub overflow_add-e : goal.overflow_add-e
 overflow_add-e c = omega (arith, c.ranges.groups)

@@ -7,10 +7,10 @@ pub loop-t-init : goal.loop-t-init
 loop-t-init c = lower-begin _ _ _
 
 pub fill_row_pair-requires : goal.fill_row_pair-requires
-fill_row_pair-requires c = let z = c.before.before.before.before.before.before in record { entries_ready = z.requires.entries_ready; square = (record { small = z.requires.square.small; room = omega (arith, z.requires.square.room, c.loop-t.invariant.long) }, omega (arith, z.requires.entries_ready.even)) }
+fill_row_pair-requires c = record { entries_ready = c.requires.entries_ready; square = (record { small = c.requires.square.small; room = omega (arith, c.requires.square.room, c.loop-t.invariant.long) }, omega (arith, c.requires.entries_ready.even)) }
 
 pub overflow_add-t : goal.overflow_add-t
-overflow_add-t c = let z = c.before.before.before.before.before.before.before.before.before in omega (arith, z.requires.square.small)
+overflow_add-t c = omega (arith, c.requires.square.small)
 
 pub loop-t-preserved : goal.loop-t-preserved
 loop-t-preserved c = lower-step _ _ _ _ _ _ c.loop-t.invariant (omega (arith, c.requires.entries_ready.even)) c.fill_row_pair.ensures

@@ -7,7 +7,7 @@ pub loop-t-init : goal.loop-t-init
 loop-t-init c = row-begin _ _
 
 pub mirror_column-requires : goal.mirror_column-requires
-mirror_column-requires c = let z = c.before.before.before.before in (record { small = z.requires.small; room = omega (arith, z.requires.room, c.loop-t.invariant.long) }, c.loop-t-test.true)
+mirror_column-requires c = (record { small = c.requires.small; room = omega (arith, c.requires.room, c.loop-t.invariant.long) }, c.loop-t-test.true)
 
 pub overflow_add-t : goal.overflow_add-t
 overflow_add-t c = omega (arith, c.requires.small)

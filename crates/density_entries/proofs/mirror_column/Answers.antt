@@ -9,25 +9,25 @@ pub loop-u-init : goal.loop-u-init
 loop-u-init c = column-begin _ _ _
 
 pub overflow_mul-t : goal.overflow_mul-t
-overflow_mul-t c = let z = c.before.before.before.before in omega (arith, index-small z.args.dim z.args.t c.loop-u.u z.requires.0.small z.requires.1 (omega arith))
+overflow_mul-t c = omega (arith, index-small c.args.dim c.args.t c.loop-u.u c.requires.0.small c.requires.1 (omega arith))
 
 pub overflow_add-t : goal.overflow_add-t
-overflow_add-t c = let z = c.before.before.before.before in omega (arith, index-small z.args.dim z.args.t c.loop-u.u z.requires.0.small z.requires.1 (omega arith))
+overflow_add-t c = omega (arith, index-small c.args.dim c.args.t c.loop-u.u c.requires.0.small c.requires.1 (omega arith))
 
 pub read_cell-z-requires : goal.read_cell-z-requires
-read_cell-z-requires c = let z = c.before.before.before.before in omega (arith, cell_in _ _ z.args.t c.loop-u.u z.requires.0 z.requires.1 (omega arith), c.loop-u.invariant.long)
+read_cell-z-requires c = omega (arith, cell_in _ _ c.args.t c.loop-u.u c.requires.0 c.requires.1 (omega arith), c.loop-u.invariant.long)
 
 pub overflow_mul-u : goal.overflow_mul-u
-overflow_mul-u c = let z = c.before.before.before.before.before.before in omega (arith, index-small z.args.dim c.loop-u.u z.args.t z.requires.0.small (omega (arith, z.requires.1)) z.requires.1)
+overflow_mul-u c = omega (arith, index-small c.args.dim c.loop-u.u c.args.t c.requires.0.small (omega (arith, c.requires.1)) c.requires.1)
 
 pub overflow_add-u : goal.overflow_add-u
-overflow_add-u c = let z = c.before.before.before.before.before.before in omega (arith, index-small z.args.dim c.loop-u.u z.args.t z.requires.0.small (omega (arith, z.requires.1)) z.requires.1)
+overflow_add-u c = omega (arith, index-small c.args.dim c.loop-u.u c.args.t c.requires.0.small (omega (arith, c.requires.1)) c.requires.1)
 
 pub write_cell-requires : goal.write_cell-requires
-write_cell-requires c = let z = c.before.before.before.before.before.before.before in omega (arith, cell_in _ _ c.loop-u.u z.args.t z.requires.0 (omega (arith, z.requires.1)) z.requires.1, c.loop-u.invariant.long)
+write_cell-requires c = omega (arith, cell_in _ _ c.loop-u.u c.args.t c.requires.0 (omega (arith, c.requires.1)) c.requires.1, c.loop-u.invariant.long)
 
 pub loop-u-preserved : goal.loop-u-preserved
-loop-u-preserved c = let z = c.before.before.before.before.before.before.before.before.before.before in column-step _ _ _ _ _ _ _ z.requires.0 z.requires.1 c.loop-u.invariant (omega arith) (c.conj.ensures ∙ ap conjugate c.read_cell-z.ensures) c.write_cell.ensures
+loop-u-preserved c = column-step _ _ _ _ _ _ _ c.requires.0 c.requires.1 c.loop-u.invariant (omega arith) (c.conj.ensures ∙ ap conjugate c.read_cell-z.ensures) c.write_cell.ensures
 
 pub shape_of-rho : goal.shape_of-rho
 shape_of-rho c = c.loop-u.invariant.long

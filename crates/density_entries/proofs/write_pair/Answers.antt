@@ -10,20 +10,20 @@ use Rattle.density_entries.specs.Pairs.{set_pair}
 use Rattle.density_entries.proofs.write_pair.Goals as goal
 
 pub overflow_mul-at : goal.overflow_mul-at
-overflow_mul-at c = let z = c.before in omega (arith, index-small z.args.dim z.args.r (z.args.c + 1) z.requires.0.small z.requires.1 z.requires.2)
+overflow_mul-at c = omega (arith, index-small c.args.dim c.args.r (c.args.c + 1) c.requires.0.small c.requires.1 c.requires.2)
 
 pub overflow_add-at : goal.overflow_add-at
-overflow_add-at c = let z = c.before in omega (arith, index-small z.args.dim z.args.r (z.args.c + 1) z.requires.0.small z.requires.1 z.requires.2)
+overflow_add-at c = omega (arith, index-small c.args.dim c.args.r (c.args.c + 1) c.requires.0.small c.requires.1 c.requires.2)
 
 pub write_cell-requires : goal.write_cell-requires
-write_cell-requires c = let z = c.before.before in omega (arith, cell_in _ _ z.args.r (z.args.c + 1) z.requires.0 z.requires.1 z.requires.2)
+write_cell-requires c = omega (arith, cell_in _ _ c.args.r (c.args.c + 1) c.requires.0 c.requires.1 c.requires.2)
 
 pub overflow_add-at-2 : goal.overflow_add-at-2
-overflow_add-at-2 c = let z = c.before.before.before.before.before.before in omega (arith, index-small z.args.dim z.args.r (z.args.c + 1) z.requires.0.small z.requires.1 z.requires.2)
+overflow_add-at-2 c = omega (arith, index-small c.args.dim c.args.r (c.args.c + 1) c.requires.0.small c.requires.1 c.requires.2)
 
 pub write_cell-requires-2 : goal.write_cell-requires-2
-write_cell-requires-2 c = let z = c.before.before.before.before.before.before in omega (arith, cell_in _ _ z.args.r (z.args.c + 1) z.requires.0 z.requires.1 z.requires.2, c.write_cell.auto.0)
+write_cell-requires-2 c = omega (arith, cell_in _ _ c.args.r (c.args.c + 1) c.requires.0 c.requires.1 c.requires.2, c.write_cell.auto.s)
 
 pub returns : goal.returns
 unfolding set_pair
-returns c = let z = c.before.before.before.before.before.before.before.before.before in c.write_cell-2.ensures ∙ ap (λ (x : List Float). set_cell x (z.args.r * z.args.dim + z.args.c + 1) z.args.y) c.write_cell.ensures
+returns c = c.write_cell-2.ensures ∙ ap (λ (x : List Float). set_cell x (c.args.r * c.args.dim + c.args.c + 1) c.args.y) c.write_cell.ensures

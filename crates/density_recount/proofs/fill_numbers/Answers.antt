@@ -28,9 +28,8 @@ overflow_add-t c = omega (arith, c.loop-t-test.true, c.requires.mask_value.2)
 
 pub loop-t-preserved : goal.loop-t-preserved
 loop-t-preserved c =
-    let z = c.before.before.before.before.before.before in
-    numbers-step _ _ _ _ _ _ _ _ c.loop-t.invariant c.loop-t-test.true z.requires.mask_value.2
-    (ap (λ (y : ℕ). y * z.args.scale) (c.number_in.ensures ∙ ap₂ (submask_number z.args.n) z.requires.mask_value.0 c.row_offset.ensures))
+    numbers-step _ _ _ _ _ _ _ _ c.loop-t.invariant c.loop-t-test.true c.requires.mask_value.2
+    (ap (λ (y : ℕ). y * c.args.scale) (c.number_in.ensures ∙ ap₂ (submask_number c.args.n) c.requires.mask_value.0 c.row_offset.ensures))
 
 pub shape_of-table : goal.shape_of-table
 shape_of-table c = c.loop-t.invariant.long

@@ -10,12 +10,6 @@ use Rattle.density_recount.specs.Recount.{recount_lengths}
 use Rattle.densities.proofs.DensityLaws.{side-small}
 use Rattle.density_recount.proofs.RecountLaws.{sizes-done}
 use Rattle.density_recount.proofs.recount_answer.Goals as goal
-use Rattle.density_recount.proofs.recount_answer.Goals.{After-recount_lengths-third}
-
--- the third call's answer, of the powers that it was handed
-lengths : (c : After-recount_lengths-third) → let z = c.args in
-    paper c.recount_lengths-third.result ≡ recount_lengths (2 ^ z.n) (2 ^ length z.list.now) (length z.matrix.now) z.out
-lengths c = c.recount_lengths-third.ensures ∙ rw (c.bit.ensures, c.bit-2.ensures)
 
 pub returns-in_default : goal.returns-in_default
 returns-in_default c = refused c.recount_size-first.result _ _ c.recount_size-first.ensures c.in_default.not-Done
@@ -43,13 +37,15 @@ recount_lengths-third-requires c =
 
 pub returns-in_default-third : goal.returns-in_default-third
 returns-in_default-third c =
-    refused c.recount_lengths-third.result _ _ (lengths c.before) c.in_default-third.not-Done
+    let lengths : let z = c.args in paper c.recount_lengths-third.result ≡ recount_lengths (2 ^ z.n) (2 ^ length z.list.now) (length z.matrix.now) z.out = c.recount_lengths-third.ensures ∙ rw (c.bit.ensures, c.bit-2.ensures) in
+    refused c.recount_lengths-third.result _ _ (lengths) c.in_default-third.not-Done
     ∙ sym (passed _ _ _ c.validate_subsystem-second.ensures c.in-Done-second.is)
     ∙ sym (passed _ _ _ c.recount_size-first.ensures c.in-Done.is)
 
 pub returns : goal.returns
 returns c =
+    let lengths : let z = c.args in paper c.recount_lengths-third.result ≡ recount_lengths (2 ^ z.n) (2 ^ length z.list.now) (length z.matrix.now) z.out = c.recount_lengths-third.ensures ∙ rw (c.bit.ensures, c.bit-2.ensures) in
     c.check_components.ensures
-    ∙ sym (passed _ _ _ (lengths c.before.before.before) c.in-Done-third.is)
+    ∙ sym (passed _ _ _ (lengths) c.in-Done-third.is)
     ∙ sym (passed _ _ _ c.validate_subsystem-second.ensures c.in-Done-second.is)
     ∙ sym (passed _ _ _ c.recount_size-first.ensures c.in-Done.is)

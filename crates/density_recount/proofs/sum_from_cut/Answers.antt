@@ -14,8 +14,7 @@ bit-requires c = omega (arith, c.requires.parted.listed.small)
 
 pub layout_of-z-requires : goal.layout_of-z-requires
 layout_of-z-requires c =
-    let z = c.before.before.before.before.before in
-    layout-room z.args.list.now z.args.n z.requires.parted _ _ c.sides_of-s.ensures c.bit.ensures
+    layout-room c.args.list.now c.args.n c.requires.parted _ _ c.sides_of-s.ensures c.bit.ensures
 
 pub bit-dim-requires : goal.bit-dim-requires
 bit-dim-requires c = omega (arith, c.requires.few)
@@ -30,25 +29,21 @@ pub mask_of-mask-requires : goal.mask_of-mask-requires
 mask_of-mask-requires c = c.requires.parted.listed
 
 pub fill_numbers-requires : goal.fill_numbers-requires
-fill_numbers-requires c = let z = c.before.before.before.before.before.before.before.before.before.before in
-    let scale = layout-scale z.args.list.now z.args.n z.requires.parted _ _ c.sides_of-s.ensures c.bit.ensures _ c.layout_of-z.ensures in record { listed = z.requires.parted.listed; mask_value = (c.mask_of-mask.ensures.0, scale, rw c.bit-dim.ensures (side-small (length z.args.list.now) z.requires.few)) }
+fill_numbers-requires c = let scale = layout-scale c.args.list.now c.args.n c.requires.parted _ _ c.sides_of-s.ensures c.bit.ensures _ c.layout_of-z.ensures in record { listed = c.requires.parted.listed; mask_value = (c.mask_of-mask.ensures.0, scale, rw c.bit-dim.ensures (side-small (length c.args.list.now) c.requires.few)) }
 
 pub fill_lower-requires : goal.fill_lower-requires
-fill_lower-requires c = let z = c.before.before.before.before.before.before.before.before.before.before.before.before.before.before in
-    let e = layout_is z.args.list.now z.args.n z.requires.parted _ _ c.sides_of-s.ensures c.bit.ensures _ c.layout_of-z.ensures in
-    let d = c.bit-dim.ensures in record { entries_ready = recount-ready z.args.matrix.now z.args.n z.args.list.now z.args.out.now z.requires _ e _ _ _ d c.fill_numbers.ensures
-          (rw d (side-small (length z.args.list.now) z.requires.few)); square = (recount-square z.args.matrix.now z.args.n z.args.list.now z.args.out.now z.requires _ e _ d, ) }
+fill_lower-requires c = let e = layout_is c.args.list.now c.args.n c.requires.parted _ _ c.sides_of-s.ensures c.bit.ensures _ c.layout_of-z.ensures in
+    let d = c.bit-dim.ensures in record { entries_ready = recount-ready c.args.matrix.now c.args.n c.args.list.now c.args.out.now c.requires _ e _ _ _ d c.fill_numbers.ensures
+          (rw d (side-small (length c.args.list.now) c.requires.few)); square = (recount-square c.args.matrix.now c.args.n c.args.list.now c.args.out.now c.requires _ e _ d, ) }
 
 pub mirror-requires : goal.mirror-requires
 mirror-requires c =
-    let z = c.before.before.before.before.before.before.before.before.before.before.before.before.before.before.before.before.before.before in
-    let e = layout_is z.args.list.now z.args.n z.requires.parted _ _ c.sides_of-s.ensures c.bit.ensures _ c.layout_of-z.ensures in
-    let q = recount-square z.args.matrix.now z.args.n z.args.list.now z.args.out.now z.requires _ e _ c.bit-dim.ensures in
+    let e = layout_is c.args.list.now c.args.n c.requires.parted _ _ c.sides_of-s.ensures c.bit.ensures _ c.layout_of-z.ensures in
+    let q = recount-square c.args.matrix.now c.args.n c.args.list.now c.args.out.now c.requires _ e _ c.bit-dim.ensures in
     record { small = q.small; room = omega (arith, q.room, c.fill_lower.ensures.long) }
 
 pub returns : goal.returns
 returns c =
-    let z = c.before.before.before.before.before.before.before.before.before.before.before.before.before.before.before.before.before.before.before.before.before in
-    let e = layout_is z.args.list.now z.args.n z.requires.parted _ _ c.sides_of-s.ensures c.bit.ensures _ c.layout_of-z.ensures in
-    recount-end z.args.matrix.now z.args.n z.args.list.now z.args.out.now z.requires _ e _ _ _ _ _ _ c.bit-dim.ensures
+    let e = layout_is c.args.list.now c.args.n c.requires.parted _ _ c.sides_of-s.ensures c.bit.ensures _ c.layout_of-z.ensures in
+    recount-end c.args.matrix.now c.args.n c.args.list.now c.args.out.now c.requires _ e _ _ _ _ _ _ c.bit-dim.ensures
     c.fill_numbers.ensures c.bit-groups.ensures c.fill_lower.ensures c.mirror.ensures

@@ -43,7 +43,7 @@ pub write_plane-requires : goal.write_plane-requires
 write_plane-requires c = (omega (arith, c.requires.m_bound.2), omega (arith, c.requires.m_bound.2, c.requires.planes_len.1, c.loop-u.invariant.1.long))
 
 pub write_plane-requires-in-loop-u : goal.write_plane-requires-in-loop-u
-write_plane-requires-in-loop-u c = (omega (arith, c.requires.m_bound.2), omega (arith, c.requires.m_bound.2, c.requires.planes_len.1, c.loop-u.invariant.1.long, c.write_plane.auto.0))
+write_plane-requires-in-loop-u c = (omega (arith, c.requires.m_bound.2), omega (arith, c.requires.m_bound.2, c.requires.planes_len.1, c.loop-u.invariant.1.long, c.write_plane.auto.s))
 
 pub overflow_add-u : goal.overflow_add-u
 overflow_add-u c = omega (arith, c.requires.m_bound.2)

@@ -4,6 +4,5 @@ use Rattle.density_rows.proofs.fill_lower.Goals as goal
 
 pub returns : goal.returns
 returns c =
-    let z = c.before.before.before.before.before.before.before.before.before.before.before in
-    lower-from-planes z.args.n z.args.state.now z.args.mask z.args.offsets.now z.args.dim z.args.groups _ _ _ _
+    lower-from-planes c.args.n c.args.state.now c.args.mask c.args.offsets.now c.args.dim c.args.groups _ _ _ _
     c.gather.ensures c.fill_rows.ensures

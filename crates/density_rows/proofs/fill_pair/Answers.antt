@@ -5,7 +5,7 @@ use Rattle.density_rows.proofs.RowSumsLaws.{zero-sums, pair-written}
 use Rattle.density_rows.proofs.fill_pair.Goals as goal
 
 pub pair_sums-requires : goal.pair_sums-requires
-pair_sums-requires c = let z = c.before.before.before in record { planes_len = (z.requires.planes_len.0, z.requires.planes_len.1, zero-sums _ refl); r_bound = (omega arith, omega (arith, z.requires.square.1), omega (arith, z.requires.square.1, z.requires.square.0.small)) }
+pair_sums-requires c = record { planes_len = (c.requires.planes_len.0, c.requires.planes_len.1, zero-sums _ refl); r_bound = (omega arith, omega (arith, c.requires.square.1), omega (arith, c.requires.square.1, c.requires.square.0.small)) }
 
 pub returns : goal.returns
 returns c = pair-written _ _ _ _ _ _ _ _ c.requires.square.1 c.pair_sums.ensures c.write_row.ensures c.write_row-2.ensures

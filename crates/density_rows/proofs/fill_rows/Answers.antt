@@ -7,7 +7,7 @@ pub loop-t-init : goal.loop-t-init
 loop-t-init c = lower-begin _ _ _
 
 pub fill_pair-requires : goal.fill_pair-requires
-fill_pair-requires c = let z = c.before.before.before.before.before in record { planes_len = z.requires.planes_len; square = (record { small = z.requires.square.0.small; room = omega (arith, z.requires.square.0.room, c.loop-t.invariant.long) }, omega (arith, z.requires.square.1)) }
+fill_pair-requires c = record { planes_len = c.requires.planes_len; square = (record { small = c.requires.square.0.small; room = omega (arith, c.requires.square.0.room, c.loop-t.invariant.long) }, omega (arith, c.requires.square.1)) }
 
 pub overflow_add-t : goal.overflow_add-t
 overflow_add-t c = omega (arith, c.requires.square.0.small)

@@ -12,7 +12,7 @@ pub overflow_mul-e : goal.overflow_mul-e
 overflow_mul-e c = omega (arith, gather-room _ _ _ c.loop-e-test.true c.requires.planes_len.1)
 
 pub add_terms-requires : goal.add_terms-requires
-add_terms-requires c = let z = c.before.before.before.before.before in record { planes_len = (z.requires.planes_len.0, c.loop-e.invariant.1.long); m_bound = (omega (arith, gather-room _ _ _ c.loop-e-test.true z.requires.planes_len.1, z.requires.r_bound.1), z.requires.r_bound.0, z.requires.r_bound.2) }
+add_terms-requires c = record { planes_len = (c.requires.planes_len.0, c.loop-e.invariant.1.long); m_bound = (omega (arith, gather-room _ _ _ c.loop-e-test.true c.requires.planes_len.1, c.requires.r_bound.1), c.requires.r_bound.0, c.requires.r_bound.2) }
 
 pub overflow_add-e : goal.overflow_add-e
 overflow_add-e c = omega (arith, c.ranges.groups)

@@ -30,15 +30,13 @@ trace_of-trace-requires c = square-done _ _ (was-done _ _ c.square_refusal-first
 
 pub returns-then-trace : goal.returns-then-trace
 returns-then-trace c =
-    let z = c.before.before.before.before.before.before.before.before in
     place-refused _ _ _ _
-    (sym (first_done c.before.before.before _ ∙ scaling-none z.args.rho.now z.args.dim (ap (λ (x : Float). Ieee.eq x zero_float) (sym c.trace_of-trace.ensures) ∙ c.if-trace.true)))
+    (sym (first_done c.before.before.before _ ∙ scaling-none c.args.rho.now c.args.dim (ap (λ (x : Float). Ieee.eq x zero_float) (sym c.trace_of-trace.ensures) ∙ c.if-trace.true)))
     (λ e. omega arith)
 
 pub overflow_mul-cells : goal.overflow_mul-cells
 overflow_mul-cells c =
-    let z = c.before.before.before.before.before.before.before.before in
-    omega (arith, square-small z.args.dim (square-done z.args.rho.now z.args.dim (was-done _ _ c.square_refusal-first.ensures c.enum_told-1.given.1)).small)
+    omega (arith, square-small c.args.dim (square-done c.args.rho.now c.args.dim (was-done _ _ c.square_refusal-first.ensures c.enum_told-1.given.1)).small)
 
 pub scaled_finite-requires : goal.scaled_finite-requires
 scaled_finite-requires c = (square-done c.args.rho.now c.args.dim (was-done _ _ c.square_refusal-first.ensures c.enum_told-1.given.1)).room
@@ -48,9 +46,8 @@ scale_cells-requires c = (square-done c.args.rho.now c.args.dim (was-done _ _ c.
 
 pub returns-then-scaled_finite : goal.returns-then-scaled_finite
 returns-then-scaled_finite c =
-    let z = c.before.before.before.before.before.before.before.before.before.before.before.before.before.before.before in
-    let s = z.args.rho.now in
-    let d = z.args.dim in
+    let s = c.args.rho.now in
+    let d = c.args.dim in
     let e = c.trace_of-trace.ensures in
     place-done _ _ _ _
     (sym (first_done c.before.before.before.before.before.before.before.before.before.before _ ∙ scaling-done s d (ap (λ (x : Float). Ieee.eq x zero_float) (sym e) ∙ c.if-trace.false)
@@ -59,9 +56,8 @@ returns-then-scaled_finite c =
 
 pub returns : goal.returns
 returns c =
-    let z = c.before.before.before.before.before.before.before.before.before.before.before in
-    let s = z.args.rho.now in
-    let d = z.args.dim in
+    let s = c.args.rho.now in
+    let d = c.args.dim in
     let e = c.trace_of-trace.ensures in
     place-refused _ _ _ _
     (sym (first_done c.before.before.before.before.before.before _ ∙ scaling-wild s d (ap (λ (x : Float). Ieee.eq x zero_float) (sym e) ∙ c.if-trace.false)

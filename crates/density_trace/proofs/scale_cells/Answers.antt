@@ -11,7 +11,7 @@ use Rattle.density_trace.proofs.TraceLaws.{scale-step}
 use Rattle.density_trace.proofs.scale_cells.Goals as goal
 
 pub loop-k-init : goal.loop-k-init
-loop-k-init c = let z = c.before in (omega arith, refl, written_none (scaled_cell z.args.rho.now z.args.scale) z.args.rho.now)
+loop-k-init c = (omega arith, refl, written_none (scaled_cell c.args.rho.now c.args.scale) c.args.rho.now)
 
 pub read_cell-z-requires : goal.read_cell-z-requires
 read_cell-z-requires c = omega (arith, c.requires, c.loop-k.invariant.1)
@@ -20,10 +20,10 @@ pub write_cell-requires : goal.write_cell-requires
 write_cell-requires c = omega (arith, c.requires, c.loop-k.invariant.1)
 
 pub loop-k-preserved : goal.loop-k-preserved
-loop-k-preserved c = let z = c.before.before.before.before.before.before.before.before.before.before in let i = c.loop-k.invariant in (omega (arith, c.loop-k-test.true), c.write_cell.auto.0 ∙ i.1, c.write_cell.ensures ∙ scale-step z.args.rho.now c.loop-k.rho z.args.scale c.loop-k.k _ i.2 (omega (arith, z.requires)) (c.scale.ensures ∙ ap (λ (w : Complex). scaled w z.args.scale) c.read_cell-z.ensures))
+loop-k-preserved c = let i = c.loop-k.invariant in (omega (arith, c.loop-k-test.true), c.write_cell.auto.s ∙ i.1, c.write_cell.ensures ∙ scale-step c.args.rho.now c.loop-k.rho c.args.scale c.loop-k.k _ i.2 (omega (arith, c.requires)) (c.scale.ensures ∙ ap (λ (w : Complex). scaled w c.args.scale) c.read_cell-z.ensures))
 
 pub shape_of-rho : goal.shape_of-rho
 shape_of-rho c = c.loop-k.invariant.1
 
 pub returns : goal.returns
-returns c = let z = c.before.before.before in stop (λ (k : ℕ). written k (scaled_cell z.args.rho.now z.args.scale) z.args.rho.now) c.loop-k.invariant.2 c.loop-k.invariant.0 c.loop-k-test.false
+returns c = stop (λ (k : ℕ). written k (scaled_cell c.args.rho.now c.args.scale) c.args.rho.now) c.loop-k.invariant.2 c.loop-k.invariant.0 c.loop-k-test.false

@@ -14,16 +14,16 @@ pub loop-t-init : goal.loop-t-init
 loop-t-init c = (omega arith, trace-none c.args.rho.now c.args.dim)
 
 pub overflow_mul-t : goal.overflow_mul-t
-overflow_mul-t c = let z = c.before.before.before in let t = c.loop-t.t in omega (arith, index-small z.args.dim t t z.requires.small c.loop-t-test.true c.loop-t-test.true)
+overflow_mul-t c = let t = c.loop-t.t in omega (arith, index-small c.args.dim t t c.requires.small c.loop-t-test.true c.loop-t-test.true)
 
 pub overflow_add-t : goal.overflow_add-t
-overflow_add-t c = let z = c.before.before.before in let t = c.loop-t.t in omega (arith, index-small z.args.dim t t z.requires.small c.loop-t-test.true c.loop-t-test.true)
+overflow_add-t c = let t = c.loop-t.t in omega (arith, index-small c.args.dim t t c.requires.small c.loop-t-test.true c.loop-t-test.true)
 
 pub read_cell-z-requires : goal.read_cell-z-requires
-read_cell-z-requires c = let z = c.before.before.before in let t = c.loop-t.t in omega (arith, cell_in z.args.dim z.args.rho.now t t z.requires c.loop-t-test.true c.loop-t-test.true)
+read_cell-z-requires c = let t = c.loop-t.t in omega (arith, cell_in c.args.dim c.args.rho.now t t c.requires c.loop-t-test.true c.loop-t-test.true)
 
 pub loop-t-preserved : goal.loop-t-preserved
-loop-t-preserved c = let z = c.before.before.before.before.before in let i = c.loop-t.invariant in (omega (arith, c.loop-t-test.true), ap₂ (λ (x : Float) (w : Complex). Ieee.add binary64 x w.re) i.1 c.read_cell-z.ensures ∙ trace-more z.args.rho.now z.args.dim c.loop-t.t)
+loop-t-preserved c = let i = c.loop-t.invariant in (omega (arith, c.loop-t-test.true), ap₂ (λ (x : Float) (w : Complex). Ieee.add binary64 x w.re) i.1 c.read_cell-z.ensures ∙ trace-more c.args.rho.now c.args.dim c.loop-t.t)
 
 pub returns : goal.returns
-returns c = let z = c.before.before.before in stop (λ (k : ℕ). trace_to z.args.rho.now z.args.dim k) c.loop-t.invariant.1 c.loop-t.invariant.0 c.loop-t-test.false
+returns c = stop (λ (k : ℕ). trace_to c.args.rho.now c.args.dim k) c.loop-t.invariant.1 c.loop-t.invariant.0 c.loop-t-test.false

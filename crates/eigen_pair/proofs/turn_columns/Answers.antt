@@ -4,32 +4,35 @@ use native.Mathlib.Omega.{arith}
 use Rattle.eigen_pair.proofs.TurnLaws.{line-none, line-more}
 use lib.Arith.{digits_lt}
 use Rattle.eigen_pair.proofs.turn_columns.Goals as goal
-use Rattle.eigen_pair.proofs.turn_columns.Goals.{In-loop-k}
-
--- the cells of row k stand in the matrix
-at_p : (c : In-loop-k) → let a = c.args in c.loop-k.k * a.n + a.p < a.n * a.n
-at_p c = digits_lt c.loop-k-test.true c.requires.1
-
-at-q : (c : In-loop-k) → let a = c.args in c.loop-k.k * a.n + a.q < a.n * a.n
-at-q c = digits_lt c.loop-k-test.true c.requires.2
 
 pub loop-k-init : goal.loop-k-init
 loop-k-init c = (omega arith, refl, refl, line-none _ _ _ _ _ _)
 
 pub overflow_mul-k : goal.overflow_mul-k
-overflow_mul-k c = omega (arith, at_p c.before)
+overflow_mul-k c =
+    let at_p : let a = c.args in c.loop-k.k * a.n + a.p < a.n * a.n = digits_lt c.loop-k-test.true c.requires.1 in
+    omega (arith, at_p)
 
 pub overflow_add-k : goal.overflow_add-k
-overflow_add-k c = omega (arith, at_p c.before)
+overflow_add-k c =
+    let at_p : let a = c.args in c.loop-k.k * a.n + a.p < a.n * a.n = digits_lt c.loop-k-test.true c.requires.1 in
+    omega (arith, at_p)
 
 pub overflow_mul-k-in-loop-k : goal.overflow_mul-k-in-loop-k
-overflow_mul-k-in-loop-k c = omega (arith, at-q c.before)
+overflow_mul-k-in-loop-k c =
+    let at-q : let a = c.args in c.loop-k.k * a.n + a.q < a.n * a.n = digits_lt c.loop-k-test.true c.requires.2 in
+    omega (arith, at-q)
 
 pub overflow_add-k-in-loop-k : goal.overflow_add-k-in-loop-k
-overflow_add-k-in-loop-k c = omega (arith, at-q c.before)
+overflow_add-k-in-loop-k c =
+    let at-q : let a = c.args in c.loop-k.k * a.n + a.q < a.n * a.n = digits_lt c.loop-k-test.true c.requires.2 in
+    omega (arith, at-q)
 
 pub turn_two-requires : goal.turn_two-requires
-turn_two-requires c = (omega arith, at_p c.before, at-q c.before)
+turn_two-requires c =
+    let at_p : let a = c.args in c.loop-k.k * a.n + a.p < a.n * a.n = digits_lt c.loop-k-test.true c.requires.1 in
+    let at-q : let a = c.args in c.loop-k.k * a.n + a.q < a.n * a.n = digits_lt c.loop-k-test.true c.requires.2 in
+    (omega arith, at_p, at-q)
 
 pub loop-k-preserved : goal.loop-k-preserved
 loop-k-preserved c = (omega arith, omega arith, c.loop-k.invariant.2, line-more _ _ _ _ _ _ _ c.loop-k.invariant.3 c.turn_two.ensures)

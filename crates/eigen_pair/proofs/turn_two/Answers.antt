@@ -4,5 +4,4 @@ use Rattle.eigen_pair.proofs.turn_two.Goals as goal
 
 pub returns : goal.returns
 returns c =
-    let start = c.before.before.before.before.before.before.before.before.before.before.before.before.before.before.before in
-    two_made _ _ _ _ _ start.requires.1 start.requires.2 start.requires.0 c.read_cell-x.ensures c.read_cell-y.ensures c.new_p.ensures c.write_cell.ensures c.new_q.ensures c.write_cell-2.ensures
+    two_made _ _ _ _ _ c.requires.1 c.requires.2 c.requires.0 c.read_cell-x.ensures c.read_cell-y.ensures c.new_p.ensures c.write_cell.ensures c.new_q.ensures c.write_cell-2.ensures

@@ -6,36 +6,43 @@ use lib.Arith.{digits_lt}
 use Rattle.eigen_pair.proofs.CellPlanesLaws.{plane-re}
 use Rattle.eigen_sweeps.proofs.SweepingLaws.{largest-none, largest-more, largest-same}
 use Rattle.eigen_sweeps.proofs.largest_diagonal.Goals as goal
-use Rattle.eigen_sweeps.proofs.largest_diagonal.Goals.{In-loop-i}
-
--- the diagonal entry stands in the matrix
-at : (c : In-loop-i) → let n = c.args.n in c.loop-i.i * n + c.loop-i.i < n * n
-at c = digits_lt c.loop-i-test.true c.loop-i-test.true
 
 pub loop-i-init : goal.loop-i-init
 loop-i-init c = (omega arith, largest-none _ _)
 
 pub overflow_mul-at : goal.overflow_mul-at
-overflow_mul-at c = omega (arith, at (c))
+overflow_mul-at c =
+    let at : let n = c.args.n in c.loop-i.i * n + c.loop-i.i < n * n = digits_lt c.loop-i-test.true c.loop-i-test.true in
+    omega (arith, at (c))
 
 pub overflow_mul-at-in-loop-i : goal.overflow_mul-at-in-loop-i
-overflow_mul-at-in-loop-i c = omega (arith, at (c), c.requires.cells)
+overflow_mul-at-in-loop-i c =
+    let at : let n = c.args.n in c.loop-i.i * n + c.loop-i.i < n * n = digits_lt c.loop-i-test.true c.loop-i-test.true in
+    omega (arith, at (c), c.requires.cells)
 
 pub overflow_add-at : goal.overflow_add-at
-overflow_add-at c = omega (arith, at (c))
+overflow_add-at c =
+    let at : let n = c.args.n in c.loop-i.i * n + c.loop-i.i < n * n = digits_lt c.loop-i-test.true c.loop-i-test.true in
+    omega (arith, at (c))
 
 pub offset_bounds-xs-at : goal.offset_bounds-xs-at
-offset_bounds-xs-at c = omega (arith, at (c), c.requires.cells)
+offset_bounds-xs-at c =
+    let at : let n = c.args.n in c.loop-i.i * n + c.loop-i.i < n * n = digits_lt c.loop-i-test.true c.loop-i-test.true in
+    omega (arith, at (c), c.requires.cells)
 
 pub bounds-xs-at : goal.bounds-xs-at
-bounds-xs-at c = omega (arith, at c.before, c.requires.cells)
+bounds-xs-at c =
+    let at : let n = c.args.n in c.loop-i.i * n + c.loop-i.i < n * n = digits_lt c.loop-i-test.true c.loop-i-test.true in
+    omega (arith, at, c.requires.cells)
 
 pub loop-i-preserved : goal.loop-i-preserved
 loop-i-preserved c =
-    let l = c.before.before.before in
-    let a = l.args in
-    let x = plane-re (a.n * a.n) (l.loop-i.i * a.n + l.loop-i.i) a.xs.now (at c.before.before) in
-    (omega arith, ⊎_elim (λ w. w.1 ∙ largest-more _ _ _ l.loop-i.invariant.1 x w.0.taken) (λ w. w.1 ∙ largest-same _ _ _ l.loop-i.invariant.1 x w.0.left) c.if-x-largest.branch)
+    let at : let n = c.args.n in c.loop-i.i * n + c.loop-i.i < n * n = digits_lt c.loop-i-test.true c.loop-i-test.true in
+    let a = c.args in
+    let x = plane-re (a.n * a.n) (c.loop-i.i * a.n + c.loop-i.i) a.xs.now (at) in
+    (omega arith, ⊎_elim (λ w. w.1 ∙ largest-more _ _ _ c.loop-i.invariant.1 x w.0.taken) (λ w. w.1 ∙ largest-same _ _ _ c.loop-i.invariant.1 x w.0.left) c.if-x-largest.branch)
 
 pub returns : goal.returns
-returns c = let e : c.loop-i.i ≡ c.args.n = omega arith in rw e at c.loop-i.invariant.1
+returns c =
+    let at : let n = c.args.n in c.loop-i.i * n + c.loop-i.i < n * n = digits_lt c.loop-i-test.true c.loop-i-test.true in
+    let e : c.loop-i.i ≡ c.args.n = omega arith in rw e at c.loop-i.invariant.1

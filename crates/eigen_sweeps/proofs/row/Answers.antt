@@ -21,7 +21,7 @@ pub loop-q-smaller : goal.loop-q-smaller
 loop-q-smaller c = omega (arith, c.loop-q-test.true)
 
 pub loop-q-preserved : goal.loop-q-preserved
-loop-q-preserved c = let l = c.loop-q.invariant in let e = c.pair-t.ensures in let w = pair-after _ _ _ _ e in (omega (arith, l.0), omega (arith, c.loop-q-test.true), c.pair-t.auto.0 ∙ l.2, omega (arith, l.3, w.turned), w.begun ∙ l.4, pairs-more _ _ _ _ l.0 l.5 e)
+loop-q-preserved c = let l = c.loop-q.invariant in let e = c.pair-t.ensures in let w = pair-after _ _ _ _ e in (omega (arith, l.0), omega (arith, c.loop-q-test.true), c.pair-t.auto.xs ∙ l.2, omega (arith, l.3, w.turned), w.begun ∙ l.4, pairs-more _ _ _ _ l.0 l.5 e)
 
 pub returns : goal.returns
 returns c = let e : c.loop-q.q ≡ c.args.n = omega (arith, c.loop-q.invariant.1, c.loop-q-test.false) in rw e at c.loop-q.invariant.5

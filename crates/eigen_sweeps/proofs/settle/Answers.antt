@@ -19,7 +19,7 @@ pub loop-k-smaller : goal.loop-k-smaller
 loop-k-smaller c = omega (arith, c.loop-k-test.true)
 
 pub loop-k-preserved : goal.loop-k-preserved
-loop-k-preserved c = let l = c.loop-k.invariant in let e = c.sweep-s.ensures in let w = sweep-after _ _ _ e in let s = c.before.before.before.before.before.before.before.before in (omega (arith, c.loop-k-test.true), c.sweep-s.auto.0 ∙ l.1, omega (arith, l.2, w.begun), omega (arith, l.3, w.turned, pairs-few _ s.args.n s.requires.rows, s.requires.rows), sweeps-more _ _ 60 _ _ c.loop-k-test.true l.4 e c.if-s.false)
+loop-k-preserved c = let l = c.loop-k.invariant in let e = c.sweep-s.ensures in let w = sweep-after _ _ _ e in (omega (arith, c.loop-k-test.true), c.sweep-s.auto.xs ∙ l.1, omega (arith, l.2, w.begun), omega (arith, l.3, w.turned, pairs-few _ c.args.n c.requires.rows, c.requires.rows), sweeps-more _ _ 60 _ _ c.loop-k-test.true l.4 e c.if-s.false)
 
 pub returns-after-loop-k : goal.returns-after-loop-k
 returns-after-loop-k c = sweeps-done _ _ 60 _ c.loop-k-test.false c.loop-k.invariant.4

@@ -22,7 +22,7 @@ pub loop-p-smaller : goal.loop-p-smaller
 loop-p-smaller c = omega (arith, c.loop-p-test.true)
 
 pub loop-p-preserved : goal.loop-p-preserved
-loop-p-preserved c = let l = c.loop-p.invariant in let e = c.row-t.ensures in let w = pairs-after _ _ _ _ e in (omega (arith, c.loop-p-test.true), c.row-t.auto.0 ∙ l.1, turned_more _ _ _ l.2 w, w.begun ∙ l.3, columns-more _ _ _ _ l.4 e)
+loop-p-preserved c = let l = c.loop-p.invariant in let e = c.row-t.ensures in let w = pairs-after _ _ _ _ e in (omega (arith, c.loop-p-test.true), c.row-t.auto.xs ∙ l.1, turned_more _ _ _ l.2 w, w.begun ∙ l.3, columns-more _ _ _ _ l.4 e)
 
 pub returns : goal.returns
 returns c = let e : c.loop-p.p ≡ c.args.n = omega (arith, c.loop-p.invariant.0, c.loop-p-test.false) in sweep-made (eigen_pairings _) _ _ (ap (eigen_pairing _) c.largest_diagonal-largest.ensures) (rw e at c.loop-p.invariant.4)

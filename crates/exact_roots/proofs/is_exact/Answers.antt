@@ -7,11 +7,6 @@ use Rattle.numbers.proofs.Cases.{no_nan}
 use Rattle.numbers.proofs.Scaling.{zeros-most, zeros-least, up_least, up-most}
 use Rattle.exact_roots.proofs.Marks.{of_nan, of_zero, of-upper, root_below, root-no-nan, small-test, normal-test}
 use Rattle.exact_roots.proofs.is_exact.Goals as goal
-use Rattle.exact_roots.proofs.is_exact.Goals.{Start}
-
--- what owning an `f64` tells: the format holds it
-held : (c : Start) → T (fits binary64 c.args.x)
-held c = subst T (sym c.well_formed.0.1) tt
 
 pub returns-then-x : goal.returns-then-x
 returns-then-x c = sym (of_nan _ c.if-x.true)
@@ -20,13 +15,19 @@ pub float_to_bits-b : goal.float_to_bits-b
 float_to_bits-b c = no_nan _ c.if-x.false
 
 pub returns-then-b-ge9218868437227405312 : goal.returns-then-b-ge9218868437227405312
-returns-then-b-ge9218868437227405312 c = of-upper _ (held c.before.before) c.if-b-ge9218868437227405312.true
+returns-then-b-ge9218868437227405312 c =
+    let held : T (fits binary64 c.args.x) = subst T (sym c.well_formed.0.1) tt in
+    of-upper _ (held) c.if-b-ge9218868437227405312.true
 
 pub returns-then-b-eq0 : goal.returns-then-b-eq0
-returns-then-b-eq0 c = sym (of_zero _ (held c.before.before.before) c.if-b-eq0.true)
+returns-then-b-eq0 c =
+    let held : T (fits binary64 c.args.x) = subst T (sym c.well_formed.0.1) tt in
+    sym (of_zero _ (held) c.if-b-eq0.true)
 
 pub float_to_bits-a : goal.float_to_bits-a
-float_to_bits-a c = root-no-nan _ _ (held c.before.before.before) c.requires (omega arith) c.if-b-ge9218868437227405312.false
+float_to_bits-a c =
+    let held : T (fits binary64 c.args.x) = subst T (sym c.well_formed.0.1) tt in
+    root-no-nan _ _ (held) c.requires (omega arith) c.if-b-ge9218868437227405312.false
 
 pub overflow_cast-z : goal.overflow_cast-z
 overflow_cast-z c = omega (arith, zeros-most _ (omega arith) c.if-b-lt4503599627370496.true)
@@ -42,20 +43,24 @@ overflow_sub-z-then-b-lt4503599627370496 c = omega (arith, zeros-most _ (omega a
 
 pub squares_to-requires : goal.squares_to-requires
 squares_to-requires c =
+    let held : T (fits binary64 c.args.x) = subst T (sym c.well_formed.0.1) tt in
     let s = c.before.before.before.before in
-    (up_least _ (omega arith) c.if-b-lt4503599627370496.true _ refl, up-most _ (omega arith) c.if-b-lt4503599627370496.true _ refl, omega arith, root_below _ _ (held s) s.requires (omega arith) c.if-b-ge9218868437227405312.false)
+    (up_least _ (omega arith) c.if-b-lt4503599627370496.true _ refl, up-most _ (omega arith) c.if-b-lt4503599627370496.true _ refl, omega arith, root_below _ _ (held) c.requires (omega arith) c.if-b-ge9218868437227405312.false)
 
 pub returns-then-b-lt4503599627370496 : goal.returns-then-b-lt4503599627370496
 returns-then-b-lt4503599627370496 c =
+    let held : T (fits binary64 c.args.x) = subst T (sym c.well_formed.0.1) tt in
     let s = c.before.before.before.before.before in
-    c.squares_to.ensures ∙ small-test _ _ (held s) s.requires (omega arith) c.if-b-ge9218868437227405312.false _ c.if-b-lt4503599627370496.true refl
+    c.squares_to.ensures ∙ small-test _ _ (held) c.requires (omega arith) c.if-b-ge9218868437227405312.false _ c.if-b-lt4503599627370496.true refl
 
 pub squares_to-requires-2 : goal.squares_to-requires-2
 squares_to-requires-2 c =
+    let held : T (fits binary64 c.args.x) = subst T (sym c.well_formed.0.1) tt in
     let s = c.before.before.before.before in
-    (omega arith, omega arith, omega arith, root_below _ _ (held s) s.requires (omega arith) c.if-b-ge9218868437227405312.false)
+    (omega arith, omega arith, omega arith, root_below _ _ (held) c.requires (omega arith) c.if-b-ge9218868437227405312.false)
 
 pub returns : goal.returns
 returns c =
+    let held : T (fits binary64 c.args.x) = subst T (sym c.well_formed.0.1) tt in
     let s = c.before.before.before.before.before in
-    c.squares_to-2.ensures ∙ normal-test _ _ (held s) s.requires (omega arith) c.if-b-ge9218868437227405312.false c.if-b-lt4503599627370496.false
+    c.squares_to-2.ensures ∙ normal-test _ _ (held) c.requires (omega arith) c.if-b-ge9218868437227405312.false c.if-b-lt4503599627370496.false

@@ -13,10 +13,10 @@ pub offset_bounds-s-count : goal.offset_bounds-s-count
 offset_bounds-s-count c = omega (arith, within _ _ _ c.floor_of.ensures c.kept_count-count.ensures)
 
 pub slice_bounds-zero_first-count : goal.slice_bounds-zero_first-count
-slice_bounds-zero_first-count c = omega (arith, c.scale_kept-scaled.auto.0, within _ _ _ c.floor_of.ensures c.kept_count-count.ensures)
+slice_bounds-zero_first-count c = omega (arith, c.scale_kept-scaled.auto.s, within _ _ _ c.floor_of.ensures c.kept_count-count.ensures)
 
 -- LEFT: no goal slice-bounds-zero-first-start
--- part-zero-first-start c = omega (arith, c.scale_kept-scaled.auto.0, within _ _ _ c.floor_of.ensures c.kept_count-count.ensures)
+-- part-zero-first-start c = omega (arith, c.scale_kept-scaled.auto.s, within _ _ _ c.floor_of.ensures c.kept_count-count.ensures)
 
 pub overflow_sub-n : goal.overflow_sub-n
 overflow_sub-n c = within _ _ _ c.floor_of.ensures c.kept_count-count.ensures
@@ -25,4 +25,4 @@ pub returns-then-scaled : goal.returns-then-scaled
 returns-then-scaled c = sorted-done _ _ _ c.floor_of.ensures c.kept_count-count.ensures c.if-count-eq0.false _ _ c.scale_kept-scaled.ensures.now _ c.scale_kept-scaled.ensures.whether.0 c.if-scaled.true c.zero_first-then-scaled.ensures _ c.scale_kept-scaled.ensures.whether.1
 
 pub returns : goal.returns
-returns c = sorted-infinite _ _ _ c.floor_of.ensures c.kept_count-count.ensures c.if-count-eq0.false _ c.scale_kept-scaled.ensures.whether.0 c.if-scaled.false _ _ c.scale_kept-scaled.auto.0 c.zero_first-2.ensures
+returns c = sorted-infinite _ _ _ c.floor_of.ensures c.kept_count-count.ensures c.if-count-eq0.false _ c.scale_kept-scaled.ensures.whether.0 c.if-scaled.false _ _ c.scale_kept-scaled.auto.s c.zero_first-2.ensures

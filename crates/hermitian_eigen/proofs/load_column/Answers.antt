@@ -11,12 +11,6 @@ use Rattle.hermitian_eigen.specs.Shifted.{shifted_cell, shifted_at}
 use Rattle.hermitian_eigen.proofs.ShiftedLaws.{shifted_at_lem}
 use borrow.Author.Rules.{rules}
 use Rattle.hermitian_eigen.proofs.load_column.Goals as goal
-use Rattle.hermitian_eigen.proofs.load_column.Goals.{In-loop-r}
-
--- the cell lies within the matrix
-goal : (c : In-loop-r)
-    → let a = c.args in a.col * a.dim + c.loop-r.r < a.dim * a.dim
-goal c = digits_lt c.requires.0 c.loop-r-test.true
 
 pub overflow_mul-c : goal.overflow_mul-c
 overflow_mul-c c = omega (arith, mul-le-mul c.requires.1 c.requires.1)
@@ -28,16 +22,24 @@ pub loop-r-init : goal.loop-r-init
 loop-r-init c = (search rules, refl, planes-none _ _ _ _)
 
 pub overflow_add-to : goal.overflow_add-to
-overflow_add-to c = omega (arith, goal c)
+overflow_add-to c =
+    let goal : let a = c.args in a.col * a.dim + c.loop-r.r < a.dim * a.dim = digits_lt c.requires.0 c.loop-r-test.true in
+    omega (arith, goal)
 
 pub read_cell-z-requires : goal.read_cell-z-requires
-read_cell-z-requires c = omega (arith, goal c)
+read_cell-z-requires c =
+    let goal : let a = c.args in a.col * a.dim + c.loop-r.r < a.dim * a.dim = digits_lt c.requires.0 c.loop-r-test.true in
+    omega (arith, goal)
 
 pub overflow_add-to-in-loop-r : goal.overflow_add-to-in-loop-r
-overflow_add-to-in-loop-r c = omega (arith, goal c.before.before)
+overflow_add-to-in-loop-r c =
+    let goal : let a = c.args in a.col * a.dim + c.loop-r.r < a.dim * a.dim = digits_lt c.requires.0 c.loop-r-test.true in
+    omega (arith, goal)
 
 pub write_plane-requires : goal.write_plane-requires
-write_plane-requires c = omega (arith, goal c.before.before.before)
+write_plane-requires c =
+    let goal : let a = c.args in a.col * a.dim + c.loop-r.r < a.dim * a.dim = digits_lt c.requires.0 c.loop-r-test.true in
+    omega (arith, goal)
 
 pub loop-r-preserved : goal.loop-r-preserved
 loop-r-preserved c = (search rules, search rules, planes-more _ _ _ _ _ c.loop-r.invariant.2 (c.shifted.ensures ∙ ap (shifted_cell _ _) c.read_cell-z.ensures ∙ shifted_at_lem _ _ _ _ _ c.loop-r-test.true) c.write_plane.ensures)

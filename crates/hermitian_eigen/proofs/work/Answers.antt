@@ -9,11 +9,10 @@ shift_of-shift-requires c = (c.requires.side, c.requires.a-is)
 
 pub returns : goal.returns
 returns c =
-    let start = c.before.before.before.before.before.before.before.before.before.before.before.before.before.before.before.before.before.before.before.before.before.before.before.before.before.before.before.before.before.before.before in
     let f = c.factor-sweeps in
     let l = c.lower in
     let s = c.shift_of-shift.ensures in
-    worked _ _ _ start.args.values.now start.args.vectors.now start.args.scratch.now _ _ _ start.requires
+    worked _ _ _ c.args.values.now c.args.vectors.now c.args.scratch.now _ _ _ c.requires
     (l.auto.0 ∙ f.auto.1.1.1.0)
     f.auto.1.1.1.1.0
     (values-made _ _ _ s f.ensures l.ensures)

@@ -11,7 +11,7 @@ pub slice_bounds-write_directions-end : goal.slice_bounds-write_directions-end
 slice_bounds-write_directions-end c = sym (length-take-le _ _ (omega (arith, c.requires.0.scratch-is)))
 
 pub write_directions-requires : goal.write_directions-requires
-write_directions-requires c = let s = c.before.before.before.before.before.before in (s.requires.0.cells, search rules, length-take-le _ _ (omega (arith, s.requires.0.scratch-is)), s.requires.0.s-is, part_length (2 * (s.args.dim * s.args.dim)) s.args.dim s.args.scratch.now (omega (arith, s.requires.0.scratch-is)), s.requires.1, s.requires.0.other-is)
+write_directions-requires c = (c.requires.0.cells, search rules, length-take-le _ _ (omega (arith, c.requires.0.scratch-is)), c.requires.0.s-is, part_length (2 * (c.args.dim * c.args.dim)) c.args.dim c.args.scratch.now (omega (arith, c.requires.0.scratch-is)), c.requires.1, c.requires.0.other-is)
 
 pub returns : goal.returns
 returns c = c.write_directions.ensures

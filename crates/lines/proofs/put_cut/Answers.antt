@@ -8,10 +8,10 @@ use Rattle.texts.proofs.TextLaws.{length-item, puts_then}
 use Rattle.lines.proofs.put_cut.Goals as goal
 
 pub put_item-past_k-requires : goal.put_item-past_k-requires
-put_item-past_k-requires c = omega (arith, c.put_item-past_n.ensures.next, c.put_item-past_n.auto.0, length-item cut_word c.args.n)
+put_item-past_k-requires c = omega (arith, c.put_item-past_n.ensures.next, c.put_item-past_n.auto.out, length-item cut_word c.args.n)
 
 pub put_pair_line-requires : goal.put_pair_line-requires
-put_pair_line-requires c = omega (arith, c.put_item-past_n.ensures.next, c.put_item-past_n.auto.0, length-item cut_word c.args.n, c.put_item-past_k.ensures.next, c.put_item-past_k.auto.0, length-item blank c.args.k)
+put_pair_line-requires c = omega (arith, c.put_item-past_n.ensures.next, c.put_item-past_n.auto.out, length-item cut_word c.args.n, c.put_item-past_k.ensures.next, c.put_item-past_k.auto.out, length-item blank c.args.k)
 
 pub returns : goal.returns
 unfolding cut_line

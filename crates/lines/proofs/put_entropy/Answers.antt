@@ -5,7 +5,7 @@ use Rattle.texts.proofs.TextLaws.{length-item, puts_then}
 use Rattle.lines.proofs.put_entropy.Goals as goal
 
 pub put_pair_line-requires : goal.put_pair_line-requires
-put_pair_line-requires c = omega (arith, c.put_item-past_low.ensures.next, c.put_item-past_low.auto.0, length-item entropy_word c.args.low)
+put_pair_line-requires c = omega (arith, c.put_item-past_low.ensures.next, c.put_item-past_low.auto.out, length-item entropy_word c.args.low)
 
 pub returns : goal.returns
 unfolding entropy_line

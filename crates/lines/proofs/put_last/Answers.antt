@@ -6,7 +6,7 @@ use Rattle.lines.proofs.LineLaws.{length-entropy}
 use Rattle.lines.proofs.put_last.Goals as goal
 
 pub put_end-requires : goal.put_end-requires
-put_end-requires c = omega (arith, c.put_entropy-last.ensures.next, c.put_entropy-last.auto.0, length-entropy c.args.low c.args.high c.args.whole)
+put_end-requires c = omega (arith, c.put_entropy-last.ensures.next, c.put_entropy-last.auto.out, length-entropy c.args.low c.args.high c.args.whole)
 
 pub returns : goal.returns
 unfolding last_lines

@@ -9,10 +9,10 @@ use Rattle.lines.proofs.LineLaws.{length_cut, length-side, length-values}
 use Rattle.lines.proofs.put_listing.Goals as goal
 
 pub put_side-third-requires : goal.put_side-third-requires
-put_side-third-requires c = omega (arith, c.put_cut-second.ensures.next, c.put_cut-second.auto.0, length_cut c.args.n c.args.k c.args.rows c.args.cols)
+put_side-third-requires c = omega (arith, c.put_cut-second.ensures.next, c.put_cut-second.auto.out, length_cut c.args.n c.args.k c.args.rows c.args.cols)
 
 pub put_values-last-requires : goal.put_values-last-requires
-put_values-last-requires c = omega (arith, c.put_cut-second.ensures.next, c.put_cut-second.auto.0, length_cut c.args.n c.args.k c.args.rows c.args.cols, c.put_side-third.ensures.next, c.put_side-third.auto.0, length-side c.args.side.now)
+put_values-last-requires c = omega (arith, c.put_cut-second.ensures.next, c.put_cut-second.auto.out, length_cut c.args.n c.args.k c.args.rows c.args.cols, c.put_side-third.ensures.next, c.put_side-third.auto.out, length-side c.args.side.now)
 
 pub put_last-requires : goal.put_last-requires
 put_last-requires c =

@@ -8,10 +8,10 @@ use Rattle.lines.proofs.LineLaws.{length-items}
 use Rattle.lines.proofs.put_side.Goals as goal
 
 pub put_items-last-requires : goal.put_items-last-requires
-put_items-last-requires c = omega (arith, c.put_text-next.ensures.next, c.put_text-next.auto.0)
+put_items-last-requires c = omega (arith, c.put_text-next.ensures.next, c.put_text-next.auto.out)
 
 pub put_text-requires : goal.put_text-requires
-put_text-requires c = omega (arith, c.put_text-next.ensures.next, c.put_text-next.auto.0, c.put_items-last.ensures.next, c.put_items-last.auto.0, length-items (length c.args.list.now) c.args.list.now)
+put_text-requires c = omega (arith, c.put_text-next.ensures.next, c.put_text-next.auto.out, c.put_items-last.ensures.next, c.put_items-last.auto.out, length-items (length c.args.list.now) c.args.list.now)
 
 pub returns : goal.returns
 unfolding side_line

@@ -9,13 +9,13 @@ use Rattle.texts.proofs.TextLaws.{length-item, length-hex, puts_then}
 use Rattle.lines.proofs.put_value.Goals as goal
 
 pub put_text-digits-requires : goal.put_text-digits-requires
-put_text-digits-requires c = omega (arith, c.put_item-past_rank.ensures.next, c.put_item-past_rank.auto.0, length-item value_word c.args.rank)
+put_text-digits-requires c = omega (arith, c.put_item-past_rank.ensures.next, c.put_item-past_rank.auto.out, length-item value_word c.args.rank)
 
 pub put_hex-end-requires : goal.put_hex-end-requires
-put_hex-end-requires c = omega (arith, c.put_item-past_rank.ensures.next, c.put_item-past_rank.auto.0, length-item value_word c.args.rank, c.put_text-digits.ensures.next, c.put_text-digits.auto.0)
+put_hex-end-requires c = omega (arith, c.put_item-past_rank.ensures.next, c.put_item-past_rank.auto.out, length-item value_word c.args.rank, c.put_text-digits.ensures.next, c.put_text-digits.auto.out)
 
 pub put_text-requires : goal.put_text-requires
-put_text-requires c = omega (arith, c.put_item-past_rank.ensures.next, c.put_item-past_rank.auto.0, length-item value_word c.args.rank, c.put_text-digits.ensures.next, c.put_text-digits.auto.0, c.put_hex-end.ensures.next, c.put_hex-end.auto.0, length-hex 16 c.args.bits)
+put_text-requires c = omega (arith, c.put_item-past_rank.ensures.next, c.put_item-past_rank.auto.out, length-item value_word c.args.rank, c.put_text-digits.ensures.next, c.put_text-digits.auto.out, c.put_hex-end.ensures.next, c.put_hex-end.auto.out, length-hex 16 c.args.bits)
 
 pub returns : goal.returns
 unfolding value_line

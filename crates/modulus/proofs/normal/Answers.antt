@@ -7,6 +7,5 @@ use Rattle.modulus.proofs.normal.Goals as goal
 
 pub returns : goal.returns
 returns c =
-    let under = c.before.before in
     c.scaled_back.ensures
-    ∙ scaled-by _ _ _ _ _ _ _ (pow_pos _) (over-mul _ _ _ (pow_pos _) under.requires.2 under.power_under-under.ensures) (over-mul _ _ _ (pow_pos _) under.requires.3 under.power_under-under.ensures) refl c.power.ensures
+    ∙ scaled-by _ _ _ _ _ _ _ (pow_pos _) (over-mul _ _ _ (pow_pos _) c.requires.2 c.power_under-under.ensures) (over-mul _ _ _ (pow_pos _) c.requires.3 c.power_under-under.ensures) refl c.power.ensures

@@ -7,14 +7,6 @@ use lib.Ieee.{binary64, fits, of_bits}
 use lib.Ieee.Bits.{of_bits-to_bits}
 use Rattle.numbers.proofs.Cases.{no_nan}
 use Rattle.modulus.proofs.same.Goals as goal
-use Rattle.modulus.proofs.same.Goals.{Start}
-
--- what owning an `f64` tells: the format holds it
-held_x : (c : Start) → T (fits binary64 c.args.x)
-held_x c = subst T (sym c.well_formed.0.1) tt
-
-held-y : (c : Start) → T (fits binary64 c.args.y)
-held-y c = subst T (sym c.well_formed.1.0.1) tt
 
 pub returns-then-x : goal.returns-then-x
 returns-then-x c = λ h. absurd (false≢true h)
@@ -30,5 +22,7 @@ float_to_bits-result-2 c = no_nan _ c.if-y.false
 
 pub returns : goal.returns
 returns c =
+    let held_x : T (fits binary64 c.args.x) = subst T (sym c.well_formed.0.1) tt in
+    let held-y : T (fits binary64 c.args.y) = subst T (sym c.well_formed.1.0.1) tt in
     let start = c.before.before in
-    λ h. sym (of_bits-to_bits binary64 _ (held_x start)) ∙ ap (of_bits binary64) (eqb-true _ _ h) ∙ of_bits-to_bits binary64 _ (held-y start)
+    λ h. sym (of_bits-to_bits binary64 _ (held_x)) ∙ ap (of_bits binary64) (eqb-true _ _ h) ∙ of_bits-to_bits binary64 _ (held-y)

@@ -12,13 +12,13 @@ use Rattle.page_cells.specs.PageCells.{cell_line}
 use Rattle.page_cells.proofs.put_cell.Goals as goal
 
 pub put_item-past_column-requires : goal.put_item-past_column-requires
-put_item-past_column-requires c = omega (arith, c.requires, c.put_item-past_row.ensures.next, c.put_item-past_row.auto.0, length-item c.args.word.now c.args.row)
+put_item-past_column-requires c = omega (arith, c.requires, c.put_item-past_row.ensures.next, c.put_item-past_row.auto.out, length-item c.args.word.now c.args.row)
 
 pub put_hex_item-past_re-requires : goal.put_hex_item-past_re-requires
-put_hex_item-past_re-requires c = omega (arith, c.requires, c.put_item-past_row.ensures.next, c.put_item-past_row.auto.0, length-item c.args.word.now c.args.row, c.put_item-past_column.ensures.next, c.put_item-past_column.auto.0, length-item blank c.args.column)
+put_hex_item-past_re-requires c = omega (arith, c.requires, c.put_item-past_row.ensures.next, c.put_item-past_row.auto.out, length-item c.args.word.now c.args.row, c.put_item-past_column.ensures.next, c.put_item-past_column.auto.out, length-item blank c.args.column)
 
 pub put_bits-requires : goal.put_bits-requires
-put_bits-requires c = omega (arith, c.requires, c.put_item-past_row.ensures.next, c.put_item-past_row.auto.0, length-item c.args.word.now c.args.row, c.put_item-past_column.ensures.next, c.put_item-past_column.auto.0, length-item blank c.args.column, c.put_hex_item-past_re.ensures.next, c.put_hex_item-past_re.auto.0, length-hex-item blank c.args.re)
+put_bits-requires c = omega (arith, c.requires, c.put_item-past_row.ensures.next, c.put_item-past_row.auto.out, length-item c.args.word.now c.args.row, c.put_item-past_column.ensures.next, c.put_item-past_column.auto.out, length-item blank c.args.column, c.put_hex_item-past_re.ensures.next, c.put_hex_item-past_re.auto.out, length-hex-item blank c.args.re)
 
 pub returns : goal.returns
 unfolding cell_line

@@ -7,7 +7,7 @@ use Rattle.page_lines.proofs.PageLineLaws.{length-hex-item}
 use Rattle.page_lines.proofs.put_bits.Goals as goal
 
 pub put_text-requires : goal.put_text-requires
-put_text-requires c = omega (arith, c.requires, c.put_hex_item-next.ensures.next, c.put_hex_item-next.auto.0, length-hex-item c.args.word.now c.args.bits)
+put_text-requires c = omega (arith, c.requires, c.put_hex_item-next.ensures.next, c.put_hex_item-next.auto.out, length-hex-item c.args.word.now c.args.bits)
 
 pub returns : goal.returns
 unfolding bits_line

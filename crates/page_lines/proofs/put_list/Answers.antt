@@ -9,7 +9,7 @@ use Rattle.page_lines.specs.PageLines.{list_word, list_line}
 use Rattle.page_lines.proofs.put_list.Goals as goal
 
 pub put_text-requires : goal.put_text-requires
-put_text-requires c = omega (arith, c.requires, c.put_text-next.ensures.next, c.put_text-next.auto.0, c.put_items-last.ensures.next, c.put_items-last.auto.0, length-items (length c.args.list.now) c.args.list.now)
+put_text-requires c = omega (arith, c.requires, c.put_text-next.ensures.next, c.put_text-next.auto.out, c.put_items-last.ensures.next, c.put_items-last.auto.out, length-items (length c.args.list.now) c.args.list.now)
 
 pub returns : goal.returns
 unfolding list_line

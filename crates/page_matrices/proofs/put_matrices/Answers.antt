@@ -14,13 +14,13 @@ pub put_unscaled-second-requires : goal.put_unscaled-second-requires
 put_unscaled-second-requires c = drawn-lined cell_word _ _ _ _ _ _ (omega arith) c.requires refl (omega arith)
 
 pub put_kept-third-requires : goal.put_kept-third-requires
-put_kept-third-requires c = omega (arith, c.requires.fits, c.put_unscaled-second.ensures.next, c.put_unscaled-second.auto.0, length-unscaled c.args.rho.now c.args.dim c.requires.some c.requires.small, square-small c.args.dim c.requires.small)
+put_kept-third-requires c = omega (arith, c.requires.fits, c.put_unscaled-second.ensures.next, c.put_unscaled-second.auto.out, length-unscaled c.args.rho.now c.args.dim c.requires.some c.requires.small, square-small c.args.dim c.requires.small)
 
 pub put_scaled-last-requires : goal.put_scaled-last-requires
-put_scaled-last-requires c = drawn-lined scaled_word _ _ _ _ _ _ (omega arith) c.requires (omega (arith, c.put_unscaled-second.auto.0, c.put_kept-third.auto.0)) (omega (arith, c.put_unscaled-second.ensures.next, c.put_kept-third.ensures.next, length-unscaled c.args.rho.now c.args.dim c.requires.some c.requires.small, length-kept c.args.accepted c.args.total, square-small c.args.dim c.requires.small))
+put_scaled-last-requires c = drawn-lined scaled_word _ _ _ _ _ _ (omega arith) c.requires (omega (arith, c.put_unscaled-second.auto.out, c.put_kept-third.auto.out)) (omega (arith, c.put_unscaled-second.ensures.next, c.put_kept-third.ensures.next, length-unscaled c.args.rho.now c.args.dim c.requires.some c.requires.small, length-kept c.args.accepted c.args.total, square-small c.args.dim c.requires.small))
 
 pub put_said-requires : goal.put_said-requires
-put_said-requires c = omega (arith, c.requires.fits, c.put_unscaled-second.ensures.next, c.put_unscaled-second.auto.0, c.put_kept-third.ensures.next, c.put_kept-third.auto.0, c.put_scaled-last.ensures.puts.next, c.put_scaled-last.auto.0, length-unscaled c.args.rho.now c.args.dim c.requires.some c.requires.small, length-kept c.args.accepted c.args.total, length-scaled c.args.rho.now c.args.dim c.requires.some c.requires.small, square-small c.args.dim c.requires.small)
+put_said-requires c = omega (arith, c.requires.fits, c.put_unscaled-second.ensures.next, c.put_unscaled-second.auto.out, c.put_kept-third.ensures.next, c.put_kept-third.auto.out, c.put_scaled-last.ensures.puts.next, c.put_scaled-last.auto.out, length-unscaled c.args.rho.now c.args.dim c.requires.some c.requires.small, length-kept c.args.accepted c.args.total, length-scaled c.args.rho.now c.args.dim c.requires.some c.requires.small, square-small c.args.dim c.requires.small)
 
 pub returns : goal.returns
 unfolding matrices_text

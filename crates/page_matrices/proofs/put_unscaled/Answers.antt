@@ -11,7 +11,7 @@ use Rattle.page_matrices.specs.Matrices.{cell_word, trace_word, unscaled_text}
 use Rattle.page_matrices.proofs.put_unscaled.Goals as goal
 
 pub put_bits-requires : goal.put_bits-requires
-put_bits-requires c = omega (arith, c.requires.fits, c.put_cells-next.ensures.next, c.put_cells-next.auto.0, length-cells cell_word c.args.dim c.args.rho.now (omega arith) c.requires.some c.requires.small (c.args.dim * c.args.dim) (omega arith))
+put_bits-requires c = omega (arith, c.requires.fits, c.put_cells-next.ensures.next, c.put_cells-next.auto.out, length-cells cell_word c.args.dim c.args.rho.now (omega arith) c.requires.some c.requires.small (c.args.dim * c.args.dim) (omega arith))
 
 pub returns : goal.returns
 unfolding unscaled_text

@@ -13,7 +13,7 @@ use Rattle.page_two.proofs.PageTwoLaws.{two-refused, listed-few, rows_few, front
 use Rattle.page_two.proofs.put_two.Goals as goal
 
 pub put_kept-requires : goal.put_kept-requires
-put_kept-requires c = omega (arith, c.requires.fits, c.put_reply-next.ensures.next, c.put_reply-next.auto.0, length-reply refused_word (paper c.dense_reduced_density-answer.result))
+put_kept-requires c = omega (arith, c.requires.fits, c.put_reply-next.ensures.next, c.put_reply-next.auto.out, length-reply refused_word (paper c.dense_reduced_density-answer.result))
 
 pub returns-in_default : goal.returns-in_default
 returns-in_default c = two-refused _ _ _ _ _ c.dense_reduced_density-answer.result _ _ c.dense_reduced_density-answer.ensures refl refl _ _ _ _ _ _ _ _ (stopped-number c.dense_reduced_density-answer.result c.in_default.not-Done) c.requires.fits c.put_reply-next.ensures c.put_kept.ensures

@@ -8,14 +8,13 @@ use Rattle.pages.proofs.AgreeLaws.{held_small, held-state, held-matrix, held_sam
 use Rattle.pages.proofs.same_densities.Goals as goal
 
 pub layout_of-z-requires : goal.layout_of-z-requires
-layout_of-z-requires c = let z = c.before.before.before.before.before.before.before.before in layout-room z.args.list.now z.args.n z.requires.parted _ _ c.sides_of-s.ensures c.bit-size.ensures
+layout_of-z-requires c = layout-room c.args.list.now c.args.n c.requires.parted _ _ c.sides_of-s.ensures c.bit-size.ensures
 
 pub fill_offsets-requires : goal.fill_offsets-requires
-fill_offsets-requires c = let z = c.before.before.before.before.before.before.before.before.before.before in record { listed = z.requires.parted.listed; dim_in_bounds = held_small _ _ _ _ z.requires _ c.bit-dim.ensures }
+fill_offsets-requires c = record { listed = c.requires.parted.listed; dim_in_bounds = held_small _ _ _ _ c.requires _ c.bit-dim.ensures }
 
 pub fill_numbers-requires : goal.fill_numbers-requires
-fill_numbers-requires c = let z = c.before.before.before.before.before.before.before.before.before.before.before.before.before in
-    let scale = layout-scale z.args.list.now z.args.n z.requires.parted _ _ c.sides_of-s.ensures c.bit-size.ensures _ c.layout_of-z.ensures in record { listed = z.requires.parted.listed; mask_value = (c.mask_of-named.ensures.0, scale, held_small _ _ _ _ z.requires _ c.bit-dim.ensures) }
+fill_numbers-requires c = let scale = layout-scale c.args.list.now c.args.n c.requires.parted _ _ c.sides_of-s.ensures c.bit-size.ensures _ c.layout_of-z.ensures in record { listed = c.requires.parted.listed; mask_value = (c.mask_of-named.ensures.0, scale, held_small _ _ _ _ c.requires _ c.bit-dim.ensures) }
 
 pub overflow_sub-rest : goal.overflow_sub-rest
 overflow_sub-rest c = omega (arith, c.bit-size.ensures, pow_pos c.args.n)
@@ -24,16 +23,14 @@ pub overflow_sub-rest-2 : goal.overflow_sub-rest-2
 overflow_sub-rest-2 c = omega (arith, c.bit-size.ensures, c.mask_of-named.ensures.1)
 
 pub same_rows-requires : goal.same_rows-requires
-same_rows-requires c = let z = c.before.before.before.before.before.before.before.before.before.before.before.before.before.before.before.before.before in
-    let dim = c.bit-dim.ensures in
-    let e = layout_is z.args.list.now z.args.n z.requires.parted _ _ c.sides_of-s.ensures c.bit-size.ensures _ c.layout_of-z.ensures in
-    let small = held_small _ _ _ _ z.requires _ dim in record { entries_ready = (
-        held-state _ _ _ _ z.requires _ dim _ _ _ (ap₂ (λ (x y : ℕ). x - 1 - y) c.bit-size.ensures c.mask_of-named.ensures.0) c.fill_offsets.ensures small,
-        held-matrix _ _ _ _ z.requires _ dim _ e _ _ c.fill_numbers.ensures small,
+same_rows-requires c = let dim = c.bit-dim.ensures in
+    let e = layout_is c.args.list.now c.args.n c.requires.parted _ _ c.sides_of-s.ensures c.bit-size.ensures _ c.layout_of-z.ensures in
+    let small = held_small _ _ _ _ c.requires _ dim in record { entries_ready = (
+        held-state _ _ _ _ c.requires _ dim _ _ _ (ap₂ (λ (x y : ℕ). x - 1 - y) c.bit-size.ensures c.mask_of-named.ensures.0) c.fill_offsets.ensures small,
+        held-matrix _ _ _ _ c.requires _ dim _ e _ _ c.fill_numbers.ensures small,
       ); dim_bound = (small, ) }
 
 pub returns : goal.returns
 returns c =
-    let z = c.before.before.before.before.before.before.before.before.before.before.before.before.before.before.before.before.before.before in
-    let e = layout_is z.args.list.now z.args.n z.requires.parted _ _ c.sides_of-s.ensures c.bit-size.ensures _ c.layout_of-z.ensures in
-    held_same _ _ _ _ z.requires _ c.bit-dim.ensures _ e _ _ _ _ _ _ _ (ap₂ (λ (x y : ℕ). x - 1 - y) c.bit-size.ensures c.mask_of-named.ensures.0) c.bit-groups.ensures c.fill_offsets.ensures c.fill_numbers.ensures c.same_rows.ensures
+    let e = layout_is c.args.list.now c.args.n c.requires.parted _ _ c.sides_of-s.ensures c.bit-size.ensures _ c.layout_of-z.ensures in
+    held_same _ _ _ _ c.requires _ c.bit-dim.ensures _ e _ _ _ _ _ _ _ (ap₂ (λ (x y : ℕ). x - 1 - y) c.bit-size.ensures c.mask_of-named.ensures.0) c.bit-groups.ensures c.fill_offsets.ensures c.fill_numbers.ensures c.same_rows.ensures

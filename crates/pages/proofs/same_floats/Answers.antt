@@ -12,17 +12,15 @@ loop-i-init c = (omega arith, omega arith, refl)
 
 pub returns-then-bits_of : goal.returns-then-bits_of
 returns-then-bits_of c =
-    let z = c.before.before.before.before.before.before in
-    let w = z.loop-i.invariant in
-    sym (w.2 ∙ same_stop _ _ z.loop-i.i c.loop-i-test.true (omega (arith, w.1)) (λ e. c.if-bits_of.true (c.bits_of.ensures ∙ e ∙ sym c.bits_of-in-loop-i.ensures)))
+    let w = c.loop-i.invariant in
+    sym (w.2 ∙ same_stop _ _ c.loop-i.i c.loop-i-test.true (omega (arith, w.1)) (λ e. c.if-bits_of.true (c.bits_of.ensures ∙ e ∙ sym c.bits_of-in-loop-i.ensures)))
 
 pub loop-i-preserved : goal.loop-i-preserved
 loop-i-preserved c =
-    let z = c.before.before.before.before.before.before in
-    let w = z.loop-i.invariant in (
+    let w = c.loop-i.invariant in (
       omega arith,
       w.1,
-      w.2 ∙ same_step _ _ z.loop-i.i c.loop-i-test.true (omega (arith, w.1)) (sym c.bits_of.ensures ∙ c.if-bits_of.false ∙ c.bits_of-in-loop-i.ensures),
+      w.2 ∙ same_step _ _ c.loop-i.i c.loop-i-test.true (omega (arith, w.1)) (sym c.bits_of.ensures ∙ c.if-bits_of.false ∙ c.bits_of-in-loop-i.ensures),
     )
 
 pub returns : goal.returns

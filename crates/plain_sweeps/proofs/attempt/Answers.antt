@@ -7,18 +7,17 @@ use borrow.Author.Rules.{rules}
 use Rattle.plain_sweeps.proofs.attempt.Goals as goal
 
 pub slice_bounds-from_unit-end-2 : goal.slice_bounds-from_unit-end-2
-slice_bounds-from_unit-end-2 c = sym (length-take-le _ _ (omega (arith, c.requires.scratch-fits, c.copy_behind.auto.0)))
+slice_bounds-from_unit-end-2 c = sym (length-take-le _ _ (omega (arith, c.requires.scratch-fits, c.copy_behind.auto.s)))
 
 pub from_unit-sweeps-requires : goal.from_unit-sweeps-requires
-from_unit-sweeps-requires c = record { work = length-take-le _ _ (omega (arith, c.requires.scratch-fits, c.copy_behind.auto.0)); v = c.requires.v-is; columns = c.requires.columns; cells = c.requires.cells }
+from_unit-sweeps-requires c = record { work = length-take-le _ _ (omega (arith, c.requires.scratch-fits, c.copy_behind.auto.s)); v = c.requires.v-is; columns = c.requires.columns; cells = c.requires.cells }
 
 pub slice_bounds-all_clean-end-2 : goal.slice_bounds-all_clean-end-2
 slice_bounds-all_clean-end-2 c = sym (length-take-le _ _ (search rules))
 
 pub returns-then-all_clean : goal.returns-then-all_clean
 returns-then-all_clean c =
-    let start = c.before.before.before.before.before.before.before.before.before.before.before.before.before.before.before.before.before.before in
-    tried-clean _ _ _ _ c.from_unit-sweeps.new.0 _ _ _ (length-take-le _ _ (omega (arith, start.requires.scratch-fits, c.copy_behind.auto.0))) c.copy_behind.ensures (c.from_unit-sweeps.auto.0 ∙ length-take-le _ _ (omega (arith, start.requires.scratch-fits, c.copy_behind.auto.0))) c.from_unit-sweeps.ensures (c.all_clean.ensures c.if-all_clean.true) c.all_clean-then-all_clean.ensures
+    tried-clean _ _ _ _ c.from_unit-sweeps.new.work _ _ _ (length-take-le _ _ (omega (arith, c.requires.scratch-fits, c.copy_behind.auto.s))) c.copy_behind.ensures (c.from_unit-sweeps.auto.work ∙ length-take-le _ _ (omega (arith, c.requires.scratch-fits, c.copy_behind.auto.s))) c.from_unit-sweeps.ensures (c.all_clean.ensures c.if-all_clean.true) c.all_clean-then-all_clean.ensures
 
 pub returns : goal.returns
-returns c = tried-unclean _ _ _ _ c.from_unit-sweeps.new.0 _ _ c.copy_behind.ensures (c.from_unit-sweeps.auto.0 ∙ length-take-le _ _ (omega (arith, c.requires.scratch-fits, c.copy_behind.auto.0)))
+returns c = tried-unclean _ _ _ _ c.from_unit-sweeps.new.work _ _ c.copy_behind.ensures (c.from_unit-sweeps.auto.work ∙ length-take-le _ _ (omega (arith, c.requires.scratch-fits, c.copy_behind.auto.s)))

@@ -12,4 +12,4 @@ pub from_unit-requires : goal.from_unit-requires
 from_unit-requires c = record { work = length-take-le _ _ (omega (arith, c.requires.scratch-fits)); v = c.requires.v-is; columns = c.requires.columns; cells = c.requires.cells }
 
 pub returns : goal.returns
-returns c = swept-exactly _ _ _ _ _ _ (c.from_unit.auto.0 ∙ length-take-le _ _ (omega (arith, c.requires.scratch-fits))) c.from_unit.ensures
+returns c = swept-exactly _ _ _ _ _ _ (c.from_unit.auto.work ∙ length-take-le _ _ (omega (arith, c.requires.scratch-fits))) c.from_unit.ensures

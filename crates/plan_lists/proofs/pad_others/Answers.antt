@@ -5,6 +5,5 @@ use Rattle.plan_lists.proofs.pad_others.Goals as goal
 
 pub write_others-requires : goal.write_others-requires
 write_others-requires c =
-    let s = c.before.before in
-    let l = s.requires.listed in
-    (l.small, omega (arith, others-length s.args.n s.args.list.now l, l.small))
+    let l = c.requires.listed in
+    (l.small, omega (arith, others-length c.args.n c.args.list.now l, l.small))

@@ -7,19 +7,21 @@ use Rattle.plans.specs.Plans.{made}
 use Rattle.plans.proofs.PlanLaws.{made-parted}
 use Rattle.plan_values.proofs.PlannedValuesLaws.{not_made, of-over}
 use Rattle.plan_values.proofs.planned_schmidt_values.Goals as goal
-use Rattle.plan_values.proofs.planned_schmidt_values.Goals.{Else-not-is_made}
-
-is-plan : (c : Else-not-is_made) → made c.args.plan ≡ true
-is-plan c = sym c.is_made.ensures ∙ not-false _ c.if-not-is_made.false
 
 pub returns-then-not-is_made : goal.returns-then-not-is_made
 returns-then-not-is_made c = not_made _ _ _ _ (sym c.is_made.ensures ∙ not-true _ c.if-not-is_made.true) _ c.refused.ensures
 
 pub kept_sides-cut-requires : goal.kept_sides-cut-requires
-kept_sides-cut-requires c = is-plan c
+kept_sides-cut-requires c =
+    let is-plan : made c.args.plan ≡ true = sym c.is_made.ensures ∙ not-false _ c.if-not-is_made.false in
+    is-plan
 
 pub values_over-requires : goal.values_over-requires
-values_over-requires c = record { list = _; parted = made-parted _ (is-plan c.before.before.before); are = c.kept_sides-cut.ensures }
+values_over-requires c =
+    let is-plan : made c.args.plan ≡ true = sym c.is_made.ensures ∙ not-false _ c.if-not-is_made.false in
+    record { list = _; parted = made-parted _ (is-plan); are = c.kept_sides-cut.ensures }
 
 pub returns : goal.returns
-returns c = of-over _ _ _ _ (is-plan c.before.before.before.before.before.before.before.before) _ _ _ _ c.kept_sides-cut.ensures c.values_over.ensures
+returns c =
+    let is-plan : made c.args.plan ≡ true = sym c.is_made.ensures ∙ not-false _ c.if-not-is_made.false in
+    of-over _ _ _ _ (is-plan) _ _ _ _ c.kept_sides-cut.ensures c.values_over.ensures

@@ -5,13 +5,13 @@ use Rattle.qr_factor.proofs.Whole.{built}
 use Rattle.qr_factor.proofs.build.Goals as goal
 
 pub add_columns-requires : goal.add_columns-requires
-add_columns-requires c = room-kept c.requires refl c.zero_first.auto.0 c.zero_first-2.auto.0
+add_columns-requires c = room-kept c.requires refl c.zero_first.auto.s c.zero_first-2.auto.s
 
 pub shape_of-q : goal.shape_of-q
-shape_of-q c = c.add_columns.auto.1.1.1.1.0 ∙ c.zero_first.auto.0
+shape_of-q c = c.add_columns.auto.1.1.1.1.0 ∙ c.zero_first.auto.s
 
 pub shape_of-r : goal.shape_of-r
-shape_of-r c = c.add_columns.auto.1.1.1.1.1.0 ∙ c.zero_first-2.auto.0
+shape_of-r c = c.add_columns.auto.1.1.1.1.1.0 ∙ c.zero_first-2.auto.s
 
 pub shape_of-v : goal.shape_of-v
 shape_of-v c = c.add_columns.auto.1.1.1.1.1.1.0

@@ -12,10 +12,10 @@ pub lay_out-requires : goal.lay_out-requires
 lay_out-requires c = let o = room-kept c.requires.qr_room c.smaller-cap.ensures refl refl in (c.build-rank.auto.1.1.1.1.0 ∙ o.q-is, c.build-rank.auto.1.1.1.1.1.1.0 ∙ o.v-is)
 
 pub with_basis-requires : goal.with_basis-requires
-with_basis-requires c = omega (arith, c.lay_out.auto.0, c.build-rank.auto.1.1.1.1.0, c.requires.in_bounds)
+with_basis-requires c = omega (arith, c.lay_out.auto.q, c.build-rank.auto.1.1.1.1.0, c.requires.in_bounds)
 
 pub shape_of-q : goal.shape_of-q
-shape_of-q c = c.with_basis.auto.0 ∙ c.lay_out.auto.0 ∙ c.build-rank.auto.1.1.1.1.0
+shape_of-q c = c.with_basis.auto.q ∙ c.lay_out.auto.q ∙ c.build-rank.auto.1.1.1.1.0
 
 pub shape_of-r : goal.shape_of-r
 shape_of-r c = c.build-rank.auto.1.1.1.1.1.0

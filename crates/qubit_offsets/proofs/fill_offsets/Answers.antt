@@ -17,14 +17,14 @@ bounds-out-t c = omega (arith, c.loop-t.invariant.1, c.requires.count_value.1)
 pub loop-t-preserved : goal.loop-t-preserved
 loop-t-preserved c =
     let l = c.loop-t in
-    let z = c.before.before.before.before.before in (
+    (
       omega (arith, c.loop-t-test.true),
       simp length-set l.invariant.1,
-      rw (l.invariant.2, c.row_offset.ensures) (filled_more l.t (row_offset z.args.list.now) _ (omega (arith, c.loop-t-test.true, z.requires.count_value.1))),
+      rw (l.invariant.2, c.row_offset.ensures) (filled_more l.t (row_offset c.args.list.now) _ (omega (arith, c.loop-t-test.true, c.requires.count_value.1))),
     )
 
 pub shape_of-out : goal.shape_of-out
 shape_of-out c = c.loop-t.invariant.1
 
 pub returns : goal.returns
-returns c = let z = c.before.before.before.before in table-end _ _ _ _ _ c.loop-t.invariant.0 c.loop-t-test.false z.requires.count_value.0 c.loop-t.invariant.2
+returns c = table-end _ _ _ _ _ c.loop-t.invariant.0 c.loop-t-test.false c.requires.count_value.0 c.loop-t.invariant.2

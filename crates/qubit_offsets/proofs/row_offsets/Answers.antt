@@ -10,9 +10,8 @@ use Rattle.qubit_offsets.proofs.row_offsets.Goals as goal
 
 pub returns-in_default : goal.returns-in_default
 returns-in_default c =
-    let z = c.before.before.before.before in
     let r = c.density_refusal-first.result in
-    offsets-refused z.args.list.now z.args.n z.args.cap z.args.out.now r
+    offsets-refused c.args.list.now c.args.n c.args.cap c.args.out.now r
     (refused r _ _ c.density_refusal-first.ensures c.in_default.not-Done) (stopped-number r c.in_default.not-Done)
 
 pub bit-count-requires : goal.bit-count-requires
@@ -22,21 +21,16 @@ bit-count-requires c =
 
 pub returns-then-out-count : goal.returns-then-out-count
 returns-then-out-count c =
-    let z = c.before.before.before.before.before.before.before in
-    let e = c.before.before in
-    let h : length z.args.out.now < 2 ^ length z.args.list.now = omega (arith, c.bit-count.ensures, c.if-out-count.true) in
-    offsets-refused z.args.list.now z.args.n z.args.cap z.args.out.now _
-    (sym (passed _ _ _ e.density_refusal-first.ensures e.in-Done.is ∙ rw (lt-ltb _ _ h))) (λ q. omega arith)
+    let h : length c.args.out.now < 2 ^ length c.args.list.now = omega (arith, c.bit-count.ensures, c.if-out-count.true) in
+    offsets-refused c.args.list.now c.args.n c.args.cap c.args.out.now _
+    (sym (passed _ _ _ c.density_refusal-first.ensures c.in-Done.is ∙ rw (lt-ltb _ _ h))) (λ q. omega arith)
 
 pub fill_offsets-requires : goal.fill_offsets-requires
 fill_offsets-requires c = let z = c.args in
-    let e = c.before.before.before in
-    let b = c.bit-count.ensures in record { listed = (density-listed z.n z.cap z.list.now (was-done _ _ e.density_refusal-first.ensures e.in-Done.is)).0; count_value = ((b, c.if-out-count.false), ) }
+    let b = c.bit-count.ensures in record { listed = (density-listed z.n z.cap z.list.now (was-done _ _ c.density_refusal-first.ensures c.in-Done.is)).0; count_value = ((b, c.if-out-count.false), ) }
 
 pub returns : goal.returns
 returns c =
-    let z = c.before.before.before.before.before.before.before.before.before.before.before in
-    let e = c.before.before.before.before.before.before in
-    let h : 2 ^ length z.args.list.now ≤ length z.args.out.now = omega (arith, c.bit-count.ensures, c.if-out-count.false) in
-    offsets-done z.args.list.now z.args.n z.args.cap z.args.out.now _
-    (sym (passed _ _ _ e.density_refusal-first.ensures e.in-Done.is ∙ rw (le-ltb _ _ h))) _ refl c.fill_offsets.ensures
+    let h : 2 ^ length c.args.list.now ≤ length c.args.out.now = omega (arith, c.bit-count.ensures, c.if-out-count.false) in
+    offsets-done c.args.list.now c.args.n c.args.cap c.args.out.now _
+    (sym (passed _ _ _ c.density_refusal-first.ensures c.in-Done.is ∙ rw (le-ltb _ _ h))) _ refl c.fill_offsets.ensures

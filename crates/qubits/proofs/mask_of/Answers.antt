@@ -16,13 +16,12 @@ bit-mask-requires c = omega (arith, c.requires.below c.loop-i.i c.loop-i-test.tr
 
 pub loop-i-preserved : goal.loop-i-preserved
 loop-i-preserved c =
-    let l = c.before.before.before in
-    let p = l.requires in
-    let i = l.loop-i.i in
+    let p = c.requires in
+    let i = c.loop-i.i in
     let h = c.loop-i-test.true in (
       omega (arith, h),
-      l.loop-i.invariant.1 ∙ mask-more _ _ i h ∙ ap (λ (b : ℕ). mask_from (bit_or l.loop-i.mask b) (drop (i + 1) l.args.list.now)) (sym c.bit-mask.ensures),
-      rw c.bit-mask.ensures (or_lt _ _ _ l.loop-i.invariant.2 (pow-lt (p.below i h))),
+      c.loop-i.invariant.1 ∙ mask-more _ _ i h ∙ ap (λ (b : ℕ). mask_from (bit_or c.loop-i.mask b) (drop (i + 1) c.args.list.now)) (sym c.bit-mask.ensures),
+      rw c.bit-mask.ensures (or_lt _ _ _ c.loop-i.invariant.2 (pow-lt (p.below i h))),
     )
 
 pub returns : goal.returns

@@ -16,15 +16,14 @@ overflow_shl-offset c =
 
 pub loop-i-preserved : goal.loop-i-preserved
 loop-i-preserved c =
-    let z = c.before.before.before in
     let k = c.loop-i in
     let h = c.loop-i-test.true in
-    let q = get_or z.args.list.now k.i 0 in
-    let l : q < 64 = omega (arith, z.requires.below k.i h, z.requires.small) in (
+    let q = get_or c.args.list.now k.i 0 in
+    let l : q < 64 = omega (arith, c.requires.below k.i h, c.requires.small) in (
       omega (arith, h),
       k.invariant.1 ∙ spread-step _ k.i k.offset _ h
-          ∙ ap (λ (b : ℕ). bit_or (bit_or k.offset b) (spread (drop (k.i + 1) z.args.list.now) (z.args.t / 2 ^ (k.i + 1))))
-          (sym (bit-code (z.args.t / 2 ^ k.i) q l)),
+          ∙ ap (λ (b : ℕ). bit_or (bit_or k.offset b) (spread (drop (k.i + 1) c.args.list.now) (c.args.t / 2 ^ (k.i + 1))))
+          (sym (bit-code (c.args.t / 2 ^ k.i) q l)),
     )
 
 pub returns : goal.returns

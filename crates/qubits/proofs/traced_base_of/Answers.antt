@@ -11,10 +11,9 @@ loop-q-init c = insert-begin _ _ _
 
 pub insert_zero_bit-base-requires : goal.insert_zero_bit-base-requires
 insert_zero_bit-base-requires c =
-    let z = c.before.before.before.before.before in
     let h = c.loop-q-test.true in
-    let s : z.args.e < 4096 = small-index _ _ _ z.requires.listed.small z.requires.e_bound in
-    (insert-room _ _ _ _ _ c.loop-q.invariant h z.requires.listed.small s, omega (arith, h, z.requires.listed.small))
+    let s : c.args.e < 4096 = small-index _ _ _ c.requires.listed.small c.requires.e_bound in
+    (insert-room _ _ _ _ _ c.loop-q.invariant h c.requires.listed.small s, omega (arith, h, c.requires.listed.small))
 
 pub loop-q-preserved : goal.loop-q-preserved
 loop-q-preserved c =
@@ -28,5 +27,4 @@ loop-q-preserved c =
 
 pub returns : goal.returns
 returns c =
-    let z = c.before.before.before in
-    insert-end _ _ _ _ _ c.loop-q.invariant c.loop-q-test.false (rw (others-length _ _ z.requires.listed) z.requires.e_bound)
+    insert-end _ _ _ _ _ c.loop-q.invariant c.loop-q-test.false (rw (others-length _ _ c.requires.listed) c.requires.e_bound)

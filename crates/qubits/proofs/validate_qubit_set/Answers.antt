@@ -26,16 +26,14 @@ slice_bounds-stands_in-end c = sym (length-take-le _ _ c.loop-i.invariant.0)
 
 pub returns-then-stands_in : goal.returns-then-stands_in
 returns-then-stands_in c =
-    let b = c.before.before.before in
     let t = sym c.stands_in.ensures ∙ c.if-stands_in.true in
-    sym (rw (places-twice _ _ _ b.loop-i-test.true b.if-n-q.false t) at b.loop-i.invariant.1)
+    sym (rw (places-twice _ _ _ c.loop-i-test.true c.if-n-q.false t) at c.loop-i.invariant.1)
 
 pub loop-i-preserved : goal.loop-i-preserved
 loop-i-preserved c =
-    let b = c.before.before.before in
     let t = sym c.stands_in.ensures ∙ c.if-stands_in.false in (
-      omega (arith, b.loop-i-test.true),
-      rw (places-past _ _ _ b.loop-i-test.true b.if-n-q.false t) at b.loop-i.invariant.1,
+      omega (arith, c.loop-i-test.true),
+      rw (places-past _ _ _ c.loop-i-test.true c.if-n-q.false t) at c.loop-i.invariant.1,
     )
 
 pub returns-then-list-eq0 : goal.returns-then-list-eq0

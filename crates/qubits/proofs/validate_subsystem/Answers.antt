@@ -9,10 +9,8 @@ returns-in_default c = refused c.validate_qubit_set-first.result _ _ c.validate_
 
 pub returns-then-list-n : goal.returns-then-list-n
 returns-then-list-n c =
-    let b = c.before.before.before in
-    sym (passed _ _ _ b.validate_qubit_set-first.ensures c.in-Done.is ∙ rw (eq-eqb _ _ c.if-list-n.true))
+    sym (passed _ _ _ c.validate_qubit_set-first.ensures c.in-Done.is ∙ rw (eq-eqb _ _ c.if-list-n.true))
 
 pub returns : goal.returns
 returns c =
-    let b = c.before.before.before in
-    sym (passed _ _ _ b.validate_qubit_set-first.ensures c.in-Done.is ∙ rw (ne_eqb _ _ c.if-list-n.false))
+    sym (passed _ _ _ c.validate_qubit_set-first.ensures c.in-Done.is ∙ rw (ne_eqb _ _ c.if-list-n.false))

@@ -32,5 +32,5 @@ overflow_sub-v c = omega (arith, low-square _ c.requires.2)
 pub returns : goal.returns
 returns c = λ h.
     let start = c.requires in
-    let told = in-one-test _ _ _ _ start.3 (low-square _ start.2) c.wrapping_sub_u64.ensures (ltb-true _ _ h) in
+    let told = in-one-test _ _ _ _ start.3 (low-square _ start.2) c.wrapping_sub_u64.ensures.value (ltb-true _ _ h) in
     nearest _ _ start.0 start.1 start.2 start.3 c.if-n-hh.false c.if-dd-hl.false told.0 told.1 told.2

@@ -7,14 +7,6 @@ use Rattle.numbers.proofs.Cases.{no_nan}
 use Rattle.numbers.proofs.Scaling.{in-range}
 use Rattle.root_guesses.proofs.Guess.{half-most, half-exponent, is-the-root}
 use Rattle.root_guesses.proofs.is_root.Goals as goal
-use Rattle.root_guesses.proofs.is_root.Goals.{Start}
-
--- what owning an `f64` tells: the format holds it
-held_x : (c : Start) → T (fits binary64 c.args.x)
-held_x c = subst T (sym c.well_formed.0.1) tt
-
-held-t : (c : Start) → T (fits binary64 c.args.t)
-held-t c = subst T (sym c.well_formed.1.0.1) tt
 
 pub returns-then-x : goal.returns-then-x
 returns-then-x c = λ h. absurd (false≢true h)
@@ -41,4 +33,7 @@ pub is_nearest-requires : goal.is_nearest-requires
 is_nearest-requires c = let r = in-range (digits (to_bits binary64 c.args.x)) (to_bits binary64 c.args.x / 2 ^ 52 + 51) (omega arith) (omega arith) in (r.0, r.1, omega arith, omega arith)
 
 pub returns : goal.returns
-returns c = λ h. is-the-root _ _ (held_x c.before.before.before.before.before.before) (held-t c.before.before.before.before.before.before) c.if-b-lt4503599627370496.false (half-most _ c.if-b-lt4503599627370496.false c.if-half-ge1023.false) (half-exponent _ _ c.if-b-lt4503599627370496.false c.if-a-half.false) (c.is_nearest.ensures h)
+returns c =
+    let held_x : T (fits binary64 c.args.x) = subst T (sym c.well_formed.0.1) tt in
+    let held-t : T (fits binary64 c.args.t) = subst T (sym c.well_formed.1.0.1) tt in
+    λ h. is-the-root _ _ (held_x) (held-t) c.if-b-lt4503599627370496.false (half-most _ c.if-b-lt4503599627370496.false c.if-half-ge1023.false) (half-exponent _ _ c.if-b-lt4503599627370496.false c.if-a-half.false) (c.is_nearest.ensures h)

@@ -28,7 +28,6 @@ loop-i-preserved c =
 pub returns : goal.returns
 returns c =
     λ h.
-    let b = c.before.before.before in
-    let v = b.loop-i.invariant in
+    let v = c.loop-i.invariant in
     let e = ap₂ (add binary64) c.join.ensures c.join-2.ensures in
-    holds-all v.0 v.1 v.2 (omega arith) b.loop-i-test.false (omega arith) (ap is_finite (sym e) ∙ sym c.is_finite.ensures ∙ h)
+    holds-all v.0 v.1 v.2 (omega arith) c.loop-i-test.false (omega arith) (ap is_finite (sym e) ∙ sym c.is_finite.ensures ∙ h)

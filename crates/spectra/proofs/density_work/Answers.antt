@@ -18,13 +18,12 @@ pub zero_first-requires : goal.zero_first-requires
 zero_first-requires c = omega (arith, c.requires.1, c.spectrum-sweeps.auto.1.1.1.0, c.finish_weights-kept.auto.1.1.0)
 
 pub shape_of-work : goal.shape_of-work
-shape_of-work c = omega (arith, c.zero_first.auto.0, c.finish_weights-kept.auto.1.1.0, c.spectrum-sweeps.auto.1.1.1.0)
+shape_of-work c = omega (arith, c.zero_first.auto.s, c.finish_weights-kept.auto.1.1.0, c.spectrum-sweeps.auto.1.1.1.0)
 
 pub returns : goal.returns
 returns c =
-    let z = c.before.before.before.before.before.before.before.before.before.before.before.before.before.before.before.before.before.before.before.before.before.before in
     let s = c.spectrum-sweeps in
     let f = c.finish_weights-kept in
     density-made _ _ _ _ _ f.result _ _ _ s.ensures.0 s.ensures.2 f.ensures
-    (c.zero_first.ensures ∙ zeroed-other _ _ _ (omega (arith, z.requires.1, s.auto.1.1.1.0, f.auto.1.1.0)) (omega (arith, z.requires.1)))
+    (c.zero_first.ensures ∙ zeroed-other _ _ _ (omega (arith, c.requires.1, s.auto.1.1.1.0, f.auto.1.1.0)) (omega (arith, c.requires.1)))
     c.answered_count.ensures

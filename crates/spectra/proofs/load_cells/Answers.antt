@@ -14,8 +14,7 @@ loop-i-init c = (search rules, refl, written_none _ _)
 pub loop-i-preserved : goal.loop-i-preserved
 loop-i-preserved c =
     let l = c.before.before.before.before.before.before in
-    let a = l.before.before.before in
-    (search rules, search rules, rw (c.write_cell.ensures, c.read_cell.ensures, l.loop-i.invariant.2) (written-more _ _ _ (omega (arith, a.requires.1, c.loop-i-test.true))))
+    (search rules, search rules, rw (c.write_cell.ensures, c.read_cell.ensures, c.loop-i.invariant.2) (written-more _ _ _ (omega (arith, c.requires.1, c.loop-i-test.true))))
 
 pub returns : goal.returns
 returns c =

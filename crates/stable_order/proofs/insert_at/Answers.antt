@@ -12,9 +12,8 @@ loop-i-init c = (refl, search rules, refl, refl)
 
 pub loop-i-preserved : goal.loop-i-preserved
 loop-i-preserved c =
-    let at-loop = c.before.before in
-    let h : at-loop.loop-i.i < length at-loop.loop-i.l = omega arith in
-    (refl, search rules, simp length-set at-loop.loop-i.invariant.2, push_at-more _ _ _ _ h ∙ at-loop.loop-i.invariant.3)
+    let h : c.loop-i.i < length c.loop-i.l = omega arith in
+    (refl, search rules, simp length-set c.loop-i.invariant.2, push_at-more _ _ _ _ h ∙ c.loop-i.invariant.3)
 
 pub returns : goal.returns
 returns c =

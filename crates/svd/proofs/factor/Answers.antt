@@ -23,8 +23,7 @@ factor-requires c = wide-lent _ _ _ _ _ _ _ _ c.if-m-n.true c.requires (search r
 
 pub returns-then-m-n : goal.returns-then-m-n
 returns-then-m-n c =
-    let start = c.before.before.before.before.before.before.before.before.before.before.before.before.before.before.before.before.before.before.before.before.before.before.before in
-    let h : 2 * (start.args.m * start.args.n) ≤ length start.args.scratch.now = omega (arith, start.requires.scratch-is) in
+    let h : 2 * (c.args.m * c.args.n) ≤ length c.args.scratch.now = omega (arith, c.requires.scratch-is) in
     let loaded = c.load_wide in
     wide-made _ _ _ c.if-m-n.true (take_at _ _ _ (loaded.auto.1.1.1.0 ∙ length-take-le _ _ h) ∙ loaded.ensures) c.factor.ensures
 
@@ -48,8 +47,7 @@ factor-requires-2 c = tall-lent _ _ _ _ _ _ _ _ c.if-m-n.false c.requires (searc
 
 pub returns : goal.returns
 returns c =
-    let start = c.before.before.before.before.before.before.before.before.before.before.before.before.before.before.before.before.before.before.before.before.before.before.before in
-    let h : 2 * (start.args.n * start.args.m) ≤ length start.args.scratch.now =
-    omega (arith, mul_comm start.args.n start.args.m, start.requires.scratch-is) in
+    let h : 2 * (c.args.n * c.args.m) ≤ length c.args.scratch.now =
+    omega (arith, mul_comm c.args.n c.args.m, c.requires.scratch-is) in
     let loaded = c.load_tall in
     tall-made _ _ _ c.if-m-n.false (take_at _ _ _ (loaded.auto.1.1.0 ∙ length-take-le _ _ h) ∙ loaded.ensures) c.factor-2.ensures

@@ -4,10 +4,9 @@ use Rattle.svd.proofs.work.Goals as goal
 
 pub returns : goal.returns
 returns c =
-    let start = c.before.before.before.before.before.before.before.before.before.before.before.before.before.before.before.before.before.before.before.before.before.before.before.before.before.before.before.before.before.before.before.before.before in
-    let a = start.args in
+    let a = c.args in
     let f = c.factor-sweeps in
-    worked _ _ _ _ a.u.now a.s.now a.vt.now a.scratch.now _ _ _ start.requires
+    worked _ _ _ _ a.u.now a.s.now a.vt.now a.scratch.now _ _ _ c.requires
     f.auto.1.1.1.0
     f.auto.1.1.1.1.0
     f.auto.1.1.1.1.1.0

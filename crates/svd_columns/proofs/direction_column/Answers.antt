@@ -14,7 +14,7 @@ pub loop-r-init : goal.loop-r-init
 loop-r-init c = (search rules, refl, written_none _ _)
 
 pub loop-r-preserved : goal.loop-r-preserved
-loop-r-preserved c = let s = c.before.before.before.before.before.before.before.before.before.before in (search rules, search rules, written_step _ _ _ (omega (arith, s.requires.2, c.loop-r-test.true)) c.loop-r.invariant.2 (c.direction.ensures ∙ ap (direction_of s.args.wide s.args.norm) c.read_plane-z.ensures) c.write_cell.ensures)
+loop-r-preserved c = (search rules, search rules, written_step _ _ _ (omega (arith, c.requires.2, c.loop-r-test.true)) c.loop-r.invariant.2 (c.direction.ensures ∙ ap (direction_of c.args.wide c.args.norm) c.read_plane-z.ensures) c.write_cell.ensures)
 
 pub returns : goal.returns
 returns c = let a = c.args in stop (λ k. written k (λ j. direction_of a.wide a.norm (plane_at a.work.now a.c (a.at + j))) a.out.now) c.loop-r.invariant.2 (search rules) (search rules)

@@ -15,30 +15,27 @@ use Rattle.svd_columns.specs.Columns.{plane_from, norms_of, norms_exact}
 use Rattle.svd_columns.proofs.Grids.{filled-step}
 use borrow.Author.Rules.{rules}
 use Rattle.svd_columns.proofs.norms_marked.Goals as goal
-use Rattle.svd_columns.proofs.norms_marked.Goals.{In-loop-j}
-
--- the column j ends within the matrix
-col : (c : In-loop-j)
-    → let a = c.args in c.loop-j.j * a.rows + a.rows ≤ a.side * a.rows
-col c = column_fits _ _ _ c.loop-j-test.true
 
 pub loop-j-init : goal.loop-j-init
 loop-j-init c = (search rules, refl, filled_none _ _, all_none _)
 
 pub overflow_mul-j : goal.overflow_mul-j
-overflow_mul-j c = omega (arith, col c)
+overflow_mul-j c =
+    let col : let a = c.args in c.loop-j.j * a.rows + a.rows ≤ a.side * a.rows = column_fits _ _ _ c.loop-j-test.true in
+    omega (arith, col)
 
 pub squares-requires : goal.squares-requires
-squares-requires c = (col c, search rules)
+squares-requires c =
+    let col : let a = c.args in c.loop-j.j * a.rows + a.rows ≤ a.side * a.rows = column_fits _ _ _ c.loop-j-test.true in
+    (col, search rules)
 
 pub loop-j-preserved : goal.loop-j-preserved
 loop-j-preserved c =
-    let d = c.before.before.before.before in
     let sum = c.squares.ensures in (
       search rules,
-      simp length-set d.loop-j.invariant.1,
-      filled-step _ _ _ (omega (arith, d.requires.2, c.loop-j-test.true)) d.loop-j.invariant.2 (c.sqrt_marked-one.ensures.0 ∙ ap sqrt_of sum),
-      all_more _ _ d.loop-j.invariant.3 (c.sqrt_marked-one.ensures.1 ∙ ap exact_root sum),
+      simp length-set c.loop-j.invariant.1,
+      filled-step _ _ _ (omega (arith, c.requires.2, c.loop-j-test.true)) c.loop-j.invariant.2 (c.sqrt_marked-one.ensures.0 ∙ ap sqrt_of sum),
+      all_more _ _ c.loop-j.invariant.3 (c.sqrt_marked-one.ensures.1 ∙ ap exact_root sum),
     )
 
 pub returns : goal.returns

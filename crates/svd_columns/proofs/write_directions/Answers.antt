@@ -12,16 +12,6 @@ use Rattle.svd_columns.specs.Columns.{direction_of, in_columns, directions_of}
 use Rattle.svd_columns.proofs.Grids.{columns-none, columns-more, columns-all}
 use borrow.Author.Rules.{rules}
 use Rattle.svd_columns.proofs.write_directions.Goals as goal
-use Rattle.svd_columns.proofs.write_directions.Goals.{After-read_place-o, In-loop-j}
-
--- the column that is written, and the one that is read, end within their matrix
-goal : (c : In-loop-j)
-    → let a = c.args in c.loop-j.j * a.rows + a.rows ≤ a.side * a.rows
-goal c = column_fits _ _ _ c.loop-j-test.true
-
-source : (c : After-read_place-o)
-    → let a = c.args in c.read_place-o.result * a.rows + a.rows ≤ a.side * a.rows
-source c = column_fits _ _ _ c.read_place-o.ensures.1
 
 pub loop-j-init : goal.loop-j-init
 loop-j-init c = (search rules, refl, columns-none _ _ _)
@@ -30,22 +20,32 @@ pub read_place-o-requires : goal.read_place-o-requires
 read_place-o-requires c = (search rules, search rules, c.requires.5)
 
 pub overflow_mul-to : goal.overflow_mul-to
-overflow_mul-to c = omega (arith, goal c.before)
+overflow_mul-to c =
+    let goal : let a = c.args in c.loop-j.j * a.rows + a.rows ≤ a.side * a.rows = column_fits _ _ _ c.loop-j-test.true in
+    omega (arith, goal)
 
 pub overflow_mul-to-in-loop-j : goal.overflow_mul-to-in-loop-j
-overflow_mul-to-in-loop-j c = omega (arith, goal c.before)
+overflow_mul-to-in-loop-j c =
+    let goal : let a = c.args in c.loop-j.j * a.rows + a.rows ≤ a.side * a.rows = column_fits _ _ _ c.loop-j-test.true in
+    omega (arith, goal)
 
 pub overflow_mul-o : goal.overflow_mul-o
-overflow_mul-o c = omega (arith, source c)
+overflow_mul-o c =
+    let source : let a = c.args in c.read_place-o.result * a.rows + a.rows ≤ a.side * a.rows = column_fits _ _ _ c.read_place-o.ensures.1 in
+    omega (arith, source)
 
 pub bounds-values-j : goal.bounds-values-j
 bounds-values-j c = omega (arith, c.read_place-o.ensures.1)
 
 pub offset_bounds-out-to : goal.offset_bounds-out-to
-offset_bounds-out-to c = omega (arith, goal c.before.before)
+offset_bounds-out-to c =
+    let goal : let a = c.args in c.loop-j.j * a.rows + a.rows ≤ a.side * a.rows = column_fits _ _ _ c.loop-j-test.true in
+    omega (arith, goal)
 
 pub slice_bounds-direction_column-count : goal.slice_bounds-direction_column-count
-slice_bounds-direction_column-count c = omega (arith, goal c.before.before)
+slice_bounds-direction_column-count c =
+    let goal : let a = c.args in c.loop-j.j * a.rows + a.rows ≤ a.side * a.rows = column_fits _ _ _ c.loop-j-test.true in
+    omega (arith, goal)
 
 -- LEFT: no goal slice-bounds-direction-column-start
 -- part-direction-column-start c = omega (arith, goal c.before.before)
@@ -54,23 +54,26 @@ slice_bounds-direction_column-count c = omega (arith, goal c.before.before)
 -- part-direction-column-end c = omega (arith, goal c.before.before)
 
 pub direction_column-requires : goal.direction_column-requires
-direction_column-requires c = (source c.before.before, search rules, omega (arith, goal c.before.before.before, length-drop (2 * (c.loop-j.j * c.args.rows)) c.loop-j.out))
+direction_column-requires c =
+    let goal : let a = c.args in c.loop-j.j * a.rows + a.rows ≤ a.side * a.rows = column_fits _ _ _ c.loop-j-test.true in
+    let source : let a = c.args in c.read_place-o.result * a.rows + a.rows ≤ a.side * a.rows = column_fits _ _ _ c.read_place-o.ensures.1 in
+    (source, search rules, omega (arith, goal, length-drop (2 * (c.loop-j.j * c.args.rows)) c.loop-j.out))
 
 pub loop-j-preserved : goal.loop-j-preserved
 loop-j-preserved c =
-    let at-loop = c.before.before.before.before.before.before.before in
-    let a = at-loop.args in
+    let goal : let a = c.args in c.loop-j.j * a.rows + a.rows ≤ a.side * a.rows = column_fits _ _ _ c.loop-j-test.true in
+    let a = c.args in
     let o = c.read_place-o in
-    let l = goal c.before.before.before.before.before.before in (
+    let l = goal in (
       search rules,
       search rules,
       columns-more a.rows
           (λ j i r. direction_of a.wide (get_or a.values.now j nan) (plane_at a.work.now (a.side * a.rows) (i * a.rows + r)))
           (λ k. get_or (places_in a.order.now) k 0)
-          at-loop.loop-j.j
+          c.loop-j.j
           _
           (omega (arith, l))
-          at-loop.loop-j.invariant.2
+          c.loop-j.invariant.2
           o.ensures.0
           c.direction_column.ensures,
     )

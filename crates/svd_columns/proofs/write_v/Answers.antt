@@ -11,16 +11,6 @@ use Rattle.svd_columns.specs.Columns.{v_cell, in_columns, v_columns_of}
 use Rattle.svd_columns.proofs.Grids.{columns-none, columns-more, columns-all}
 use borrow.Author.Rules.{rules}
 use Rattle.svd_columns.proofs.write_v.Goals as goal
-use Rattle.svd_columns.proofs.write_v.Goals.{After-read_place-o, In-loop-j}
-
--- the column that is written, and the one that is read, end within their matrix
-goal : (c : In-loop-j)
-    → let a = c.args in c.loop-j.j * a.side + a.side ≤ a.side * a.side
-goal c = column_fits _ _ _ c.loop-j-test.true
-
-source : (c : After-read_place-o)
-    → let a = c.args in c.read_place-o.result * a.side + a.side ≤ a.side * a.side
-source c = column_fits _ _ _ c.read_place-o.ensures.1
 
 pub loop-j-init : goal.loop-j-init
 loop-j-init c = (search rules, refl, columns-none _ _ _)
@@ -29,19 +19,29 @@ pub read_place-o-requires : goal.read_place-o-requires
 read_place-o-requires c = (search rules, search rules, c.requires.4)
 
 pub overflow_mul-to : goal.overflow_mul-to
-overflow_mul-to c = omega (arith, goal c.before)
+overflow_mul-to c =
+    let goal : let a = c.args in c.loop-j.j * a.side + a.side ≤ a.side * a.side = column_fits _ _ _ c.loop-j-test.true in
+    omega (arith, goal)
 
 pub overflow_mul-to-in-loop-j : goal.overflow_mul-to-in-loop-j
-overflow_mul-to-in-loop-j c = omega (arith, goal c.before)
+overflow_mul-to-in-loop-j c =
+    let goal : let a = c.args in c.loop-j.j * a.side + a.side ≤ a.side * a.side = column_fits _ _ _ c.loop-j-test.true in
+    omega (arith, goal)
 
 pub overflow_mul-o : goal.overflow_mul-o
-overflow_mul-o c = omega (arith, source c)
+overflow_mul-o c =
+    let source : let a = c.args in c.read_place-o.result * a.side + a.side ≤ a.side * a.side = column_fits _ _ _ c.read_place-o.ensures.1 in
+    omega (arith, source)
 
 pub offset_bounds-out-to : goal.offset_bounds-out-to
-offset_bounds-out-to c = omega (arith, goal c.before)
+offset_bounds-out-to c =
+    let goal : let a = c.args in c.loop-j.j * a.side + a.side ≤ a.side * a.side = column_fits _ _ _ c.loop-j-test.true in
+    omega (arith, goal)
 
 pub slice_bounds-turn_column-count : goal.slice_bounds-turn_column-count
-slice_bounds-turn_column-count c = omega (arith, goal c.before)
+slice_bounds-turn_column-count c =
+    let goal : let a = c.args in c.loop-j.j * a.side + a.side ≤ a.side * a.side = column_fits _ _ _ c.loop-j-test.true in
+    omega (arith, goal)
 
 -- LEFT: no goal slice-bounds-turn-column-start
 -- part-turn-column-start c = omega (arith, goal c.before)
@@ -50,10 +50,15 @@ slice_bounds-turn_column-count c = omega (arith, goal c.before)
 -- part-turn-column-end c = omega (arith, goal c.before)
 
 pub turn_column-requires : goal.turn_column-requires
-turn_column-requires c = (source c.before, search rules, omega (arith, goal c.before.before, length-drop (2 * (c.loop-j.j * c.args.side)) c.loop-j.out))
+turn_column-requires c =
+    let goal : let a = c.args in c.loop-j.j * a.side + a.side ≤ a.side * a.side = column_fits _ _ _ c.loop-j-test.true in
+    let source : let a = c.args in c.read_place-o.result * a.side + a.side ≤ a.side * a.side = column_fits _ _ _ c.read_place-o.ensures.1 in
+    (source, search rules, omega (arith, goal, length-drop (2 * (c.loop-j.j * c.args.side)) c.loop-j.out))
 
 pub loop-j-preserved : goal.loop-j-preserved
-loop-j-preserved c = let at-loop = c.before.before.before.before.before.before in let a = c.args in let o = c.read_place-o in let l = goal c.before.before.before.before.before in (search rules, search rules, columns-more a.side (λ _ i r. v_cell a.wide (plane_at a.v.now (a.side * a.side) (i * a.side + r))) (λ k. get_or (places_in a.order.now) k 0) at-loop.loop-j.j _ (omega (arith, l)) at-loop.loop-j.invariant.2 o.ensures.0 c.turn_column.ensures)
+loop-j-preserved c =
+    let goal : let a = c.args in c.loop-j.j * a.side + a.side ≤ a.side * a.side = column_fits _ _ _ c.loop-j-test.true in
+    let a = c.args in let o = c.read_place-o in let l = goal in (search rules, search rules, columns-more a.side (λ _ i r. v_cell a.wide (plane_at a.v.now (a.side * a.side) (i * a.side + r))) (λ k. get_or (places_in a.order.now) k 0) c.loop-j.j _ (omega (arith, l)) c.loop-j.invariant.2 o.ensures.0 c.turn_column.ensures)
 
 pub returns : goal.returns
 unfolding v_columns_of

@@ -25,7 +25,7 @@ pub bounds-norms-o : goal.bounds-norms-o
 bounds-norms-o c = omega (arith, c.read_place-o.ensures.1)
 
 pub loop-j-preserved : goal.loop-j-preserved
-loop-j-preserved c = let b = c.before.before.before.before.before.before.before in (search rules, simp length-set c.loop-j.invariant.1, filled-step _ _ _ (omega (arith, b.requires.4, c.loop-j-test.true)) c.loop-j.invariant.2 (ap (λ o. get_or b.args.norms.now o nan) c.read_place-o.ensures.0))
+loop-j-preserved c = (search rules, simp length-set c.loop-j.invariant.1, filled-step _ _ _ (omega (arith, c.requires.4, c.loop-j-test.true)) c.loop-j.invariant.2 (ap (λ o. get_or c.args.norms.now o nan) c.read_place-o.ensures.0))
 
 pub returns : goal.returns
 unfolding sorted_of

@@ -10,7 +10,6 @@ loop-r-init c = (search rules, cc (gram_to-none _ _ _ _))
 
 pub loop-r-preserved : goal.loop-r-preserved
 loop-r-preserved c =
-    let g = c.before.before in
     (search rules, rw (c.one_row-g.ensures, c.read_plane-in-loop-r.ensures, c.read_plane.ensures, c.loop-r.invariant.1, gram_to-more))
 
 pub returns : goal.returns

@@ -9,18 +9,6 @@ use Rattle.svd_load.specs.Loading.{conjugate_transposed, planes_to}
 use Rattle.svd_load.proofs.LoadingLaws.{planes-none, planes-more, transposed-at}
 use borrow.Author.Rules.{rules}
 use Rattle.svd_load.proofs.load_row.Goals as goal
-use Rattle.svd_load.proofs.load_row.Goals.{In-loop-r}
-
--- the cell that is read, and the one that is written, lie within the matrix
-source : (c : In-loop-r)
-    → let a = c.args in c.loop-r.r * a.m + a.col < a.m * a.n
-source c =
-    let s = c.before.before.before.before in
-    rw (mul_comm s.args.m s.args.n) (digits_lt c.loop-r-test.true s.requires.0)
-
-goal : (c : In-loop-r)
-    → let a = c.args in a.col * a.n + c.loop-r.r < a.m * a.n
-goal c = digits_lt c.requires.0 c.loop-r-test.true
 
 pub overflow_mul-to : goal.overflow_mul-to
 overflow_mul-to c = omega (arith, column_fits c.args.col c.args.m c.args.n c.requires.0)
@@ -29,19 +17,29 @@ pub loop-r-init : goal.loop-r-init
 loop-r-init c = (search rules, refl, planes-none _ _ _ _)
 
 pub overflow_mul-r : goal.overflow_mul-r
-overflow_mul-r c = omega (arith, source c)
+overflow_mul-r c =
+    let source : let a = c.args in c.loop-r.r * a.m + a.col < a.m * a.n = rw (mul_comm c.args.m c.args.n) (digits_lt c.loop-r-test.true c.requires.0) in
+    omega (arith, source)
 
 pub overflow_add-r : goal.overflow_add-r
-overflow_add-r c = omega (arith, source c)
+overflow_add-r c =
+    let source : let a = c.args in c.loop-r.r * a.m + a.col < a.m * a.n = rw (mul_comm c.args.m c.args.n) (digits_lt c.loop-r-test.true c.requires.0) in
+    omega (arith, source)
 
 pub read_cell-z-requires : goal.read_cell-z-requires
-read_cell-z-requires c = omega (arith, source c)
+read_cell-z-requires c =
+    let source : let a = c.args in c.loop-r.r * a.m + a.col < a.m * a.n = rw (mul_comm c.args.m c.args.n) (digits_lt c.loop-r-test.true c.requires.0) in
+    omega (arith, source)
 
 pub overflow_add-to : goal.overflow_add-to
-overflow_add-to c = omega (arith, goal c.before.before)
+overflow_add-to c =
+    let goal : let a = c.args in a.col * a.n + c.loop-r.r < a.m * a.n = digits_lt c.requires.0 c.loop-r-test.true in
+    omega (arith, goal)
 
 pub write_plane-requires : goal.write_plane-requires
-write_plane-requires c = omega (arith, goal c.before.before.before)
+write_plane-requires c =
+    let goal : let a = c.args in a.col * a.n + c.loop-r.r < a.m * a.n = digits_lt c.requires.0 c.loop-r-test.true in
+    omega (arith, goal)
 
 pub loop-r-preserved : goal.loop-r-preserved
 loop-r-preserved c = (search rules, search rules, planes-more _ _ _ _ _ c.loop-r.invariant.2 (c.conj.ensures ∙ rw c.read_cell-z.ensures (transposed-at _ _ _ _ _ c.loop-r-test.true)) c.write_plane.ensures)

@@ -7,6 +7,5 @@ thin-sweeps-requires c = c.requires
 
 pub returns : goal.returns
 returns c =
-    let start = c.before.before.before.before.before.before.before.before.before.before.before.before.before.before.before.before.before.before.before.before.before.before.before.before.before.before.before.before in
     let t = c.thin-sweeps in
-    loaded _ _ start.args.u.now start.args.s.now start.args.vt.now _ _ start.requires t.auto.1.1.0 t.auto.1.1.1.0 t.auto.1.1.1.1.0 t.ensures c.finish-answer.ensures c.answered.ensures
+    loaded _ _ c.args.u.now c.args.s.now c.args.vt.now _ _ c.requires t.auto.1.1.0 t.auto.1.1.1.0 t.auto.1.1.1.1.0 t.ensures c.finish-answer.ensures c.answered.ensures

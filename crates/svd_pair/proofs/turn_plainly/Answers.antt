@@ -12,15 +12,13 @@ loop-r-init c = (search rules, refl, cc (turn_rows-none _ _ _ _ _ _))
 
 pub loop-r-preserved : goal.loop-r-preserved
 loop-r-preserved c =
-    let turned = c.before.before in
-    (search rules, search rules, rw (turned.turn_two_plainly.ensures, turned.loop-r.invariant.2, turn_rows-two))
+    (search rules, search rules, rw (c.turn_two_plainly.ensures, c.loop-r.invariant.2, turn_rows-two))
 
 pub returns-then-r-m : goal.returns-then-r-m
 returns-then-r-m c =
     let turned = c.before.before in
-    let loop = turned.before.before.before.before in
-    let a = loop.args in
-    stop (λ (k : ℕ). turn_rows plain a.f a.c a.a a.b k a.xs.now) {k = loop.loop-r.r + 1} (rw (turned.turn_row_plainly.ensures, loop.loop-r.invariant.2, ← turn_rows-more plain a.f a.c a.a a.b loop.loop-r.r a.xs.now)) (search rules) (search rules)
+    let a = c.args in
+    stop (λ (k : ℕ). turn_rows plain a.f a.c a.a a.b k a.xs.now) {k = c.loop-r.r + 1} (rw (c.turn_row_plainly.ensures, c.loop-r.invariant.2, ← turn_rows-more plain a.f a.c a.a a.b c.loop-r.r a.xs.now)) (search rules) (search rules)
 
 pub returns-else-r-m : goal.returns-else-r-m
 returns-else-r-m c =

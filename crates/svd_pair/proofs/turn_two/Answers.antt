@@ -18,12 +18,11 @@ pub new_q-requires-2 : goal.new_q-requires-2
 new_q-requires-2 c = (c.requires.3, c.scale-bz.ensures)
 
 pub write_two-requires-2 : goal.write_two-requires-2
-write_two-requires-2 c = (c.write_two.auto.0 ∙ c.requires.0, c.requires.2)
+write_two-requires-2 c = (c.write_two.auto.xs ∙ c.requires.0, c.requires.2)
 
 pub returns : goal.returns
 returns c =
     let wrote = c.before.before in
     let first = wrote.before.before.before.before.before.before in
-    let read = first.before.before.before.before.before.before in
-    rw (wrote.write_two-2.ensures, wrote.new_q-2.ensures, wrote.new_q.ensures, first.write_two.ensures, first.new_p-2.ensures, first.new_p.ensures, read.read_plane-bq.ensures, read.read_plane-bp.ensures, read.read_plane-aq.ensures, read.read_plane-ap.ensures)
+    rw (c.write_two-2.ensures, c.new_q-2.ensures, c.new_q.ensures, c.write_two.ensures, c.new_p-2.ensures, c.new_p.ensures, c.read_plane-bq.ensures, c.read_plane-bp.ensures, c.read_plane-aq.ensures, c.read_plane-ap.ensures)
     (turn-both exact _ _ _ _ _ c.requires.1 c.requires.2)

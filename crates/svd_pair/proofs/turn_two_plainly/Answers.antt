@@ -5,12 +5,11 @@ use Rattle.svd_pair.proofs.TurnsLaws.{turn-both}
 use Rattle.svd_pair.proofs.turn_two_plainly.Goals as goal
 
 pub write_two-requires-2 : goal.write_two-requires-2
-write_two-requires-2 c = (c.write_two.auto.0 ∙ c.requires.0, c.requires.2)
+write_two-requires-2 c = (c.write_two.auto.xs ∙ c.requires.0, c.requires.2)
 
 pub returns : goal.returns
 returns c =
     let wrote = c.before.before in
     let first = wrote.before.before.before.before.before.before in
-    let read = first.before.before.before.before in
-    rw (wrote.write_two-2.ensures, wrote.plain_q-2.ensures, wrote.plain_q.ensures, first.write_two.ensures, first.plain_p-2.ensures, first.plain_p.ensures, read.read_plane-bq.ensures, read.read_plane-bp.ensures, read.read_plane-aq.ensures, read.read_plane-ap.ensures)
+    rw (c.write_two-2.ensures, c.plain_q-2.ensures, c.plain_q.ensures, c.write_two.ensures, c.plain_p-2.ensures, c.plain_p.ensures, c.read_plane-bq.ensures, c.read_plane-bp.ensures, c.read_plane-aq.ensures, c.read_plane-ap.ensures)
     (turn-both plain _ _ _ _ _ c.requires.1 c.requires.2)

@@ -12,8 +12,7 @@ overflow_step-q c = omega (arith, c.requires.1, c.requires.0.columns)
 
 pub loop-q-init : goal.loop-q-init
 loop-q-init c =
-    let s = c.before.before.before in
-    (omega arith, omega (arith, s.requires.1), refl, refl, refl, pairs-none _ _ _, omega arith, refl, seen-into _ _ _ _ _ _ s.requires.0.columns s.requires.1 s.requires.6, s.requires.7)
+    (omega arith, omega (arith, c.requires.1), refl, refl, refl, pairs-none _ _ _, omega arith, refl, seen-into _ _ _ _ _ _ c.requires.0.columns c.requires.1 c.requires.6, c.requires.7)
 
 pub visit-t-requires : goal.visit-t-requires
 visit-t-requires c =
@@ -61,7 +60,6 @@ shape_of-marks c = c.loop-q.invariant.4
 
 pub returns : goal.returns
 returns c =
-    let s = c.before.before.before.before.before in
     let i = c.loop-q.invariant in
-    let e : c.loop-q.q ≡ s.args.n = omega (arith, i.1, c.loop-q-test.false) in
-    (rw e at i.5, (seen-column _ _ _ _ _ _ s.requires.0.columns s.requires.1 (seen_at (omega (arith, e)) i.8), i.9))
+    let e : c.loop-q.q ≡ c.args.n = omega (arith, i.1, c.loop-q-test.false) in
+    (rw e at i.5, (seen-column _ _ _ _ _ _ c.requires.0.columns c.requires.1 (seen_at (omega (arith, e)) i.8), i.9))

@@ -5,38 +5,54 @@ use Rattle.svd_sweeps.proofs.LateLaws.{pair_left, pair-turned}
 use native.Mathlib.Omega.{arith}
 use Prim.Native.Nat.{◌+◌, ◌*◌, ◌≤◌}
 use Rattle.svd_sweeps.proofs.pair.Goals as goal
-use Rattle.svd_sweeps.proofs.pair.Goals.{Start}
-
--- the column p ends before the column q begins, and that within the matrix
-work-p : (c : Start) → c.args.p * c.args.m + c.args.m ≤ c.args.q * c.args.m
-work-p c = column_fits _ _ _ c.requires.1
-
-work-q : (c : Start) → c.args.q * c.args.m + c.args.m ≤ c.args.n * c.args.m
-work-q c = column_fits _ _ _ c.requires.2
 
 pub overflow_mul-n : goal.overflow_mul-n
-overflow_mul-n c = omega (arith, work-p c.before.before.before, work-q c.before.before.before)
+overflow_mul-n c =
+    let work-p : c.args.p * c.args.m + c.args.m ≤ c.args.q * c.args.m = column_fits _ _ _ c.requires.1 in
+    let work-q : c.args.q * c.args.m + c.args.m ≤ c.args.n * c.args.m = column_fits _ _ _ c.requires.2 in
+    omega (arith, work-p, work-q)
 
 pub overflow_mul-p : goal.overflow_mul-p
-overflow_mul-p c = omega (arith, work-p c.before.before.before, work-q c.before.before.before)
+overflow_mul-p c =
+    let work-p : c.args.p * c.args.m + c.args.m ≤ c.args.q * c.args.m = column_fits _ _ _ c.requires.1 in
+    let work-q : c.args.q * c.args.m + c.args.m ≤ c.args.n * c.args.m = column_fits _ _ _ c.requires.2 in
+    omega (arith, work-p, work-q)
 
 pub overflow_mul-q : goal.overflow_mul-q
-overflow_mul-q c = omega (arith, work-p c.before.before.before, work-q c.before.before.before)
+overflow_mul-q c =
+    let work-p : c.args.p * c.args.m + c.args.m ≤ c.args.q * c.args.m = column_fits _ _ _ c.requires.1 in
+    let work-q : c.args.q * c.args.m + c.args.m ≤ c.args.n * c.args.m = column_fits _ _ _ c.requires.2 in
+    omega (arith, work-p, work-q)
 
 pub gram_of-requires : goal.gram_of-requires
-gram_of-requires c = omega (arith, work-p c.before.before.before, work-q c.before.before.before)
+gram_of-requires c =
+    let work-p : c.args.p * c.args.m + c.args.m ≤ c.args.q * c.args.m = column_fits _ _ _ c.requires.1 in
+    let work-q : c.args.q * c.args.m + c.args.m ≤ c.args.n * c.args.m = column_fits _ _ _ c.requires.2 in
+    omega (arith, work-p, work-q)
 
 pub overflow_mul-n-in-Turn : goal.overflow_mul-n-in-Turn
-overflow_mul-n-in-Turn c = omega (arith, work-p c.before.before.before.before.before.before.before.before.before.before.before.before.before, work-q c.before.before.before.before.before.before.before.before.before.before.before.before.before)
+overflow_mul-n-in-Turn c =
+    let work-p : c.args.p * c.args.m + c.args.m ≤ c.args.q * c.args.m = column_fits _ _ _ c.requires.1 in
+    let work-q : c.args.q * c.args.m + c.args.m ≤ c.args.n * c.args.m = column_fits _ _ _ c.requires.2 in
+    omega (arith, work-p, work-q)
 
 pub overflow_mul-p-in-Turn : goal.overflow_mul-p-in-Turn
-overflow_mul-p-in-Turn c = omega (arith, work-p c.before.before.before.before.before.before.before.before.before.before.before.before.before, work-q c.before.before.before.before.before.before.before.before.before.before.before.before.before)
+overflow_mul-p-in-Turn c =
+    let work-p : c.args.p * c.args.m + c.args.m ≤ c.args.q * c.args.m = column_fits _ _ _ c.requires.1 in
+    let work-q : c.args.q * c.args.m + c.args.m ≤ c.args.n * c.args.m = column_fits _ _ _ c.requires.2 in
+    omega (arith, work-p, work-q)
 
 pub overflow_mul-q-in-Turn : goal.overflow_mul-q-in-Turn
-overflow_mul-q-in-Turn c = omega (arith, work-p c.before.before.before.before.before.before.before.before.before.before.before.before.before, work-q c.before.before.before.before.before.before.before.before.before.before.before.before.before)
+overflow_mul-q-in-Turn c =
+    let work-p : c.args.p * c.args.m + c.args.m ≤ c.args.q * c.args.m = column_fits _ _ _ c.requires.1 in
+    let work-q : c.args.q * c.args.m + c.args.m ≤ c.args.n * c.args.m = column_fits _ _ _ c.requires.2 in
+    omega (arith, work-p, work-q)
 
 pub turn_columns-requires : goal.turn_columns-requires
-turn_columns-requires c = omega (arith, work-p c.before.before.before.before.before.before.before.before.before.before.before.before.before, work-q c.before.before.before.before.before.before.before.before.before.before.before.before.before)
+turn_columns-requires c =
+    let work-p : c.args.p * c.args.m + c.args.m ≤ c.args.q * c.args.m = column_fits _ _ _ c.requires.1 in
+    let work-q : c.args.q * c.args.m + c.args.m ≤ c.args.n * c.args.m = column_fits _ _ _ c.requires.2 in
+    omega (arith, work-p, work-q)
 
 pub returns-in-Turn : goal.returns-in-Turn
 returns-in-Turn c = let start = c.requires in

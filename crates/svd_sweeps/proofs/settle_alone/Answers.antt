@@ -3,4 +3,4 @@ use Rattle.sweeps.proofs.SweepingLaws.{state-alone}
 use Rattle.svd_sweeps.proofs.settle_alone.Goals as goal
 
 pub returns : goal.returns
-returns c = state-alone c.settle.auto.1.0 c.settle.ensures
+returns c = state-alone c.settle.auto.v c.settle.ensures

@@ -14,9 +14,8 @@ use Rattle.svd_sweeps.proofs.sweep.Goals as goal
 
 pub loop-p-init : goal.loop-p-init
 loop-p-init c =
-    let s = c.before.before.before.before in
     let begun = c.begin_sweep-t.ensures in
-    (omega arith, refl, refl, refl, columns-none _ _ _, omega arith, refl, seen_at (sym (ap (λ (x : Late). look x.s.begun 0 0) begun)) s.requires.4, begun-waits _ _ begun s.requires.5)
+    (omega arith, refl, refl, refl, columns-none _ _ _, omega arith, refl, seen_at (sym (ap (λ (x : Late). look x.s.begun 0 0) begun)) c.requires.4, begun-waits _ _ begun c.requires.5)
 
 pub column-t-requires : goal.column-t-requires
 column-t-requires c =
@@ -71,10 +70,9 @@ shape_of-marks c = c.loop-p.invariant.3
 
 pub returns : goal.returns
 returns c =
-    let s = c.before.before.before.before.before.before in
     let began = c.begin_sweep-t.ensures in
     let number = ap (λ (x : Late). x.s.begun) began in
     let i = c.loop-p.invariant in
-    let e : c.loop-p.p ≡ s.args.n = omega (arith, i.0, c.loop-p-test.false) in
+    let e : c.loop-p.p ≡ c.args.n = omega (arith, i.0, c.loop-p-test.false) in
     let made = sweep-made (svd_pairings _ _ _) _ _ refl (rw e at i.4 ∙ ap (columns_to _ _ _) (begun-state _ _ _ _ _ began)) in
-    (made, (seen_at (omega arith) (seen-sweep _ _ (s.args.w.s.begun + 1) _ _ s.requires.0.columns (seen_at (omega (arith, e, number)) i.7)), i.8))
+    (made, (seen_at (omega arith) (seen-sweep _ _ (c.args.w.s.begun + 1) _ _ c.requires.0.columns (seen_at (omega (arith, e, number)) i.7)), i.8))

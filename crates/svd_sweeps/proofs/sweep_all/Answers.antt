@@ -47,7 +47,6 @@ loop-k-preserved c =
     let i = c.loop-k.invariant in
     let l = c.loop-k-test.true in
     let r = c.sweep-w in
-    let s = c.before.before.before.before.before.before.before.before.before.before.before.before.before.before.before.before in
     let w = sweep-after _ _ _ r.ensures.0 in (
       omega (arith, l),
       r.auto.0 ∙ i.1,
@@ -55,7 +54,7 @@ loop-k-preserved c =
       r.auto.1.1.0 ∙ i.3,
       sweeps-more _ _ 100 _ _ l i.4 r.ensures.0 c.if-s.false,
       omega (arith, w.begun, i.5),
-      omega (arith, w.turned, i.6, pairs-few _ s.args.n s.requires.columns, s.requires.columns),
+      omega (arith, w.turned, i.6, pairs-few _ c.args.n c.requires.columns, c.requires.columns),
       seen_at (omega (arith, w.begun)) r.ensures.1.0,
       r.ensures.1.1,
     )
@@ -64,10 +63,10 @@ pub returns-after-loop-k : goal.returns-after-loop-k
 returns-after-loop-k c = record { done = sweeps-done _ _ 100 _ c.loop-k-test.false c.loop-k.invariant.4; waiting = c.loop-k.invariant.8 }
 
 pub shape_of-work-then-s : goal.shape_of-work-then-s
-shape_of-work-then-s c = c.sweep-w.auto.0 ∙ c.loop-k.invariant.1
+shape_of-work-then-s c = c.sweep-w.auto.work ∙ c.loop-k.invariant.1
 
 pub shape_of-v-then-s : goal.shape_of-v-then-s
-shape_of-v-then-s c = c.sweep-w.auto.1.0 ∙ c.loop-k.invariant.2
+shape_of-v-then-s c = c.sweep-w.auto.v ∙ c.loop-k.invariant.2
 
 pub returns-then-s : goal.returns-then-s
 returns-then-s c = let swept = c.sweep-w.ensures in record { done = sweeps-quiet _ _ 100 _ _ c.loop-k-test.true c.loop-k.invariant.4 swept.0 c.if-s.true; waiting = swept.1.1 }

@@ -8,19 +8,17 @@ use Rattle.svd_sweeps.proofs.visit.Goals as goal
 
 pub returns-then-unchanged : goal.returns-then-unchanged
 returns-then-unchanged c =
-    let start = c.before.before.before.before.before.before.before.before in
-    let k = start.requires.1 in
+    let k = c.requires.1 in
     let old = c.unchanged.ensures c.if-unchanged.true in
-    let left = seen-old _ _ _ _ _ _ _ k.begun k.rising k.within old.0 old.1 start.requires.2 in
-    (passed_over _ _ _ _ _ _ left, (seen-left _ _ _ _ _ _ _ start.requires.0.columns k.rising k.within left start.requires.2, start.requires.3))
+    let left = seen-old _ _ _ _ _ _ _ k.begun k.rising k.within old.0 old.1 c.requires.2 in
+    (passed_over _ _ _ _ _ _ left, (seen-left _ _ _ _ _ _ _ c.requires.0.columns k.rising k.within left c.requires.2, c.requires.3))
 
 pub returns-then-r-s : goal.returns-then-r-s
 returns-then-r-s c =
-    let start = c.before.before.before.before.before.before.before.before.before.before.before.before.before.before.before.before.before.before.before in
-    let k = start.requires.1 in
+    let k = c.requires.1 in
     let done = c.pair-t.ensures in
     let left = uncounted _ _ _ _ _ _ done.0 c.if-r-s.true in
-    (done.0, (seen_same left.1 (seen-left _ _ _ _ _ _ _ start.requires.0.columns k.rising k.within left.0 start.requires.2), done.1))
+    (done.0, (seen_same left.1 (seen-left _ _ _ _ _ _ _ c.requires.0.columns k.rising k.within left.0 c.requires.2), done.1))
 
 pub offset_bounds-marks-p : goal.offset_bounds-marks-p
 offset_bounds-marks-p c = omega (arith, c.requires.1.rising, c.requires.1.within, c.requires.0.columns)
@@ -33,14 +31,12 @@ offset_bounds-marks-q c = omega (arith, c.requires.1.rising, c.requires.1.within
 
 pub bounds-marks-q : goal.bounds-marks-q
 bounds-marks-q c =
-    let start = c.before.before.before.before.before.before.before.before.before.before.before.before.before.before.before.before.before.before.before in
-    let h : start.args.q < length start.args.marks.now = omega (arith, start.requires.1.marks, start.requires.1.within, start.requires.0.columns) in
-    lt-length-set start.args.marks.now start.args.p (start.args.w.s.begun * 4096 + start.args.p * 64 + start.args.q) h
+    let h : c.args.q < length c.args.marks.now = omega (arith, c.requires.1.marks, c.requires.1.within, c.requires.0.columns) in
+    lt-length-set c.args.marks.now c.args.p (c.args.w.s.begun * 4096 + c.args.p * 64 + c.args.q) h
 
 pub returns : goal.returns
 returns c =
-    let start = c.before.before.before.before.before.before.before.before.before.before.before.before.before.before.before.before.before.before.before in
-    let k = start.requires.1 in
+    let k = c.requires.1 in
     let done = c.pair-t.ensures in
-    let seen = seen_turned _ _ _ _ _ _ _ _ _ start.requires.0.columns k.rising k.within k.marks (done-to _ _ _ _ _ _ done.0) start.requires.2 in
+    let seen = seen_turned _ _ _ _ _ _ _ _ _ c.requires.0.columns k.rising k.within k.marks (done-to _ _ _ _ _ _ done.0) c.requires.2 in
     (done.0, (seen, done.1))

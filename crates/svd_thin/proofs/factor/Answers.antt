@@ -20,11 +20,9 @@ write_from-requires c = (search rules, search rules, ranked-places _ _ _ _ _ c.r
 
 pub returns : goal.returns
 returns c =
-    let start = c.before.before.before.before.before.before.before.before.before.before.before.before.before.before.before.before.before.before.before.before.before.before.before.before.before.before.before.before.before.before in
-    let swept = c.before.before.before.before.before.before.before.before.before.before.before.before.before.before.before.before.before.before.before.before.before.before.before in
-    thin-made _ _ _ _ _ start.requires.0.columns
-    (swept.sweep-sweeps.auto.1.0 ∙ length-take-le _ _ (omega (arith, square-fits start.args.rows start.args.side start.requires.0.tall, start.requires.1)))
-    swept.sweep-sweeps.ensures
+    thin-made _ _ _ _ _ c.requires.0.columns
+    (c.sweep-sweeps.auto.v ∙ length-take-le _ _ (omega (arith, square-fits c.args.rows c.args.side c.requires.0.tall, c.requires.1)))
+    c.sweep-sweeps.ensures
     c.rank.ensures
     c.write_from.ensures.0
     c.write_from.ensures.1

@@ -31,13 +31,10 @@ sort-requires c = (search rules, length-take-le _ _ (omega (arith, side-fits c.a
 
 pub returns : goal.returns
 returns c =
-    let start = c.before.before.before.before.before.before.before.before.before.before.before.before.before.before.before.before in
-    let n = c.before.before.before.before.before.before.before.before.before.before in
-    let t = c.before.before.before.before in
-    let fits : 2 * (start.args.side * start.args.rows) + start.args.side ≤ length start.args.scratch.now = omega (arith, start.requires.scratch-is) in
+    let fits : 2 * (c.args.side * c.args.rows) + c.args.side ≤ length c.args.scratch.now = omega (arith, c.requires.scratch-is) in
     ranked-made _ _ _ _ fits
-    (n.norms.auto.1.1.1.0 ∙ length-take-le _ _ (omega (arith, side-fits start.args.side, start.requires.other-is)))
-    n.norms.ensures
-    (t.sort.auto.1.1.1.0 ∙ part_length _ _ _ fits)
-    t.sort.ensures.0
-    t.sort.ensures.1
+    (c.norms.auto.1.1.1.0 ∙ length-take-le _ _ (omega (arith, side-fits c.args.side, c.requires.other-is)))
+    c.norms.ensures
+    (c.sort.auto.1.1.1.0 ∙ part_length _ _ _ fits)
+    c.sort.ensures.0
+    c.sort.ensures.1

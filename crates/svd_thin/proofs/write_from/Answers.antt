@@ -11,18 +11,18 @@ slice_bounds-write_factors-end c = sym (length-take-le _ _ (omega (arith, c.requ
 
 pub write_factors-requires : goal.write_factors-requires
 write_factors-requires c =
-    let start = c.before.before.before.before.before.before.before.before in (
+    (
       record {
-        tall = start.requires.0.tall;
-        columns = start.requires.0.columns;
-        cells = start.requires.0.cells;
-        work-is = length-take-le _ _ (omega (arith, start.requires.0.scratch-is));
-        order_is = part_length (2 * (start.args.side * start.args.rows)) start.args.side start.args.scratch.now (omega (arith, start.requires.0.scratch-is));
-        s-is = start.requires.0.s-is;
-        main-is = start.requires.1;
-        other-is = start.requires.0.other-is;
+        tall = c.requires.0.tall;
+        columns = c.requires.0.columns;
+        cells = c.requires.0.cells;
+        work-is = length-take-le _ _ (omega (arith, c.requires.0.scratch-is));
+        order_is = part_length (2 * (c.args.side * c.args.rows)) c.args.side c.args.scratch.now (omega (arith, c.requires.0.scratch-is));
+        s-is = c.requires.0.s-is;
+        main-is = c.requires.1;
+        other-is = c.requires.0.other-is;
       },
-      start.requires.2,
+      c.requires.2,
     )
 
 pub returns : goal.returns

@@ -6,7 +6,7 @@ use Rattle.texts.proofs.TextLaws.{puts_then}
 use Rattle.texts.proofs.put_item.Goals as goal
 
 pub put_decimal-requires : goal.put_decimal-requires
-put_decimal-requires c = omega (arith, c.put_text-next.ensures.next, c.put_text-next.auto.0)
+put_decimal-requires c = omega (arith, c.put_text-next.ensures.next, c.put_text-next.auto.out)
 
 pub returns : goal.returns
 unfolding item_text

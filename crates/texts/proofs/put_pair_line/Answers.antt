@@ -6,7 +6,7 @@ use Rattle.texts.proofs.TextLaws.{length-item, puts_then}
 use Rattle.texts.proofs.put_pair_line.Goals as goal
 
 pub put_line-requires : goal.put_line-requires
-put_line-requires c = omega (arith, c.put_item-next.ensures.next, c.put_item-next.auto.0, length-item c.args.word.now c.args.a)
+put_line-requires c = omega (arith, c.put_item-next.ensures.next, c.put_item-next.auto.out, length-item c.args.word.now c.args.a)
 
 pub returns : goal.returns
 unfolding pair_line

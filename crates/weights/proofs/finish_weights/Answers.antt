@@ -8,14 +8,6 @@ use lib.Ieee.{binary64, mul}
 use Rattle.finish.specs.Finish.{value_floor}
 use Rattle.weights.proofs.WeightLaws.{roots-le, weights-made}
 use Rattle.weights.proofs.finish_weights.Goals as goal
-use Rattle.weights.proofs.finish_weights.Goals.{After-roots_above-count}
-
--- there are at most n roots
-few : (c : After-roots_above-count) → c.roots_above-count.result ≤ c.args.n
-few c =
-    let z = c.before.before.before.before.before.before.before in
-    let l = take z.args.n z.args.out.now in
-    omega (arith, c.roots_above-count.ensures.0, roots-le (mul binary64 c.largest_weight-floor.result value_floor) l, length-take-le z.args.n z.args.out.now z.requires.0)
 
 pub slice_bounds-largest_weight-end-2 : goal.slice_bounds-largest_weight-end-2
 slice_bounds-largest_weight-end-2 c = sym (length-take-le _ _ c.requires.0)
@@ -27,13 +19,19 @@ pub roots_above-count-requires : goal.roots_above-count-requires
 roots_above-count-requires c = omega (arith, length-take-le c.args.n c.args.out.now c.requires.0, c.requires.1)
 
 pub slice_bounds-finish_values-end : goal.slice_bounds-finish_values-end
-slice_bounds-finish_values-end c = omega (arith, few c.before.before.before.before.before.before, c.roots_above-count.auto.1.1.0, c.requires.1)
+slice_bounds-finish_values-end c =
+    let few : c.roots_above-count.result ≤ c.args.n = let l = take c.args.n c.args.out.now in omega (arith, c.roots_above-count.ensures.0, roots-le (mul binary64 c.largest_weight-floor.result value_floor) l, length-take-le c.args.n c.args.out.now c.requires.0) in
+    omega (arith, few, c.roots_above-count.auto.1.1.0, c.requires.1)
 
 pub slice_bounds-finish_values-end-2 : goal.slice_bounds-finish_values-end-2
-slice_bounds-finish_values-end-2 c = sym (length-take-le _ _ (omega (arith, few c.before.before.before.before.before.before.before, c.roots_above-count.auto.1.1.0, c.requires.1)))
+slice_bounds-finish_values-end-2 c =
+    let few : c.roots_above-count.result ≤ c.args.n = let l = take c.args.n c.args.out.now in omega (arith, c.roots_above-count.ensures.0, roots-le (mul binary64 c.largest_weight-floor.result value_floor) l, length-take-le c.args.n c.args.out.now c.requires.0) in
+    sym (length-take-le _ _ (omega (arith, few, c.roots_above-count.auto.1.1.0, c.requires.1)))
 
 pub finish_values-requires : goal.finish_values-requires
-finish_values-requires c = let n = few c.before.before.before.before.before.before.before.before in let k = c.roots_above-count.auto.1.1.0 in let p = c.requires in omega (arith, length-take-le c.roots_above-count.result c.roots_above-count.new.1.1.0 (omega (arith, n, k, p.1)), n, p.0, c.zero_first.auto.0)
+finish_values-requires c =
+    let few : c.roots_above-count.result ≤ c.args.n = let l = take c.args.n c.args.out.now in omega (arith, c.roots_above-count.ensures.0, roots-le (mul binary64 c.largest_weight-floor.result value_floor) l, length-take-le c.args.n c.args.out.now c.requires.0) in
+    let n = few in let k = c.roots_above-count.auto.1.1.0 in let p = c.requires in omega (arith, length-take-le c.roots_above-count.result c.roots_above-count.new.1.1.0 (omega (arith, n, k, p.1)), n, p.0, c.zero_first.auto.s)
 
 pub returns : goal.returns
 returns c = weights-made _ _ c.requires.0 c.largest_weight-floor.ensures refl c.roots_above-count.ensures.1 c.zero_first.ensures c.finish_values.ensures

@@ -20,7 +20,7 @@ pub overflow_add-count : goal.overflow_add-count
 overflow_add-count c = omega (arith, c.loop-i.invariant.2, c.loop-i.invariant.3, c.loop-i-test.true, c.requires)
 
 pub loop-i-preserved : goal.loop-i-preserved
-loop-i-preserved c = let l = c.loop-i.invariant in let z = c.before.before.before.before.before.before in let h = c.loop-i-test.true in (refl, omega (arith, h), ⊎_elim (λ w. omega (arith, w.3, l.2)) (λ w. omega (arith, w.2, l.2)) c.if-w-floor.branch, ⊎_elim (λ w. ap length w.2 ∙ simp length-set l.3) (λ w. ap length w.1 ∙ l.3) c.if-w-floor.branch, ⊎_elim (λ w. rw (w.2, w.3) (roots-put z.args.floor z.args.s.now c.loop-i.roots c.loop-i.i c.loop-i.count h (omega (arith, h, l.2, l.3, z.requires)) w.0.taken w.1.ensures.0 l.4)) (λ w. rw (w.1, w.2) (roots-pass z.args.floor z.args.s.now c.loop-i.roots c.loop-i.i c.loop-i.count h w.0.left l.4)) c.if-w-floor.branch)
+loop-i-preserved c = let l = c.loop-i.invariant in let h = c.loop-i-test.true in (refl, omega (arith, h), ⊎_elim (λ w. omega (arith, w.3, l.2)) (λ w. omega (arith, w.2, l.2)) c.if-w-floor.branch, ⊎_elim (λ w. ap length w.2 ∙ simp length-set l.3) (λ w. ap length w.1 ∙ l.3) c.if-w-floor.branch, ⊎_elim (λ w. rw (w.2, w.3) (roots-put c.args.floor c.args.s.now c.loop-i.roots c.loop-i.i c.loop-i.count h (omega (arith, h, l.2, l.3, c.requires)) w.0.taken w.1.ensures.0 l.4)) (λ w. rw (w.1, w.2) (roots-pass c.args.floor c.args.s.now c.loop-i.roots c.loop-i.i c.loop-i.count h w.0.left l.4)) c.if-w-floor.branch)
 
 pub returns : goal.returns
 returns c = roots-all _ _ _ _ _ c.loop-i-test.false (omega (arith, c.loop-i.invariant.2, c.loop-i.invariant.3, c.loop-i.invariant.1, c.loop-i.invariant.0, c.requires)) c.loop-i.invariant.4

@@ -6,4 +6,4 @@ use Rattle.complex.proofs.Complex.add_term.Goals as goal
 
 pub returns : goal.returns
 unfolding sum_of conjugate_product
-returns c = let z = c.before.before.before.before.before.before.before.before.before.before in ap (sum_of z.args.self) (conjugate-product z.args.a z.args.b)
+returns c = ap (sum_of c.args.self) (conjugate-product c.args.a c.args.b)

@@ -8,5 +8,4 @@ use Rattle.svd_pair.proofs.Factors.new_q.Goals as goal
 pub returns : goal.returns
 unfolding new_q
 returns c =
-    let start = c.before.before.before.before.before.before.before.before in
-    c.add.ensures ∙ ap₂ sum_of (times-minus _ _ _ start.requires.0.sine start.requires.1) c.mul.ensures
+    c.add.ensures ∙ ap₂ sum_of (times-minus _ _ _ c.requires.0.sine c.requires.1) c.mul.ensures
