@@ -1,6 +1,7 @@
 // Inner: the 4,096 cells of a slab, two numbers each, as 64-bit patterns: the map of held cells, the scan of
 // the free ones, and what a call writes.
 #![tactic(auto)]
+
 ghost use Rattle.std.specs.Prelude.{◌≡◌, true, false, ◌||◌, ◌+◌, ◌*◌, ◌≤◌, ◌<◌, length, get_or};
 ghost use Rattle.slab_sites.specs.Sites.{each_apart};
 ghost use Rattle.slab_cells.specs.Cells.{blank, clean, marked, marked_entry, map_of, pasted, wiped};

@@ -1,5 +1,6 @@
 // Inner: what an accepted call writes: the cells and the index of a slab.
 #![tactic(auto)]
+
 ghost use Rattle.std.specs.Prelude.{◌≡◌, ◌+◌, ◌*◌, ◌/◌, ◌≤◌, ◌<◌, length};
 ghost use Rattle.slab_sites.specs.Sites.{count, site_at};
 ghost use Rattle.slab_cells.specs.Cells.{pasted, wiped};
