@@ -1,5 +1,6 @@
 // Inner: the refusals of a call that countersigns, 1, 6, 7 and 11, in this order.
 #![tactic(auto)]
+
 ghost use Rattle.std.specs.Prelude.{◌≡◌, ◌*◌, ◌<◌, ◌≤◌, length};
 ghost use Rattle.answers.specs.Paper.{paper};
 ghost use Rattle.countersign_checks.specs.Checks.{countersign_sizes, countersign_lengths, countersign_components, off_grid, countersign_grid, countersign_tests};

@@ -2,6 +2,7 @@
 // vectors stand one after the other, `len` cells each: the columns of U, or the rows of V†. Their numbers are read from
 // xs, where those of x stand.
 #![tactic(auto)]
+
 ghost use Rattle.std.specs.Prelude.{◌≡◌, ◌+◌, ◌*◌, ◌^◌, ◌<◌, ◌≤◌, length};
 ghost use Rattle.countersign_sums.specs.Integers.{Alike};
 ghost use Rattle.countersign_shifted.specs.Shifted.{Shifted};

@@ -1,6 +1,7 @@
 // Inner: an entry of A less that of U·S·V†, exactly, in whole numbers of 2^-54. The numbers of U, S and V† are read from us,
 // ss and vs, where they stand.
 #![tactic(auto)]
+
 ghost use Rattle.std.specs.Prelude.{◌≡◌, ◌+◌, ◌*◌, ◌^◌, ◌<◌, ◌≤◌, length};
 ghost use Rattle.countersign_sums.specs.Integers.{Alike};
 ghost use Rattle.countersign_products.specs.Products.{Factors, Read, term, terms_of, product_gap, product_fits};

@@ -2,6 +2,7 @@
 // calls one of `cutfile` on the slice and the numbers. The borrow checker covers no function over such a struct, so each
 // is proved by hand; callers use the two at the end, whose parameters are plain. All but `open` are inner.
 #![tactic(auto)]
+
 ghost use Rattle.std.specs.Prelude.{◌≡◌, ◌+◌, ◌*◌, ◌^◌, ◌<◌};
 ghost use Rattle.cutfile.specs.Layout.{LongEnough, file_entry, bits_at, n_of, k_of};
 

@@ -1,5 +1,6 @@
 // The entries of a density. Inner: densities and agreement stand on it.
 #![tactic(auto)]
+
 ghost use Rattle.std.specs.Prelude.{◌≡◌, ◌+◌, ◌*◌, ◌/◌, ◌<◌, ◌≤◌, length};
 ghost use Rattle.qubits.specs.Lists.{Listed};
 ghost use Rattle.density_entries.specs.Squares.{mirrored, Square};

@@ -1,5 +1,6 @@
 // The lower half of a density, two rows at a time over amplitudes in planes. Inner: diagonals stands on it.
 #![tactic(auto)]
+
 ghost use Rattle.std.specs.Prelude.{◌≡◌, ◌+◌, ◌*◌, ◌/◌, ◌%◌, ◌<◌, ◌≤◌, length, get_or};
 ghost use Rattle.complex.specs.Planes.{plane_at};
 ghost use Rattle.density_entries.specs.Squares.{Square};

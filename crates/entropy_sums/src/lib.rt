@@ -1,5 +1,6 @@
 // Inner: the weights that are left of Schmidt values, their sum, and each one's band in the sum.
 #![tactic(auto)]
+
 ghost use Rattle.std.specs.Prelude.{◌≡◌, ◌+◌, ◌*◌, ◌^◌, ◌≤◌, ◌<◌, length, replicate};
 ghost use Rattle.entropy_powers.specs.Powers.{PowersSized};
 ghost use Rattle.entropy_sums.specs.Sums.{weights_left, weight_sum, set_band, bands_with, sums_with, SumsFit, FillReady, Filled};

@@ -1,5 +1,6 @@
 // Inner: the weight of a Schmidt value: the floor of its exact square times 2^24, from its bits.
 #![tactic(auto)]
+
 ghost use Rattle.std.specs.Prelude.{◌≡◌, ◌*◌, ◌/◌, ◌^◌, ◌<◌};
 ghost use Rattle.entropy_weights.specs.Weights.{weight_of};
 

@@ -1,5 +1,6 @@
 // The finish of Schmidt values: sorted downward, cut at the floor, scaled so that the squares sum to 1.
 #![tactic(auto)]
+
 ghost use Rattle.std.specs.Prelude.{◌≡◌, ◌++◌, ◌≤◌, length, take, drop};
 ghost use Rattle.answers.specs.Paper.{paper};
 ghost use Rattle.values.specs.Lists.{all_finite};

@@ -1,5 +1,6 @@
 // Row offsets and traced bases asked alone: refused as a density without its state.
 #![tactic(auto)]
+
 ghost use Rattle.std.specs.Prelude.{◌≡◌, ◌-◌, ◌^◌, ◌≤◌, length};
 ghost use Rattle.answers.specs.Paper.{paper};
 ghost use Rattle.qubits.specs.Lists.{density_sizes, Listed};

@@ -1,5 +1,6 @@
 // Lists of qubits: which are refused, their masks, and where the bits of an index land.
 #![tactic(auto)]
+
 ghost use Rattle.std.specs.Prelude.{◌≡◌, ◌+◌, ◌-◌, ◌^◌, ◌<◌, ◌≤◌, length};
 ghost use Rattle.answers.specs.Paper.{paper};
 ghost use Rattle.qubits.specs.Lists.{stands, qubit_set, subsystem, Listed};

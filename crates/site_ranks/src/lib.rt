@@ -1,5 +1,6 @@
 // Ranks of cuts: what a threshold keeps of singular values, and what the bonds allow. From src/backend/mps/svd.rs.
 #![tactic(auto)]
+
 ghost use Rattle.std.specs.Prelude.{◌≡◌, Bool, ◌+◌, ◌-◌, ◌*◌, ◌<◌, ◌≤◌, ◌^◌, min, max, length};
 ghost use Rattle.answers.specs.Paper.{paper};
 ghost use Rattle.site_ranks.specs.Ranks.{first_or_zero, above_count, rank_of, discards_of, Ranked, bond_sizes, cut_rank_of, widest_sizes, cut_after, widest_to, widest_of};

@@ -36,7 +36,9 @@ or_assoc =
 pub and-or : (a b m : ℕ) → bit_and (bit_or a b) m ≡ bit_or (bit_and a m) (bit_and b m)
 and-or =
     bin_ind (λ (a : ℕ). (b m : ℕ) → bit_and (bit_or a b) m ≡ bit_or (bit_and a m) (bit_and b m))
-    (λ b m. rw (or_zero_l b, and_zero_l m, or_zero_l (bit_and b m)))
+    (λ b m.
+    ap (λ (x : ℕ). bit_and x m) (or_zero_l b)
+    ∙ sym (ap (λ (x : ℕ). bit_or x (bit_and b m)) (and_zero_l m) ∙ or_zero_l (bit_and b m)))
     (λ a ih b m.
     same
     (and-half (bit_or a b) m ∙ ap (λ (x : ℕ). bit_and x (m / 2)) (or-half a b) ∙ ih (b / 2) (m / 2)

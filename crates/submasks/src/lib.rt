@@ -1,5 +1,6 @@
 // A submask of a mask and the next one. Inner: qubits, cuts and densities stand on it.
 #![tactic(auto)]
+
 ghost use Rattle.std.specs.Prelude.{◌≡◌};
 ghost use Rattle.submasks.specs.Submasks.{next_submask};
 

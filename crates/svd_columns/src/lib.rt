@@ -1,6 +1,7 @@
 // Inner: what comes after the sweeps of the SVD. The work matrix has `side` columns of `rows` cells and V
 // has `side` columns of `side` cells, both as planes; `order` keeps the order of the columns.
 #![tactic(auto)]
+
 ghost use Rattle.std.specs.Prelude.{◌≡◌, ◌+◌, ◌*◌, ◌<◌, ◌≤◌, length};
 ghost use Rattle.complex.specs.Cells.{written};
 ghost use Rattle.complex.specs.Planes.{plane_at};

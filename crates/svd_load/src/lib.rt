@@ -1,6 +1,7 @@
 // Inner: what the sweeps of the SVD start from, in planes: the matrix, or its conjugate transpose where
 // it is wider than tall, and the unit matrix.
 #![tactic(auto)]
+
 ghost use Rattle.std.specs.Prelude.{◌≡◌, ◌*◌, ◌<◌, ◌≤◌, length};
 ghost use Rattle.complex.specs.Cells.{cell_at};
 ghost use Rattle.svd_load.specs.Loading.{planes_of, planes_to, conjugate_transposed, unit_planes};

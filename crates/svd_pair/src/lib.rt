@@ -1,6 +1,7 @@
 // Inner: what the Jacobi sweeps do with one pair of columns of a matrix that is lent as planes: the
 // decision by its Gram sums, and the turn.
 #![tactic(auto)]
+
 ghost use Rattle.std.specs.Prelude.{◌≡◌, ◌+◌, ◌*◌, ◌<◌, ◌≤◌, length};
 ghost use Rattle.complex.specs.Arithmetic.{scaled};
 ghost use Rattle.complex.specs.Planes.{set_plane};

@@ -1,5 +1,6 @@
 // Lists of values: which are allowed, their downward order, what a floor keeps, sums and scaling. Inner: the calls of 01 that work on lists of values use these.
 #![tactic(auto)]
+
 ghost use Rattle.std.specs.Prelude.{◌≡◌, ◌<◌, ◌≤◌, length};
 ghost use Rattle.answers.specs.Paper.{paper};
 ghost use Rattle.values.specs.Lists.{values_allowed, all_finite, squares_from, scaled_by, kept_above, minus_zero};

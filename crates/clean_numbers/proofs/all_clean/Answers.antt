@@ -13,7 +13,7 @@ pub returns-then-not-is_clean : goal.returns-then-not-is_clean
 returns-then-not-is_clean c = λ h. absurd (true≢false (sym h))
 
 pub loop-i-preserved : goal.loop-i-preserved
-loop-i-preserved c = (search rules, below_more _ _ c.loop-i.invariant.1 (sym c.is_clean.ensures ∙ not-false _ c.if-not-is_clean.false))
+loop-i-preserved c = (search rules, below_more _ _ c.loop-i.invariant.1 (sym c.is_clean.ensures ∙ c.if-not-is_clean.false))
 
 pub returns : goal.returns
 returns c = λ h. below_all _ _ c.loop-i.invariant.1 c.loop-i-test.false

@@ -1,11 +1,11 @@
 use mathlib.Core.Path.{◌≡◌, ◌∙◌}
-use mathlib.Core.Logic.{⊎_elim}
 use Prim.Native.Nat.{◌*◌, ◌+◌, ◌-◌, ◌<◌}
 use native.Mathlib.Omega.{arith}
 use lib.Arith.{digits_lt}
 use Rattle.eigen_pair.proofs.CellPlanesLaws.{plane-re}
 use Rattle.eigen_sweeps.proofs.SweepingLaws.{largest-none, largest-more, largest-same}
 use Rattle.eigen_sweeps.proofs.largest_diagonal.Goals as goal
+use Rattle.eigen_sweeps.proofs.largest_diagonal.Goals.{then-x-largest, else-x-largest}
 
 pub loop-i-init : goal.loop-i-init
 loop-i-init c = (omega arith, largest-none _ _)
@@ -13,22 +13,22 @@ loop-i-init c = (omega arith, largest-none _ _)
 pub overflow_mul-at : goal.overflow_mul-at
 overflow_mul-at c =
     let at : let n = c.args.n in c.loop-i.i * n + c.loop-i.i < n * n = digits_lt c.loop-i-test.true c.loop-i-test.true in
-    omega (arith, at (c))
+    omega (arith, at)
 
 pub overflow_mul-at-in-loop-i : goal.overflow_mul-at-in-loop-i
 overflow_mul-at-in-loop-i c =
     let at : let n = c.args.n in c.loop-i.i * n + c.loop-i.i < n * n = digits_lt c.loop-i-test.true c.loop-i-test.true in
-    omega (arith, at (c), c.requires.cells)
+    omega (arith, at, c.requires.cells)
 
 pub overflow_add-at : goal.overflow_add-at
 overflow_add-at c =
     let at : let n = c.args.n in c.loop-i.i * n + c.loop-i.i < n * n = digits_lt c.loop-i-test.true c.loop-i-test.true in
-    omega (arith, at (c))
+    omega (arith, at)
 
 pub offset_bounds-xs-at : goal.offset_bounds-xs-at
 offset_bounds-xs-at c =
     let at : let n = c.args.n in c.loop-i.i * n + c.loop-i.i < n * n = digits_lt c.loop-i-test.true c.loop-i-test.true in
-    omega (arith, at (c), c.requires.cells)
+    omega (arith, at, c.requires.cells)
 
 pub bounds-xs-at : goal.bounds-xs-at
 bounds-xs-at c =
@@ -39,8 +39,11 @@ pub loop-i-preserved : goal.loop-i-preserved
 loop-i-preserved c =
     let at : let n = c.args.n in c.loop-i.i * n + c.loop-i.i < n * n = digits_lt c.loop-i-test.true c.loop-i-test.true in
     let a = c.args in
-    let x = plane-re (a.n * a.n) (c.loop-i.i * a.n + c.loop-i.i) a.xs.now (at) in
-    (omega arith, ⊎_elim (λ w. w.1 ∙ largest-more _ _ _ c.loop-i.invariant.1 x w.0.taken) (λ w. w.1 ∙ largest-same _ _ _ c.loop-i.invariant.1 x w.0.left) c.if-x-largest.branch)
+    let x = plane-re (a.n * a.n) (c.loop-i.i * a.n + c.loop-i.i) a.xs.now at in
+    ( omega arith
+    , elim c.if-x-largest.branch [
+        then-x-largest w ↦ w.largest-is ∙ largest-more _ _ _ c.loop-i.invariant.1 x w.if-x-largest.true
+      | else-x-largest w ↦ w.largest-is ∙ largest-same _ _ _ c.loop-i.invariant.1 x w.if-x-largest.false ] )
 
 pub returns : goal.returns
 returns c =

@@ -8,22 +8,22 @@ use Rattle.entropy_weights.proofs.WeightLaws.{not_finite, bits_below, bits-past,
 use Rattle.entropy_weights.proofs.weight.Goals as goal
 
 pub returns-then-not-is_finite : goal.returns-then-not-is_finite
-returns-then-not-is_finite c = not_finite _ (sym c.is_finite.ensures ∙ not-true _ c.if-not-is_finite.true)
+returns-then-not-is_finite c = not_finite _ (sym c.is_finite.ensures ∙ c.if-not-is_finite.true)
 
 pub float_to_bits-b : goal.float_to_bits-b
-float_to_bits-b c = no_nan _ (sym c.is_finite.ensures ∙ not-false _ c.if-not-is_finite.false)
+float_to_bits-b c = no_nan _ (sym c.is_finite.ensures ∙ c.if-not-is_finite.false)
 
 pub returns-then-e-lt1011 : goal.returns-then-e-lt1011
 returns-then-e-lt1011 c =
     let held : T (fits binary64 c.args.x) = subst T (sym c.well_formed.0.1) tt in
-    bits_below _ _ (size-bits _ (held) (sym c.is_finite.ensures ∙ not-false _ c.if-not-is_finite.false)) c.if-e-lt1011.true
+    bits_below _ _ (size-bits _ (held) (sym c.is_finite.ensures ∙ c.if-not-is_finite.false)) c.if-e-lt1011.true
 
 pub returns-then-e-gt1023 : goal.returns-then-e-gt1023
 returns-then-e-gt1023 c =
     let held : T (fits binary64 c.args.x) = subst T (sym c.well_formed.0.1) tt in
-    bits-past _ _ (size-bits _ (held) (sym c.is_finite.ensures ∙ not-false _ c.if-not-is_finite.false)) c.if-e-gt1023.true
+    bits-past _ _ (size-bits _ (held) (sym c.is_finite.ensures ∙ c.if-not-is_finite.false)) c.if-e-gt1023.true
 
 pub returns : goal.returns
 returns c =
     let held : T (fits binary64 c.args.x) = subst T (sym c.well_formed.0.1) tt in
-    bits-between _ _ (size-bits _ (held) (sym c.is_finite.ensures ∙ not-false _ c.if-not-is_finite.false)) c.if-e-lt1011.false c.if-e-gt1023.false _ c.square_top.ensures
+    bits-between _ _ (size-bits _ (held) (sym c.is_finite.ensures ∙ c.if-not-is_finite.false)) c.if-e-lt1011.false c.if-e-gt1023.false _ c.square_top.ensures

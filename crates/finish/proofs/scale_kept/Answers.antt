@@ -25,4 +25,4 @@ returns c = let total = c.sum_of_squares-total.ensures in
     let root = c.sqrt_marked-marked.ensures in
     let v = c.scale_values in
     let e = scaled_made _ total root.0 v.ensures in
-    let l : length v.new.0 ≡ c.args.count = v.auto.0 ∙ length-take-le _ _ c.requires in record { now = ap (λ (y : List Float). y ++ drop c.args.count c.args.s.now) e; whether = (c.all_finite-finite.ensures ∙ ap all_finite (take_at _ _ _ l ∙ e), exact-made _ total root.1); marked =  }
+    let l : length v.new.0 ≡ c.args.count = v.auto.0 ∙ length-take-le _ _ c.requires in record { now = ap (λ (y : List Float). y ++ drop c.args.count c.args.s.now) e; whether = c.all_finite-finite.ensures ∙ ap all_finite (take_at _ _ _ l ∙ e); marked = exact-made _ total root.1 }

@@ -7,14 +7,14 @@ use Rattle.texts.proofs.TextLaws.{length-item, puts_then}
 use Rattle.lines.proofs.put_end.Goals as goal
 
 pub put_item-past_sweeps-requires : goal.put_item-past_sweeps-requires
-put_item-past_sweeps-requires c = let p = c.put_item-past_count in omega (arith, p.ensures.next, p.auto.0, length-item end_word c.args.count)
+put_item-past_sweeps-requires c = let p = c.put_item-past_count in omega (arith, p.ensures.next, p.auto.out, length-item end_word c.args.count)
 
 pub put_quiet-requires : goal.put_quiet-requires
 put_quiet-requires c =
     let p = c.put_item-past_count in
     let q = c.put_item-past_sweeps in
     let a = c.args in
-    omega (arith, p.ensures.next, p.auto.0, length-item end_word a.count, q.ensures.next, q.auto.0, length-item blank a.sweeps)
+    omega (arith, p.ensures.next, p.auto.out, length-item end_word a.count, q.ensures.next, q.auto.out, length-item blank a.sweeps)
 
 pub returns : goal.returns
 unfolding end_line

@@ -6,10 +6,8 @@ use Rattle.texts.specs.Text.{Puts}
 use Rattle.lines.specs.Lines.{items}
 use Rattle.lines.proofs.put_items.Given as goal
 
--- LEFT
-abbrev invariant-loop : tie.invariant-loop
-invariant-loop out₀ at list next₀ i₀ t6 out next i = (i ≤ length list) × Puts at (items i list) out₀ next out
+abbrev pub invariant-loop-i : goal.invariant-loop-i
+invariant-loop-i l = (l.i ≤ length l.list) × Puts l.at (items l.i l.list) l.initial.out l.next l.out
 
--- LEFT
-abbrev decreases-loop : tie.decreases-loop
-decreases-loop out₀ at list next₀ i₀ t6 out next i = length list - i
+abbrev pub decreases-loop-i : goal.decreases-loop-i
+decreases-loop-i l = length l.list - l.i

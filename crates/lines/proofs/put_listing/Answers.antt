@@ -23,13 +23,13 @@ put_last-requires c =
     omega (
       arith,
       x.ensures.next,
-      x.auto.0,
+      x.auto.out,
       length_cut a.n a.k a.rows a.cols,
       y.ensures.next,
-      y.auto.0,
+      y.auto.out,
       length-side a.side.now,
       z.ensures.next,
-      z.auto.0,
+      z.auto.out,
       length-values (length a.values.now) a.values.now,
     )
 

@@ -10,33 +10,33 @@ use Rattle.plan_changes.proofs.ChangeLaws.{part-named, part-list, front-is, fron
 use Rattle.plan_changes.proofs.plan_switch.Goals as goal
 
 pub returns-then-not-is_made : goal.returns-then-not-is_made
-returns-then-not-is_made c = change-unmade _ _ (sym c.is_made.ensures ∙ not-true _ c.if-not-is_made.true)
+returns-then-not-is_made c = change-unmade _ _ (sym c.is_made.ensures ∙ c.if-not-is_made.true)
 
 pub slice_bounds-named-end : goal.slice_bounds-named-end
-slice_bounds-named-end c = part-named c.args.p (sym c.is_made.ensures ∙ not-false _ c.if-not-is_made.false)
+slice_bounds-named-end c = part-named c.args.p (sym c.is_made.ensures ∙ c.if-not-is_made.false)
 
 pub slice_bounds-pad_others-end : goal.slice_bounds-pad_others-end
-slice_bounds-pad_others-end c = part-list c.args.p (sym c.is_made.ensures ∙ not-false _ c.if-not-is_made.false)
+slice_bounds-pad_others-end c = part-list c.args.p (sym c.is_made.ensures ∙ c.if-not-is_made.false)
 
 pub pad_others-list-requires : goal.pad_others-list-requires
-pad_others-list-requires c = made-parted c.args.p (sym c.is_made.ensures ∙ not-false _ c.if-not-is_made.false)
+pad_others-list-requires c = made-parted c.args.p (sym c.is_made.ensures ∙ c.if-not-is_made.false)
 
 pub overflow_sub-count : goal.overflow_sub-count
-overflow_sub-count c = omega (arith, made-count c.args.p (sym c.is_made.ensures ∙ not-false _ c.if-not-is_made.false), (made-parted c.args.p (sym c.is_made.ensures ∙ not-false _ c.if-not-is_made.false)).part)
+overflow_sub-count c = omega (arith, made-count c.args.p (sym c.is_made.ensures ∙ c.if-not-is_made.false), (made-parted c.args.p (sym c.is_made.ensures ∙ c.if-not-is_made.false)).part)
 
 pub slice_bounds-list-end : goal.slice_bounds-list-end
 slice_bounds-list-end c =
     let p = c.args.p in
-    let m = (sym c.is_made.ensures ∙ not-false _ c.if-not-is_made.false) in
+    let m = (sym c.is_made.ensures ∙ c.if-not-is_made.false) in
     front-room (other_qubits p.n (list_of p)) _ _ c.pad_others-list.ensures (few-others p m) (few-switched p m)
 
 pub slice_bounds-cut_plan-end : goal.slice_bounds-cut_plan-end
 slice_bounds-cut_plan-end c =
     let p = c.args.p in
-    front-part (other_qubits p.n (list_of p)) _ _ c.pad_others-list.ensures (few-others p (sym c.is_made.ensures ∙ not-false _ c.if-not-is_made.false))
+    front-part (other_qubits p.n (list_of p)) _ _ c.pad_others-list.ensures (few-others p (sym c.is_made.ensures ∙ c.if-not-is_made.false))
 
 pub returns : goal.returns
 returns c =
     let p = c.args.p in
-    let m = (sym c.is_made.ensures ∙ not-false _ c.if-not-is_made.false) in
+    let m = (sym c.is_made.ensures ∙ c.if-not-is_made.false) in
     change-made switching p m refl _ (front-is (other_qubits p.n (list_of p)) _ _ c.pad_others-list.ensures (few-others p m)) _ c.cut_plan-made.ensures _ c.or_old.ensures

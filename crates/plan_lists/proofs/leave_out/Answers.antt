@@ -1,8 +1,8 @@
-use mathlib.Core.Logic.{⊎_elim}
 use Prim.Native.Nat.{◌-◌, ◌<◌}
 use native.Mathlib.Omega.{arith}
 use Rattle.plan_lists.proofs.PaddedLaws.{leave-begin, leave_low, leave-keep, leave-skip, leave-end}
 use Rattle.plan_lists.proofs.leave_out.Goals as goal
+use Rattle.plan_lists.proofs.leave_out.Goals.{then-x-q, else-x-q}
 
 pub loop-i-init : goal.loop-i-init
 loop-i-init c = leave-begin _ _ c.requires
@@ -25,10 +25,9 @@ overflow_add-count c =
 pub loop-i-preserved : goal.loop-i-preserved
 loop-i-preserved c =
     let t = c.loop-i-test.true in
-    ⊎_elim
-    (λ w. rw (w.1, w.2) (leave-keep _ _ c.requires _ _ _ c.loop-i.invariant t w.0.taken))
-    (λ w. rw (w.1, w.2) (leave-skip _ _ c.requires _ _ _ c.loop-i.invariant t w.0.left))
-    c.if-x-q.branch
+    elim c.if-x-q.branch [
+      then-x-q w ↦ rw (w.numbers-is, w.count-is) (leave-keep _ _ c.requires _ _ _ c.loop-i.invariant t w.if-x-q.true)
+    | else-x-q w ↦ rw (w.numbers-is, w.count-is) (leave-skip _ _ c.requires _ _ _ c.loop-i.invariant t w.if-x-q.false) ]
 
 pub returns : goal.returns
 returns c = leave-end _ _ c.requires _ _ _ c.loop-i.invariant c.loop-i-test.false

@@ -30,8 +30,8 @@ returns-then-a-b-6 c = rw (eq-eqb _ _ c.if-a-b.false, eq-eqb _ _ c.if-a-b-2.fals
 
 pub returns-then-not-same_lists : goal.returns-then-not-same_lists
 unfolding same_plan
-returns-then-not-same_lists c = rw (eq-eqb _ _ c.if-a-b.false, eq-eqb _ _ c.if-a-b-2.false, eq-eqb _ _ c.if-a-b-3.false, eq-eqb _ _ c.if-a-b-4.false, eq-eqb _ _ c.if-a-b-5.false, eq-eqb _ _ c.if-a-b-6.false, sym c.same_lists.ensures ∙ not-true _ c.if-not-same_lists.true)
+returns-then-not-same_lists c = rw (eq-eqb _ _ c.if-a-b.false, eq-eqb _ _ c.if-a-b-2.false, eq-eqb _ _ c.if-a-b-3.false, eq-eqb _ _ c.if-a-b-4.false, eq-eqb _ _ c.if-a-b-5.false, eq-eqb _ _ c.if-a-b-6.false, sym c.same_lists.ensures ∙ c.if-not-same_lists.true)
 
 pub returns : goal.returns
 unfolding same_plan
-returns c = rw (eq-eqb _ _ c.if-a-b.false, eq-eqb _ _ c.if-a-b-2.false, eq-eqb _ _ c.if-a-b-3.false, eq-eqb _ _ c.if-a-b-4.false, eq-eqb _ _ c.if-a-b-5.false, eq-eqb _ _ c.if-a-b-6.false, sym c.same_lists.ensures ∙ not-false _ c.if-not-same_lists.false) c.same_lists-2.ensures
+returns c = rw (eq-eqb _ _ c.if-a-b.false, eq-eqb _ _ c.if-a-b-2.false, eq-eqb _ _ c.if-a-b-3.false, eq-eqb _ _ c.if-a-b-4.false, eq-eqb _ _ c.if-a-b-5.false, eq-eqb _ _ c.if-a-b-6.false, sym c.same_lists.ensures ∙ c.if-not-same_lists.false) c.same_lists-2.ensures

@@ -16,8 +16,7 @@ bounds-out-t c = omega (arith, c.loop-t.invariant.1, c.requires.count_value.1)
 
 pub loop-t-preserved : goal.loop-t-preserved
 loop-t-preserved c =
-    let l = c.loop-t in
-    (
+    let l = c.loop-t in (
       omega (arith, c.loop-t-test.true),
       simp length-set l.invariant.1,
       rw (l.invariant.2, c.row_offset.ensures) (filled_more l.t (row_offset c.args.list.now) _ (omega (arith, c.loop-t-test.true, c.requires.count_value.1))),

@@ -1,10 +1,10 @@
 use mathlib.Core.Path.{sym, ◌∙◌}
-use mathlib.Core.Logic.{⊎_elim}
 use Prim.Native.Nat.{◌<◌, ◌-◌}
 use native.Mathlib.Omega.{arith}
 use Rattle.qubits.proofs.SpreadLaws.{insert-begin, insert-step, insert-past, insert-end, insert-room}
 use Rattle.qubits.proofs.OtherLaws.{others-length, small-index}
 use Rattle.qubits.proofs.traced_base_of.Goals as goal
+use Rattle.qubits.proofs.traced_base_of.Goals.{then-stands_in, else-stands_in}
 
 pub loop-q-init : goal.loop-q-init
 loop-q-init c = insert-begin _ _ _
@@ -20,10 +20,10 @@ loop-q-preserved c =
     let i = c.loop-q.invariant in
     let h = c.loop-q-test.true in
     let s = c.stands_in.ensures in
-    ⊎_elim
-    (λ w. rw (w.2 ∙ w.1.ensures) (insert-step _ _ _ _ _ i h (sym s ∙ w.0.taken)))
-    (λ w. rw w.1 (insert-past _ _ _ _ _ i h (sym s ∙ w.0.left)))
-    c.if-stands_in.branch
+    elim c.if-stands_in.branch [
+      | then-stands_in w ↦ rw (w.base-is ∙ w.insert_zero_bit-base.ensures) (insert-step _ _ _ _ _ i h (sym s ∙ w.if-stands_in.true))
+      | else-stands_in w ↦ rw w.base-is (insert-past _ _ _ _ _ i h (sym s ∙ w.if-stands_in.false))
+    ]
 
 pub returns : goal.returns
 returns c =

@@ -6,7 +6,7 @@ use Rattle.slab_cells.proofs.CellLaws.{pasted_to}
 use Rattle.slab_cells.proofs.paste.Given as goal
 
 abbrev pub invariant-loop-t : goal.invariant-loop-t
-invariant-loop-t l = (l.t ≤ l.t-end) × (l.t-end ≡ length «data») × (l.at ≡ 2 * l.start) × (l.cells ≡ pasted_to l.at «data» l.initial.cells l.t)
+invariant-loop-t l = (l.t ≤ l.t-end) × (l.t-end ≡ length l.«data») × (l.at ≡ 2 * l.start) × (l.cells ≡ pasted_to l.at l.«data» l.initial.cells l.t)
 
 abbrev pub decreases-loop-t : goal.decreases-loop-t
 decreases-loop-t l = l.t-end - l.t

@@ -1,8 +1,8 @@
-use mathlib.Core.Logic.{⊎_elim}
 use Prim.Native.Nat.{◌-◌}
 use borrow.Author.Rules.{rules}
 use Rattle.slab_runs.proofs.RunLaws.{scan_begins, scan-held, scan-free, scan-found, scan-ends, scan-as}
 use Rattle.slab_runs.proofs.lowest_run.Goals as goal
+use Rattle.slab_runs.proofs.lowest_run.Goals.{then-map-c, else-map-c+else-run-k}
 
 pub loop-c-init : goal.loop-c-init
 loop-c-init c = scan_begins _ _ (search rules)
@@ -14,10 +14,10 @@ pub loop-c-preserved : goal.loop-c-preserved
 loop-c-preserved c =
     let inv = c.loop-c.invariant in
     let less = c.loop-c-test.true in
-    ⊎_elim
-    (λ x. scan-as _ _ _ _ _ x.1 (scan-held _ _ _ _ inv less x.0.taken))
-    (λ x. scan-as _ _ _ _ _ x.2 (scan-free _ _ _ _ inv less x.0.left x.1.left))
-    c.if-map-c.branch
+    elim c.if-map-c.branch [
+      | then-map-c w ↦ scan-as _ _ _ _ _ w.run-is (scan-held _ _ _ _ inv less w.if-map-c.true)
+      | else-map-c+else-run-k w ↦ scan-as _ _ _ _ _ w.run-is (scan-free _ _ _ _ inv less w.if-map-c.false w.if-run-k.false)
+    ]
 
 pub returns : goal.returns
 returns c = scan-ends _ _ _ _ c.loop-c.invariant c.loop-c-test.false

@@ -11,7 +11,7 @@ pub returns-then-not-each_apart : goal.returns-then-not-each_apart
 returns-then-not-each_apart c = let a = c.args in not-apart a.cells.now a.index.now c.if-held-gt64.false c.each_apart.ensures c.if-not-each_apart.true
 
 pub map_of-map-requires : goal.map_of-map-requires
-map_of-map-requires c = (c.if-held-gt64.false, sym c.each_apart.ensures ∙ not-false _ c.if-not-each_apart.false)
+map_of-map-requires c = (c.if-held-gt64.false, sym c.each_apart.ensures ∙ c.if-not-each_apart.false)
 
 pub returns : goal.returns
 returns c = let a = c.args in by-cells a.cells.now a.index.now c.if-held-gt64.false c.each_apart.ensures c.if-not-each_apart.false c.map_of-map.ensures c.is_clean.ensures

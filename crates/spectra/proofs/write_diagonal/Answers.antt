@@ -16,22 +16,22 @@ loop-i-init c = (omega arith, refl, filled_none _ _)
 pub overflow_mul-at : goal.overflow_mul-at
 overflow_mul-at c =
     let at : let n = c.args.n in c.loop-i.i * n + c.loop-i.i < n * n = digits_lt c.loop-i-test.true c.loop-i-test.true in
-    omega (arith, at (c))
+    omega (arith, at)
 
 pub overflow_add-at : goal.overflow_add-at
 overflow_add-at c =
     let at : let n = c.args.n in c.loop-i.i * n + c.loop-i.i < n * n = digits_lt c.loop-i-test.true c.loop-i-test.true in
-    omega (arith, at (c))
+    omega (arith, at)
 
 pub overflow_mul-at-in-loop-i : goal.overflow_mul-at-in-loop-i
 overflow_mul-at-in-loop-i c =
     let at : let n = c.args.n in c.loop-i.i * n + c.loop-i.i < n * n = digits_lt c.loop-i-test.true c.loop-i-test.true in
-    omega (arith, at (c), c.requires.0.cells)
+    omega (arith, at, c.requires.0.cells)
 
 pub offset_bounds-work-at : goal.offset_bounds-work-at
 offset_bounds-work-at c =
     let at : let n = c.args.n in c.loop-i.i * n + c.loop-i.i < n * n = digits_lt c.loop-i-test.true c.loop-i-test.true in
-    omega (arith, at (c), c.requires.0.cells)
+    omega (arith, at, c.requires.0.cells)
 
 pub bounds-work-at : goal.bounds-work-at
 bounds-work-at c =

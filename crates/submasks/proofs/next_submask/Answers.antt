@@ -7,5 +7,5 @@ pub returns : goal.returns
 returns c =
     let a = c.args in
     let r = c.wrapping_sub_usize.result in
-    let e : r ≡ (a.x + (2 ^ 64 - a.mask)) % 2 ^ 64 = omega (arith, c.wrapping_sub_usize.ensures.value, c.wrapping_sub_usize.type-inv) in
+    let e : r ≡ (a.x + (2 ^ 64 - a.mask)) % 2 ^ 64 = omega (arith, c.wrapping_sub_usize.ensures.value, c.wrapping_sub_usize.type_inv) in
     ap (λ (k : ℕ). bit_and k a.mask) e
