@@ -1,5 +1,6 @@
 // The two sides of a cut: its refusals, masks and sizes, and the smaller side's list.
 #![tactic(auto)]
+
 ghost use Rattle.std.specs.Prelude.{◌≡◌, ◌-◌, ◌≤◌, length};
 ghost use Rattle.answers.specs.Paper.{paper};
 ghost use Rattle.qubits.specs.Lists.{Listed};

@@ -1,5 +1,6 @@
 // The unscaled density of the listed qubits, and the mirror of a lower triangle.
 #![tactic(auto)]
+
 ghost use Rattle.std.specs.Prelude.{◌≡◌, ◌≤◌, length};
 ghost use Rattle.answers.specs.Paper.{paper};
 ghost use Rattle.submasks.specs.Submasks.{others};

@@ -1,6 +1,7 @@
 // The lower half of a density with the diagonal blocks summed without imaginary parts, which are +0.0 there. Inner: densities
 // stands on it.
 #![tactic(auto)]
+
 ghost use Rattle.std.specs.Prelude.{◌≡◌, true, ◌+◌, ◌*◌, ◌/◌, ◌<◌, ◌≤◌};
 ghost use Rattle.components.specs.Every.{every_allowed};
 ghost use Rattle.density_entries.specs.Squares.{Square};

@@ -1,5 +1,6 @@
 // Inner: what a factorisation answers, and how its sweeps went. A refusal has no sweeps.
 #![tactic(auto)]
+
 ghost use Rattle.std.specs.Prelude.{◌≡◌};
 ghost use Rattle.factored.specs.Factored.{kept_sweeps};
 ghost use Rattle.answers.specs.Paper.{paper};

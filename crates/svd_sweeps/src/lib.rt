@@ -1,6 +1,7 @@
 // Inner: the one-sided Jacobi sweeps of the SVD, over a work matrix and V that are lent as planes.
 // Row r of column p of a matrix of m rows is its cell p * m + r.
 #![tactic(auto)]
+
 ghost use Rattle.std.specs.Prelude.{◌≡◌, true, [], ◌+◌, ◌-◌, ◌*◌, ◌<◌, ◌≤◌, length, get_or};
 ghost use Rattle.svd_pair.specs.Turns.{turn_factors, turn_rows};
 ghost use Rattle.svd_pair.specs.Plain.{making};

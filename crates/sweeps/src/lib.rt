@@ -1,5 +1,6 @@
 // Inner: the counts of the Jacobi sweeps. The sweeps themselves are defined once, over what is done with a pair (specs/Sweeping.antt).
 #![tactic(auto)]
+
 ghost use Rattle.std.specs.Prelude.{◌≡◌, ◌<◌};
 ghost use Rattle.sweeps.specs.Sweeping.{counted, no_sweeps};
 

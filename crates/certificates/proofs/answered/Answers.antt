@@ -12,10 +12,13 @@ use Rattle.certificates.proofs.CertificateLaws.{file-refused, file-done, file-pr
 use Rattle.certificates.proofs.answered.Goals as goal
 
 pub returns-in_default : goal.returns-in_default
-returns-in_default c =
-    let q = c.cut_result-result in
+returns-in_default c =let q = c.cut_result-result in
     let p = printed-as _ _ _ _ _ (file-refused _ _ _ q.result _ _ q.ensures (stopped-number q.result.answer c.in_default.not-Done)) (printed-refusal _ _ _ _ c.put_refused-length.ensures) in
-    (p, (printed-counts _ _ _ _ (omega (arith, c.put_refused-length.auto.out, c.requires)) p, q.ensures.answer))
+    record {
+      printed = p;
+      prefix_len = printed-counts _ _ _ _ (omega (arith, c.put_refused-length.auto.out, c.requires)) p;
+      answer_value = q.ensures.answer;
+    }
 
 pub slice_bounds-list-end : goal.slice_bounds-list-end
 slice_bounds-list-end c = let q = c.cut_result-result in let h : length q.new.1.0 ≡ 64 = q.ensures.list-long in omega (arith, few-listed _ _ _ q.result _ _ q.ensures (ap (λ (a : Answer). (paper a).0) c.in-Done.is), h)
@@ -36,4 +39,8 @@ pub returns : goal.returns
 returns c =
     let q = c.cut_result-result in
     let p = printed-as _ _ _ _ _ (file-done _ _ _ q.result _ _ q.ensures (ap (λ (a : Answer). (paper a).0) c.in-Done.is)) c.put_accepted-length.ensures in
-    (p, (printed-counts _ _ _ _ (omega (arith, c.put_accepted-length.auto.1.1.1.1.1.0, c.requires)) p, q.ensures.answer))
+    record {
+      printed = p;
+      prefix_len = printed-counts _ _ _ _ (omega (arith, c.put_accepted-length.auto.1.1.1.1.1.0, c.requires)) p;
+      answer_value = q.ensures.answer;
+    }

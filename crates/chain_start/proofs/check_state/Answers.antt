@@ -11,8 +11,7 @@ pub loop-i-preserved : goal.loop-i-preserved
 loop-i-preserved c =
     (
       omega arith,
-      c.loop-i.invariant.1 ∙ state-good _ _ _ c.loop-i-test.true (sym c.state_allowed.ensures ∙ c.if-state_allowed.true),
-    )
+      c.loop-i.invariant.1 ∙ state-good _ _ _ c.loop-i-test.true (sym c.state_allowed.ensures ∙ c.if-state_allowed.true))
 
 pub returns-else-state_allowed : goal.returns-else-state_allowed
 returns-else-state_allowed c =

@@ -30,8 +30,9 @@ loop-q-preserved c =
     let t = c.loop-q-test.true in
     let s = c.stands_in.ensures in
     elim c.if-not-stands_in.branch [
-      then-not-stands_in w ↦ rw (w.out-is, w.j-is) (risen-one _ _ _ _ _ _ c.loop-q.invariant t c.requires.1 (sym s ∙ w.if-not-stands_in.true))
-    | else-not-stands_in w ↦ rw (w.out-is, w.j-is) (risen-none _ _ _ _ _ _ c.loop-q.invariant t (sym s ∙ w.if-not-stands_in.false)) ]
+      | then-not-stands_in w ↦ rw (w.out-is, w.j-is) (risen-one _ _ _ _ _ _ c.loop-q.invariant t c.requires.1 (sym s ∙ w.if-not-stands_in.true))
+      | else-not-stands_in w ↦ rw (w.out-is, w.j-is) (risen-none _ _ _ _ _ _ c.loop-q.invariant t (sym s ∙ w.if-not-stands_in.false))
+    ]
 
 pub shape_of-out : goal.shape_of-out
 shape_of-out c = c.loop-q.invariant.long

@@ -4,7 +4,9 @@ use Rattle.entropy_sums.proofs.FillLaws.{with-zero, with-some, some-weight, prod
 use Rattle.entropy_sums.proofs.with_weight.Goals as goal
 
 pub returns-then-w-eq0 : goal.returns-then-w-eq0
-returns-then-w-eq0 c = with-zero _ _ _ _ c.if-w-eq0.true
+returns-then-w-eq0 c =
+    let both = with-zero _ _ _ _ c.if-w-eq0.true in
+    record { bands = both.0; sums = both.1 }
 
 pub band_in-b-requires : goal.band_in-b-requires
 band_in-b-requires c = (some-weight _ c.if-w-eq0.false, c.requires.few, c.requires.sized)
@@ -28,4 +30,6 @@ pub overflow_add-result-3 : goal.overflow_add-result-3
 overflow_add-result-3 c = omega (arith, c.requires.high_fits, product_high _ _ _ _ _ c.requires c.if-w-eq0.false c.band_in-b.ensures)
 
 pub returns : goal.returns
-returns c = with-some _ _ _ _ _ _ c.if-w-eq0.false c.band_in-b.ensures c.put.ensures
+returns c =
+    let both = with-some _ _ _ _ _ _ c.if-w-eq0.false c.band_in-b.ensures c.put.ensures in
+    record { bands = both.0; sums = both.1 }

@@ -10,9 +10,6 @@ use Rattle.qr_factor.proofs.add_columns.Goals as goal
 pub loop-j-init : goal.loop-j-init
 loop-j-init c = (search rules, search rules, refl, refl, refl, columns-none _ _ _ _ _)
 
-pub add_column-rank-requires : goal.add_column-rank-requires
-add_column-rank-requires c = omega (arith, c.requires)
-
 pub loop-j-preserved : goal.loop-j-preserved
 loop-j-preserved c = (search rules, c.add_column-rank.ensures.within, search rules, search rules, search rules, columns-more _ _ _ _ _ _ c.loop-j.invariant.5 c.add_column-rank.ensures.is)
 

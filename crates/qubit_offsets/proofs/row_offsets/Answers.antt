@@ -27,7 +27,7 @@ returns-then-out-count c =
 
 pub fill_offsets-requires : goal.fill_offsets-requires
 fill_offsets-requires c = let z = c.args in
-    let b = c.bit-count.ensures in record { listed = (density-listed z.n z.cap z.list.now (was-done _ _ c.density_refusal-first.ensures c.in-Done.is)).0; count_value = ((b, c.if-out-count.false), ) }
+    let b = c.bit-count.ensures in record { listed = (density-listed z.n z.cap z.list.now (was-done _ _ c.density_refusal-first.ensures c.in-Done.is)).0; count_value = (b, c.if-out-count.false) }
 
 pub returns : goal.returns
 returns c =

@@ -9,7 +9,10 @@ pub returns-in_default : goal.returns-in_default
 returns-in_default c = traced-refused _ _ _ _ _ c.traced_refusal-answer.ensures (stopped-number c.traced_refusal-answer.result c.in_default.not-Done) refl
 
 pub traced_base_of-requires : goal.traced_base_of-requires
-traced_base_of-requires c = traced-listed _ _ _ _ (was-done _ _ c.traced_refusal-answer.ensures c.in-Done.is)
+traced_base_of-requires c =
+    let a = c.args in
+    let p = traced-listed a.e a.list.now a.n a.cap (was-done _ _ c.traced_refusal-answer.ensures c.in-Done.is) in
+    record { listed = p.0; e_bound = p.1 }
 
 pub returns : goal.returns
 returns c =

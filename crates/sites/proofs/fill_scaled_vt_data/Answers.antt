@@ -17,7 +17,9 @@ pub returns-in_default-answer : goal.returns-in_default-answer
 returns-in_default-answer c = later-refused _ _ _ _ _ c.check_rows-size.result c.check_scaled_vt-answer.result c.check_rows-size.ensures c.in-Done.is c.check_scaled_vt-answer.ensures (stopped-number c.check_scaled_vt-answer.result c.in_default-answer.not-Done)
 
 pub fill_scaled_vt-requires : goal.fill_scaled_vt-requires
-fill_scaled_vt-requires c = scaled-vt-ready _ _ _ _ _ _ (rows-done _ _ _ _ (was-done _ _ c.check_rows-size.ensures c.in-Done.is)).1 (was-done _ _ c.check_scaled_vt-answer.ensures c.in-Done-answer.is)
+fill_scaled_vt-requires c =
+    let both = scaled-vt-ready _ _ _ _ _ _ (rows-done _ _ _ _ (was-done _ _ c.check_rows-size.ensures c.in-Done.is)).1 (was-done _ _ c.check_scaled_vt-answer.ensures c.in-Done-answer.is) in
+    record { line_ready = both.0; chi_in_bounds = both.1 }
 
 pub returns : goal.returns
 returns c = filled _ _ _ _ _ c.check_rows-size.result c.check_scaled_vt-answer.result c.check_rows-size.ensures c.in-Done.is c.check_scaled_vt-answer.ensures c.in-Done-answer.is c.fill_scaled_vt.ensures

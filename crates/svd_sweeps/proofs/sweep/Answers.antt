@@ -33,8 +33,7 @@ column-t-requires c =
       omega (arith, i.6, s.1, number),
       i.3 ∙ s.3,
       seen_at (omega (arith, i.6)) i.7,
-      i.8,
-    )
+      i.8)
 
 pub overflow_step-p : goal.overflow_step-p
 overflow_step-p c = omega (arith, c.loop-p-test.true, c.requires.0.columns)
@@ -56,8 +55,7 @@ loop-p-preserved c =
       turned_more _ _ _ i.5 w,
       w.begun ∙ i.6,
       seen_at (omega (arith, i.6)) r.ensures.1.0,
-      r.ensures.1.1,
-    )
+      r.ensures.1.1)
 
 pub shape_of-work : goal.shape_of-work
 shape_of-work c = c.loop-p.invariant.1
@@ -75,4 +73,8 @@ returns c =
     let i = c.loop-p.invariant in
     let e : c.loop-p.p ≡ c.args.n = omega (arith, i.0, c.loop-p-test.false) in
     let made = sweep-made (svd_pairings _ _ _) _ _ refl (rw e at i.4 ∙ ap (columns_to _ _ _) (begun-state _ _ _ _ _ began)) in
-    (made, (seen_at (omega arith) (seen-sweep _ _ (c.args.w.s.begun + 1) _ _ c.requires.0.columns (seen_at (omega (arith, e, number)) i.7)), i.8))
+    record {
+      done = made;
+      seen = seen_at (omega arith) (seen-sweep _ _ (c.args.w.s.begun + 1) _ _ c.requires.0.columns (seen_at (omega (arith, e, number)) i.7));
+      waiting = i.8;
+    }

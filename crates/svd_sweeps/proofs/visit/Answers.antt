@@ -11,14 +11,22 @@ returns-then-unchanged c =
     let k = c.requires.1 in
     let old = c.unchanged.ensures c.if-unchanged.true in
     let left = seen-old _ _ _ _ _ _ _ k.begun k.rising k.within old.0 old.1 c.requires.2 in
-    (passed_over _ _ _ _ _ _ left, (seen-left _ _ _ _ _ _ _ c.requires.0.columns k.rising k.within left c.requires.2, c.requires.3))
+    record {
+      done = passed_over _ _ _ _ _ _ left;
+      seen = seen-left _ _ _ _ _ _ _ c.requires.0.columns k.rising k.within left c.requires.2;
+      waiting = c.requires.3;
+    }
 
 pub returns-then-r-s : goal.returns-then-r-s
 returns-then-r-s c =
     let k = c.requires.1 in
     let done = c.pair-t.ensures in
     let left = uncounted _ _ _ _ _ _ done.0 c.if-r-s.true in
-    (done.0, (seen_same left.1 (seen-left _ _ _ _ _ _ _ c.requires.0.columns k.rising k.within left.0 c.requires.2), done.1))
+    record {
+      done = done.0;
+      seen = seen_same left.1 (seen-left _ _ _ _ _ _ _ c.requires.0.columns k.rising k.within left.0 c.requires.2);
+      waiting = done.1;
+    }
 
 pub offset_bounds-marks-p : goal.offset_bounds-marks-p
 offset_bounds-marks-p c = omega (arith, c.requires.1.rising, c.requires.1.within, c.requires.0.columns)
@@ -39,4 +47,8 @@ returns c =
     let k = c.requires.1 in
     let done = c.pair-t.ensures in
     let seen = seen_turned _ _ _ _ _ _ _ _ _ c.requires.0.columns k.rising k.within k.marks (done-to _ _ _ _ _ _ done.0) c.requires.2 in
-    (done.0, (seen, done.1))
+    record {
+      done = done.0;
+      seen = seen;
+      waiting = done.1;
+    }

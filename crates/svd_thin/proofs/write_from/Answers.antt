@@ -22,8 +22,7 @@ write_factors-requires c =
         main-is = c.requires.1;
         other-is = c.requires.0.other-is;
       },
-      c.requires.2,
-    )
+      c.requires.2)
 
 pub returns : goal.returns
 returns c = c.write_factors.ensures
