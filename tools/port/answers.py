@@ -163,10 +163,14 @@ def picked(names, comps):
     """A projection out of a pair of clauses, as the record of them: comps without the word before."""
     if len(names) < 2 or not comps or not comps[0].isdigit():
         return comps
-    k = int(comps[0])
-    if k < len(names):
-        return [names[k]] + comps[1:]
-    return comps
+    k, used = 0, 0
+    while k < len(names) - 1 and used < len(comps) and comps[used] == "1":
+        k, used = k + 1, used + 1
+    if k < len(names) - 1:
+        if used >= len(comps) or comps[used] != "0":
+            return comps
+        used += 1
+    return [names[k]] + comps[used:]
 
 
 class Turn:
@@ -188,15 +192,46 @@ class Turn:
             if m.group(2) in known:
                 known[m.group(1)] = self.n.up(known[m.group(2)], m.group(3).count(".before"))
 
+        def within(at, first, callee, rest):
+            """The path inside a step, with clauses and lent slices by their names."""
+            if rest and rest[0] == "ensures":
+                fields = self.n.clause_fields(at, first)
+                if fields and len(fields) == 1 and (len(rest) == 1 or rest[1] != fields[0]):
+                    return [rest[0], fields[0]] + rest[1:]
+                return [rest[0]] + picked(fields or self.contracts.get(callee, {}).get("ensures", []), rest[1:])
+            if rest and rest[0] in ("auto", "new") and len(rest) > 1 and rest[1].isdigit():
+                lent = self.n.entry["params"].get(callee)
+                if plain(first).startswith("loop"):
+                    lent = None
+                k, used = 0, 1
+                while used < len(rest) and rest[used] == "1":
+                    k, used = k + 1, used + 1
+                if lent and used < len(rest) and rest[used] == "0" and k < len(lent):
+                    return [rest[0], lent[k]] + rest[used + 1 :]
+            return rest
+
+        # variables bound to a step
+        steps = {}
+        for m in re.finditer(r"let ([\w'-]+) =\s+([\w'-]+)((?:\.before)*)\.([\w'-]+)\s+in\b", text):
+            if m.group(2) in known and m.group(4) not in ("args", "requires", "ranges", "well_formed", "before"):
+                at = known[main] if main else known[m.group(2)]
+                if self.n.arm(at, [m.group(4)]) is None:
+                    new, callee = self.n.field(at, m.group(4))
+                    if new:
+                        steps[m.group(1)] = (at, m.group(4), callee)
+
         def path(m):
             head, rest = m.group(1), m.group(2)
+            if head in steps and head not in known:
+                return ".".join([head] + within(*steps[head], rest[1:].split(".")))
             if head not in known:
                 return m.group(0)
-            at = known[head]
+            at = known[main] if main else known[head]
             comps = rest[1:].split(".")
             ups = 0
             while comps and comps[0] == "before":
-                at = self.n.up(at, 1)
+                if not main:
+                    at = self.n.up(at, 1)
                 comps = comps[1:]
                 ups += 1
             if not comps:
@@ -216,23 +251,7 @@ class Turn:
             if new is None:
                 self.missing.append(".".join(comps))
                 return ".".join([head] + comps)
-            rest = comps[1:]
-            if rest and rest[0] == "ensures":
-                fields = self.n.clause_fields(at, first)
-                if fields and len(fields) == 1 and (len(rest) == 1 or rest[1] != fields[0]):
-                    rest = [rest[0], fields[0]] + rest[1:]
-                else:
-                    rest = [rest[0]] + picked(fields or self.contracts.get(callee, {}).get("ensures", []), rest[1:])
-            elif rest and rest[0] in ("auto", "new") and len(rest) > 1 and rest[1].isdigit():
-                lent = self.contracts.get(callee, {}).get("lent")
-                if plain(first).startswith("loop"):
-                    lent = None
-                k, used = 0, 1
-                while used < len(rest) and rest[used] == "1":
-                    k, used = k + 1, used + 1
-                if lent and used < len(rest) and rest[used] == "0" and k < len(lent):
-                    rest = [rest[0], lent[k]] + rest[used + 1 :]
-            return ".".join([head, new] + rest)
+            return ".".join([head, new] + within(at, first, callee, comps[1:]))
 
         text = re.sub(r"(?<![\w'.-])([A-Za-z][\w'-]*)((?:\.[\w'-]+)+)", path, text)
         for m in list(re.finditer(r"let ([\w'-]+) =\s+([\w'-]+)((?:\.before)*)\s+in\b\s*", text)):
@@ -262,13 +281,6 @@ def contracts_of(root):
                     if m:
                         fn = f"{crate}::" + (f"{impl}::" if impl and line.startswith(" ") else "") + m.group(1)
                         out[fn] = {"requires": [], "ensures": []}
-                        at = source.find("fn " + m.group(1) + "(")
-                        if at < 0:
-                            at = source.find("fn " + m.group(1) + "<")
-                        params = source[at : source.find("{", at)].split(" -> ")[0]
-                        out[fn]["lent"] = re.findall(r"(\w+): &(?:'\w+ )?mut ", params)
-                        if re.search(r"\(\s*&mut self", params):
-                            out[fn]["lent"].insert(0, "self")
                     m = re.match(r"\s*(requires|ensures) (\w+ )?\{", line)
                     if m and fn:
                         out[fn][m.group(1)].append((m.group(2) or "").strip())
@@ -292,7 +304,8 @@ def split_pair(text):
             parts.append(text[last:i])
             last = i + 1
     parts.append(text[last:-1])
-    return [p.strip() for p in parts] if len(parts) > 1 else None
+    parts = [p.strip() for p in parts if p.strip()]
+    return parts if len(parts) > 1 else None
 
 
 def lets(text):
@@ -335,8 +348,11 @@ def record_of(fields, body):
     if len(parts) > len(fields):
         head = parts[: len(fields) - 1]
         parts = head + ["(" + ", ".join(parts[len(fields) - 1 :]) + ")"]
-    if len(parts) < len(fields):
-        return None
+    while len(parts) < len(fields):
+        more = split_pair(parts[-1])
+        if not more:
+            return None
+        parts = parts[:-1] + more
     made = "; ".join(f"{f} = {p}" for f, p in zip(fields, parts))
     return (prefix + " " if prefix else "") + "record { " + made + " }"
 

@@ -14,7 +14,7 @@ pub slice_bounds-state-end : goal.slice_bounds-state-end
 slice_bounds-state-end c = omega (arith, c.bit-components.ensures, components-fit _ _ _ _ _ _ c.requires)
 
 pub slice_bounds-kept_total-end : goal.slice_bounds-kept_total-end
-slice_bounds-kept_total-end c = sym (length-take-le _ _ (omega (arith, c.decode_state.auto.1.1.1.0, c.bit-components.ensures, components-fit _ _ _ _ _ _ c.requires)))
+slice_bounds-kept_total-end c = sym (length-take-le _ _ (omega (arith, c.decode_state.auto.out, c.bit-components.ensures, components-fit _ _ _ _ _ _ c.requires)))
 
 pub kept_total-requires : goal.kept_total-requires
 kept_total-requires c = totalled _ _ _ _ _ _ c.requires _ _ _ (ap (λ (x : ℕ). 2 * x) c.bit-components.ensures) c.decode_state.ensures
@@ -23,7 +23,7 @@ pub slice_bounds-state-end-2 : goal.slice_bounds-state-end-2
 slice_bounds-state-end-2 c = omega (arith, c.bit-components.ensures, components-fit _ _ _ _ _ _ c.requires)
 
 pub slice_bounds-put_two-end : goal.slice_bounds-put_two-end
-slice_bounds-put_two-end c = sym (length-take-le _ _ (omega (arith, c.decode_state.auto.1.1.1.0, c.bit-components.ensures, components-fit _ _ _ _ _ _ c.requires)))
+slice_bounds-put_two-end c = sym (length-take-le _ _ (omega (arith, c.decode_state.auto.out, c.bit-components.ensures, components-fit _ _ _ _ _ _ c.requires)))
 
 pub put_text-requires : goal.put_text-requires
 put_text-requires c = omega (arith, c.requires.room-left, c.put_two-next.auto.out, two-next _ _ _ _ _ _ _ _ _ c.put_two-next.ensures)

@@ -7,4 +7,4 @@ pub returns-then-text-lt2048 : goal.returns-then-text-lt2048
 returns-then-text-lt2048 c = record { called = called-short _ _ _ _ c.if-text-lt2048.true; prefix_len = none-counts c.args.text.now }
 
 pub returns : goal.returns
-returns c = record { called = called-done _ _ _ _ c.answered.result _ c.if-text-lt2048.false c.answered.ensures.printed.puts c.answered.ensures.prefix_len.1; prefix_len = c.answered.ensures.prefix_len.0 }
+returns c = record { called = called-done _ _ _ _ c.answered.result _ c.if-text-lt2048.false c.answered.ensures.printed.puts c.answered.ensures.answer_value; prefix_len = c.answered.ensures.prefix_len }

@@ -8,25 +8,25 @@ use Rattle.certificate_pages.proofs.PagesLaws.{is-ended, count-any, few-listed, 
 use Rattle.certificate_pages.proofs.put_pages.Goals as goal
 
 pub slice_bounds-list-end : goal.slice_bounds-list-end
-slice_bounds-list-end c = let q = c.cut_result-result in let h : length q.new.1.0 ≡ 64 = q.ensures.list-long in omega (arith, few-listed _ _ _ q.result _ _ q.ensures (is-ended _ _ _ q.result _ _ q.ensures _ _ c.number_of-reply.ensures.0 c.was_begun.ensures c.if-was_begun.true), h)
+slice_bounds-list-end c = let q = c.cut_result-result in let h : length q.new.list ≡ 64 = q.ensures.list-long in omega (arith, few-listed _ _ _ q.result _ _ q.ensures (is-ended _ _ _ q.result _ _ q.ensures _ _ c.number_of-reply.ensures.0 c.was_begun.ensures c.if-was_begun.true), h)
 
 pub slice_bounds-put_front-end : goal.slice_bounds-put_front-end
-slice_bounds-put_front-end c = let q = c.cut_result-result in let h : length q.new.1.0 ≡ 64 = q.ensures.list-long in sym (length-take-le _ _ (omega (arith, few-listed _ _ _ q.result _ _ q.ensures (is-ended _ _ _ q.result _ _ q.ensures _ _ c.number_of-reply.ensures.0 c.was_begun.ensures c.if-was_begun.true), h)))
+slice_bounds-put_front-end c = let q = c.cut_result-result in let h : length q.new.list ≡ 64 = q.ensures.list-long in sym (length-take-le _ _ (omega (arith, few-listed _ _ _ q.result _ _ q.ensures (is-ended _ _ _ q.result _ _ q.ensures _ _ c.number_of-reply.ensures.0 c.was_begun.ensures c.if-was_begun.true), h)))
 
 pub slice_bounds-values-end : goal.slice_bounds-values-end
-slice_bounds-values-end c = let q = c.cut_result-result in let h : length q.new.1.1.0 ≡ 16 = q.ensures.values-long in omega (arith, count-any _ _ _ q.result _ _ q.ensures, h)
+slice_bounds-values-end c = let q = c.cut_result-result in let h : length q.new.values ≡ 16 = q.ensures.values-long in omega (arith, count-any _ _ _ q.result _ _ q.ensures, h)
 
 pub slice_bounds-put_front-end-then-was_begun : goal.slice_bounds-put_front-end-then-was_begun
-slice_bounds-put_front-end-then-was_begun c = let q = c.cut_result-result in let h : length q.new.1.1.0 ≡ 16 = q.ensures.values-long in sym (length-take-le _ _ (omega (arith, count-any _ _ _ q.result _ _ q.ensures, h)))
+slice_bounds-put_front-end-then-was_begun c = let q = c.cut_result-result in let h : length q.new.values ≡ 16 = q.ensures.values-long in sym (length-take-le _ _ (omega (arith, count-any _ _ _ q.result _ _ q.ensures, h)))
 
 pub put_front-next-requires : goal.put_front-next-requires
 put_front-next-requires c = let q = c.cut_result-result in front-asked _ _ _ q.result _ _ q.ensures (is-ended _ _ _ q.result _ _ q.ensures _ _ c.number_of-reply.ensures.0 c.was_begun.ensures c.if-was_begun.true) _ c.requires
 
 pub slice_bounds-list-end-then-was_begun : goal.slice_bounds-list-end-then-was_begun
-slice_bounds-list-end-then-was_begun c = let q = c.cut_result-result in let h : length q.new.1.0 ≡ 64 = q.ensures.list-long in omega (arith, few-listed _ _ _ q.result _ _ q.ensures (is-ended _ _ _ q.result _ _ q.ensures _ _ c.number_of-reply.ensures.0 c.was_begun.ensures c.if-was_begun.true), h)
+slice_bounds-list-end-then-was_begun c = let q = c.cut_result-result in let h : length q.new.list ≡ 64 = q.ensures.list-long in omega (arith, few-listed _ _ _ q.result _ _ q.ensures (is-ended _ _ _ q.result _ _ q.ensures _ _ c.number_of-reply.ensures.0 c.was_begun.ensures c.if-was_begun.true), h)
 
 pub slice_bounds-put_back-end : goal.slice_bounds-put_back-end
-slice_bounds-put_back-end c = let q = c.cut_result-result in let h : length q.new.1.0 ≡ 64 = q.ensures.list-long in sym (length-take-le _ _ (omega (arith, few-listed _ _ _ q.result _ _ q.ensures (is-ended _ _ _ q.result _ _ q.ensures _ _ c.number_of-reply.ensures.0 c.was_begun.ensures c.if-was_begun.true), h)))
+slice_bounds-put_back-end c = let q = c.cut_result-result in let h : length q.new.list ≡ 64 = q.ensures.list-long in sym (length-take-le _ _ (omega (arith, few-listed _ _ _ q.result _ _ q.ensures (is-ended _ _ _ q.result _ _ q.ensures _ _ c.number_of-reply.ensures.0 c.was_begun.ensures c.if-was_begun.true), h)))
 
 pub put_back-length-requires : goal.put_back-length-requires
 put_back-length-requires c = let q = c.cut_result-result in back-asked _ _ _ q.result _ _ q.ensures (is-ended _ _ _ q.result _ _ q.ensures _ _ c.number_of-reply.ensures.0 c.was_begun.ensures c.if-was_begun.true) _ _ (omega (arith, c.requires, c.put_front-next.auto.out)) (next-few _ _ _ q.result _ _ q.ensures (is-ended _ _ _ q.result _ _ q.ensures _ _ c.number_of-reply.ensures.0 c.was_begun.ensures c.if-was_begun.true) _ _ _ _ c.put_front-next.ensures)

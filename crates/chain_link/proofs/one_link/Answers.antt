@@ -44,4 +44,4 @@ pub step-requires : goal.step-requires
 step-requires c = (step-sizes _ _ _ _ _ _ _ _ _ _ _ _ c.requires c.bit-columns.ensures c.smaller_size-k.ensures (length-take-le _ _ (prefix-fits _ _ _ (link-sizes _ _ _ _ _ _ _ _ _ c.requires c.bit-columns.ensures c.smaller_size-k.ensures).few c.requires.u-is)) (length-take-le _ _ (prefix-fits _ _ _ (link-sizes _ _ _ _ _ _ _ _ _ c.requires c.bit-columns.ensures c.smaller_size-k.ensures).few c.requires.vt_is)) (length-take-le _ _ (omega (arith, (link-sizes _ _ _ _ _ _ _ _ _ c.requires c.bit-columns.ensures c.smaller_size-k.ensures).few, (link-sizes _ _ _ _ _ _ _ _ _ c.requires c.bit-columns.ensures c.smaller_size-k.ensures).side, c.requires.scratch-is))), site-fits _ _ _ _ _ c.args.sites.now _ _ _ c.requires c.bit-columns.ensures)
 
 pub returns : goal.returns
-returns c = one-linked _ _ _ _ _ _ _ _ _ _ _ c.bit-columns.ensures (c.step.auto.1.1.1.1.1.0 ∙ length-take-le _ _ (prefix-fits _ _ _ (link-sizes _ _ _ _ _ _ _ _ _ c.requires c.bit-columns.ensures c.smaller_size-k.ensures).few c.requires.u-is)) c.step.ensures
+returns c = one-linked _ _ _ _ _ _ _ _ _ _ _ c.bit-columns.ensures (c.step.auto.u ∙ length-take-le _ _ (prefix-fits _ _ _ (link-sizes _ _ _ _ _ _ _ _ _ c.requires c.bit-columns.ensures c.smaller_size-k.ensures).few c.requires.u-is)) c.step.ensures

@@ -62,4 +62,4 @@ returns c =
     let h : 2 * (c.args.rows * c.args.columns) ≤ length c.args.scratch.now = omega (arith, z.0.scratch-is) in
     let w = c.factor_loaded in
     let loaded = c.load in
-    factored c.args.u.now _ _ _ w.result _ _ k (take_at _ _ _ (loaded.auto.1.1.1.0 ∙ length-take-le _ _ h) ∙ loaded.ensures) (w.auto.1.1.0 ∙ length-take-le _ _ (omega (arith, r.2, z.0.carried-is))) (w.auto.1.1.1.1.0 ∙ length-take-le _ _ (omega (arith, r.3, z.0.vt_is))) w.ensures
+    factored c.args.u.now _ _ _ w.result _ _ k (take_at _ _ _ (loaded.auto.work ∙ length-take-le _ _ h) ∙ loaded.ensures) (w.auto.u ∙ length-take-le _ _ (omega (arith, r.2, z.0.carried-is))) (w.auto.vt ∙ length-take-le _ _ (omega (arith, r.3, z.0.vt_is))) w.ensures

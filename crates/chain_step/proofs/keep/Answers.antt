@@ -17,10 +17,10 @@ pub overflow_mul-carried-2 : goal.overflow_mul-carried-2
 overflow_mul-carried-2 c = omega (arith, (carried-room _ _ _ _ _ _ _ (keeping _ _ _ _ _ _ _ _ c.requires c.truncated_svd_rank-chi.ensures)).0)
 
 pub slice_bounds-check_components-end : goal.slice_bounds-check_components-end
-slice_bounds-check_components-end c = omega (arith, c.write_both.auto.1.1.1.1.1.1.0, (carried-room _ _ _ _ _ _ _ (keeping _ _ _ _ _ _ _ _ c.requires c.truncated_svd_rank-chi.ensures)).1)
+slice_bounds-check_components-end c = omega (arith, c.write_both.auto.u, (carried-room _ _ _ _ _ _ _ (keeping _ _ _ _ _ _ _ _ c.requires c.truncated_svd_rank-chi.ensures)).1)
 
 pub slice_bounds-check_components-end-2 : goal.slice_bounds-check_components-end-2
-slice_bounds-check_components-end-2 c = sym (length-take-le _ _ (omega (arith, c.write_both.auto.1.1.1.1.1.1.0, (carried-room _ _ _ _ _ _ _ (keeping _ _ _ _ _ _ _ _ c.requires c.truncated_svd_rank-chi.ensures)).1)))
+slice_bounds-check_components-end-2 c = sym (length-take-le _ _ (omega (arith, c.write_both.auto.u, (carried-room _ _ _ _ _ _ _ (keeping _ _ _ _ _ _ _ _ c.requires c.truncated_svd_rank-chi.ensures)).1)))
 
 pub returns-in_default : goal.returns-in_default
 returns-in_default c = kept-bad _ _ _ _ _ _ _ _ _ _ _ _ c.check_components-answer.result c.truncated_svd_rank-chi.ensures c.write_both.ensures.0 c.write_both.ensures.1 c.check_components-answer.ensures (stopped-number c.check_components-answer.result c.in_default.not-Done)

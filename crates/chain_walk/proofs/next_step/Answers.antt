@@ -7,16 +7,16 @@ use Rattle.chain_walk.proofs.NextLaws.{next-refused, rank_room, next-taken}
 use Rattle.chain_walk.proofs.next_step.Goals as goal
 
 pub shape_of-sites-in_default : goal.shape_of-sites-in_default
-shape_of-sites-in_default c = c.one_link-link.auto.1.1.1.1.1.1.0
+shape_of-sites-in_default c = c.one_link-link.auto.sites
 
 pub shape_of-u-in_default : goal.shape_of-u-in_default
-shape_of-u-in_default c = c.one_link-link.auto.1.1.1.1.1.1.1.0
+shape_of-u-in_default c = c.one_link-link.auto.u
 
 pub shape_of-vt-in_default : goal.shape_of-vt-in_default
-shape_of-vt-in_default c = c.one_link-link.auto.1.1.1.1.1.1.1.1.0
+shape_of-vt-in_default c = c.one_link-link.auto.vt
 
 pub shape_of-scratch-in_default : goal.shape_of-scratch-in_default
-shape_of-scratch-in_default c = c.one_link-link.auto.1.1.1.1.1.1.1.1.1.0
+shape_of-scratch-in_default c = c.one_link-link.auto.scratch
 
 pub returns-in_default : goal.returns-in_default
 returns-in_default c = next-refused _ _ _ _ _ _ _ _ _ _ _ _ c.one_link-link.result c.one_link-link.ensures (stopped-number c.one_link-link.result.answer c.in_default.not-Done)
@@ -46,19 +46,19 @@ pub bounds-starts-j : goal.bounds-starts-j
 bounds-starts-j c = c.requires.in-starts
 
 pub shape_of-sites : goal.shape_of-sites
-shape_of-sites c = c.one_link-link.auto.1.1.1.1.1.1.0
+shape_of-sites c = c.one_link-link.auto.sites
 
 pub shape_of-marks : goal.shape_of-marks
-shape_of-marks c = c.put_marks.auto.1.1.0
+shape_of-marks c = c.put_marks.auto.marks
 
 pub shape_of-u : goal.shape_of-u
-shape_of-u c = c.one_link-link.auto.1.1.1.1.1.1.1.0
+shape_of-u c = c.one_link-link.auto.u
 
 pub shape_of-vt : goal.shape_of-vt
-shape_of-vt c = c.one_link-link.auto.1.1.1.1.1.1.1.1.0
+shape_of-vt c = c.one_link-link.auto.vt
 
 pub shape_of-scratch : goal.shape_of-scratch
-shape_of-scratch c = c.one_link-link.auto.1.1.1.1.1.1.1.1.1.0
+shape_of-scratch c = c.one_link-link.auto.scratch
 
 pub returns : goal.returns
 returns c = next-taken _ _ _ _ _ _ _ _ c.one_link-link.result c.requires.room.bond-some c.one_link-link.ensures c.in-Done.is _ _ _ _ c.one_if.ensures refl refl c.put_marks.ensures

@@ -13,25 +13,25 @@ pub next_step-step-requires : goal.next_step-step-requires
 next_step-step-requires c = room-of-next _ _ _ _ _ _ _ _ _ _ _ _ _ _ _ _ _ (omega (arith, c.loop-j-test.true)) c.requires.limit-some c.loop-j.invariant.8 (room-now _ _ c.requires c.loop-j.invariant.1 c.loop-j.invariant.2 c.loop-j.invariant.3 c.loop-j.invariant.4 c.loop-j.invariant.5 c.loop-j.invariant.6 c.loop-j.invariant.7)
 
 pub shape_of-sites-in_default : goal.shape_of-sites-in_default
-shape_of-sites-in_default c = c.next_step-step.auto.1.1.1.1.1.1.1.0 ∙ c.loop-j.invariant.1
+shape_of-sites-in_default c = c.next_step-step.auto.sites ∙ c.loop-j.invariant.1
 
 pub shape_of-bonds-in_default : goal.shape_of-bonds-in_default
-shape_of-bonds-in_default c = c.next_step-step.auto.1.1.1.1.1.1.1.1.0 ∙ c.loop-j.invariant.2
+shape_of-bonds-in_default c = c.next_step-step.auto.bonds ∙ c.loop-j.invariant.2
 
 pub shape_of-starts-in_default : goal.shape_of-starts-in_default
-shape_of-starts-in_default c = c.next_step-step.auto.1.1.1.1.1.1.1.1.1.0 ∙ c.loop-j.invariant.3
+shape_of-starts-in_default c = c.next_step-step.auto.starts ∙ c.loop-j.invariant.3
 
 pub shape_of-marks-in_default : goal.shape_of-marks-in_default
-shape_of-marks-in_default c = c.next_step-step.auto.1.1.1.1.1.1.1.1.1.1.0 ∙ c.loop-j.invariant.4
+shape_of-marks-in_default c = c.next_step-step.auto.marks ∙ c.loop-j.invariant.4
 
 pub shape_of-u-in_default : goal.shape_of-u-in_default
-shape_of-u-in_default c = c.next_step-step.auto.1.1.1.1.1.1.1.1.1.1.1.0 ∙ c.loop-j.invariant.5
+shape_of-u-in_default c = c.next_step-step.auto.u ∙ c.loop-j.invariant.5
 
 pub shape_of-vt-in_default : goal.shape_of-vt-in_default
-shape_of-vt-in_default c = c.next_step-step.auto.1.1.1.1.1.1.1.1.1.1.1.1.0 ∙ c.loop-j.invariant.6
+shape_of-vt-in_default c = c.next_step-step.auto.vt ∙ c.loop-j.invariant.6
 
 pub shape_of-scratch-in_default : goal.shape_of-scratch-in_default
-shape_of-scratch-in_default c = c.next_step-step.auto.1.1.1.1.1.1.1.1.1.1.1.1.1.0 ∙ c.loop-j.invariant.7
+shape_of-scratch-in_default c = c.next_step-step.auto.scratch ∙ c.loop-j.invariant.7
 
 pub returns-in_default : goal.returns-in_default
 returns-in_default c = walk_refused _ _ _ _ _ _ _ _ _ _ _ _ _ _ _ _ _ (omega (arith, c.loop-j-test.true)) c.requires.limit-some c.loop-j.invariant.8 c.next_step-step.ensures (stopped-number c.next_step-step.result.answer c.in_default.not-Done)

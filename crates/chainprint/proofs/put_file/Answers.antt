@@ -17,7 +17,7 @@ pub slice_bounds-state-end : goal.slice_bounds-state-end
 slice_bounds-state-end c = omega (arith, c.bit-components.ensures, small_power c.args.n c.requires.long_enough.n-small)
 
 pub slice_bounds-put_state-end : goal.slice_bounds-put_state-end
-slice_bounds-put_state-end c = sym (length-take-le _ _ (omega (arith, c.decode_state.auto.1.1.1.0, c.bit-components.ensures, small_power c.args.n c.requires.long_enough.n-small)))
+slice_bounds-put_state-end c = sym (length-take-le _ _ (omega (arith, c.decode_state.auto.out, c.bit-components.ensures, small_power c.args.n c.requires.long_enough.n-small)))
 
 pub put_state-requires : goal.put_state-requires
 put_state-requires c = (c.requires.long_enough.n-small, c.requires.out_len)

@@ -169,28 +169,28 @@ work-requires c =
     (record { some = (accept).some; small = (accept).small; limit-some = (accept).limit-some; state-is = (accept).state-is; sites-is = length-take-le _ _ (sites-fit) ∙ ap (λ (x : ℕ). 2 * x) c.room_of-room.ensures; bonds-is = length-take-le _ _ (accept).bonds-fit; starts_is = length-take-le _ _ (accept).starts_fit; marks-is = length-take-le _ _ (accept).marks-fit; u-is = length-take-le _ _ (plane-fits c.before.before.before.before.before.before.before.before (accept).u-fits) ∙ plane-is; vt_is = length-take-le _ _ (plane-fits c.before.before.before.before.before.before.before.before (accept).vt-fits) ∙ plane-is; scratch-is = length-take-le _ _ (scratch-fits) ∙ scratch-is }, length-take-le _ _ (plane-fits c.before.before.before.before.before.before.before.before (accept).matrix-fits) ∙ plane-is)
 
 pub shape_of-sites : goal.shape_of-sites
-shape_of-sites c = same_len (2 * c.room_of-room.result) c.args.sites.now c.work.new.matrix c.work.auto.matrix
+shape_of-sites c = same_len (2 * c.room_of-room.result) c.args.sites.now c.work.new.sites c.work.auto.sites
 
 pub shape_of-bonds : goal.shape_of-bonds
-shape_of-bonds c = same_len (c.args.n + 1) c.args.bonds.now c.work.new.u c.work.auto.u
+shape_of-bonds c = same_len (c.args.n + 1) c.args.bonds.now c.work.new.bonds c.work.auto.bonds
 
 pub shape_of-starts : goal.shape_of-starts
-shape_of-starts c = same_len (c.args.n + 1) c.args.starts.now c.work.new.vt c.work.auto.vt
+shape_of-starts c = same_len (c.args.n + 1) c.args.starts.now c.work.new.starts c.work.auto.starts
 
 pub shape_of-marks : goal.shape_of-marks
-shape_of-marks c = same_len (3 * (c.args.n - 1)) c.args.marks.now c.work.new.scratch c.work.auto.scratch
+shape_of-marks c = same_len (3 * (c.args.n - 1)) c.args.marks.now c.work.new.marks c.work.auto.marks
 
 pub shape_of-matrix : goal.shape_of-matrix
-shape_of-matrix c = same_len (2 * c.bit-cells.result) c.args.matrix.now c.work.new.1.1.1.1.1.1.1.1.0 c.work.auto.1.1.1.1.1.1.1.1.0
+shape_of-matrix c = same_len (2 * c.bit-cells.result) c.args.matrix.now c.work.new.matrix c.work.auto.matrix
 
 pub shape_of-u : goal.shape_of-u
-shape_of-u c = same_len (2 * c.bit-cells.result) c.args.u.now c.work.new.1.1.1.1.1.1.1.1.1.0 c.work.auto.1.1.1.1.1.1.1.1.1.0
+shape_of-u c = same_len (2 * c.bit-cells.result) c.args.u.now c.work.new.u c.work.auto.u
 
 pub shape_of-vt : goal.shape_of-vt
-shape_of-vt c = same_len (2 * c.bit-cells.result) c.args.vt.now c.work.new.1.1.1.1.1.1.1.1.1.1.0 c.work.auto.1.1.1.1.1.1.1.1.1.1.0
+shape_of-vt c = same_len (2 * c.bit-cells.result) c.args.vt.now c.work.new.vt c.work.auto.vt
 
 pub shape_of-scratch : goal.shape_of-scratch
-shape_of-scratch c = same_len (6 * c.bit-cells.result + 2 * c.bit-side.result) c.args.scratch.now c.work.new.1.1.1.1.1.1.1.1.1.1.1.0 c.work.auto.1.1.1.1.1.1.1.1.1.1.1.0
+shape_of-scratch c = same_len (6 * c.bit-cells.result + 2 * c.bit-side.result) c.args.scratch.now c.work.new.scratch c.work.auto.scratch
 
 pub returns : goal.returns
 returns c = chain-worked _ _ _ _ _ _ _ _ _ _ _ _ c.work.result c.bit-cells.ensures c.bit-side.ensures c.room_of-room.ensures (passed _ _ _ c.check-answer.ensures c.in-Done.is) c.work.ensures

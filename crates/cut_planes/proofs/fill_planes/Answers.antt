@@ -17,7 +17,7 @@ overflow_add-at c =
 
 pub loop-c-preserved : goal.loop-c-preserved
 loop-c-preserved c =
-    columns-step _ _ _ _ _ _ _ _ c.requires.0 _ _ _ _ c.loop-c.invariant c.loop-c-test.true _ _ c.fill_column.auto.1.1.1.1.1.1.1.0
+    columns-step _ _ _ _ _ _ _ _ c.requires.0 _ _ _ _ c.loop-c.invariant c.loop-c-test.true _ _ c.fill_column.auto.work
     c.fill_column.ensures c.next_submask-bits.ensures
 
 pub shape_of-work : goal.shape_of-work

@@ -10,7 +10,7 @@ pub returns-in_default : goal.returns-in_default
 returns-in_default c =
     let z = c.args in
     let r = c.side_refusal-first in
-    part_none z.list.now z.n z.cap z.others.now r.result r.ensures (stopped-number r.result c.in-Done.keys2)
+    part_none z.list.now z.n z.cap z.others.now r.result r.ensures (stopped-number r.result c.in_default.not-Done)
 
 pub overflow_sub-rest : goal.overflow_sub-rest
 overflow_sub-rest c =
@@ -23,15 +23,15 @@ slice_bounds-result-end-then-k-rest c = sym (length-take-le _ _ (omega arith))
 pub returns-then-k-rest : goal.returns-then-k-rest
 returns-then-k-rest c =
     let z = c.args in
-    part-named z.list.now z.n z.cap z.others.now (was-done _ _ c.side_refusal-first.ensures c.enum_told-1.given.1) c.if-k-rest.true
+    part-named z.list.now z.n z.cap z.others.now (was-done _ _ c.side_refusal-first.ensures c.in-Done.is) c.if-k-rest.true
 
 pub slice_bounds-result-end-2 : goal.slice_bounds-result-end-2
 slice_bounds-result-end-2 c =
     let z = c.args in
     sym (length-take-le _ _
-    (room-done z.list.now z.n z.cap _ (was-done _ _ c.side_refusal-first.ensures c.enum_told-1.given.1) c.if-k-rest.false).1)
+    (room-done z.list.now z.n z.cap _ (was-done _ _ c.side_refusal-first.ensures c.in-Done.is) c.if-k-rest.false).1)
 
 pub returns : goal.returns
 returns c =
     let z = c.args in
-    part-others z.list.now z.n z.cap z.others.now (was-done _ _ c.side_refusal-first.ensures c.enum_told-1.given.1) c.if-k-rest.false
+    part-others z.list.now z.n z.cap z.others.now (was-done _ _ c.side_refusal-first.ensures c.in-Done.is) c.if-k-rest.false

@@ -20,13 +20,13 @@ pub singular_values-requires : goal.singular_values-requires
 singular_values-requires c = (cut-sized _ _ _ c.requires _ c.sides_of-cut.ensures, length-take-le _ _ (cut-sized _ _ _ c.requires _ c.sides_of-cut.ensures).few, cells_fit _ _ _ c.requires _ c.sides_of-cut.ensures)
 
 pub slice_bounds-values-end-2 : goal.slice_bounds-values-end-2
-slice_bounds-values-end-2 c = front-in _ c.singular_values.new.1.1.1.0 _ (c.singular_values.auto.1.1.1.0 ∙ length-take-le _ _ (cut-sized _ _ _ c.requires _ c.sides_of-cut.ensures).few)
+slice_bounds-values-end-2 c = front-in _ c.singular_values.new.values _ (c.singular_values.auto.values ∙ length-take-le _ _ (cut-sized _ _ _ c.requires _ c.sides_of-cut.ensures).few)
 
 pub slice_bounds-total_of-end : goal.slice_bounds-total_of-end
-slice_bounds-total_of-end c = sym (front_length _ c.singular_values.new.1.1.1.0 _ (c.singular_values.auto.1.1.1.0 ∙ length-take-le _ _ (cut-sized _ _ _ c.requires _ c.sides_of-cut.ensures).few))
+slice_bounds-total_of-end c = sym (front_length _ c.singular_values.new.values _ (c.singular_values.auto.values ∙ length-take-le _ _ (cut-sized _ _ _ c.requires _ c.sides_of-cut.ensures).few))
 
 pub total_of-requires : goal.total_of-requires
-total_of-requires c = same-le (front_length _ c.singular_values.new.1.1.1.0 _ (c.singular_values.auto.1.1.1.0 ∙ length-take-le _ _ (cut-sized _ _ _ c.requires _ c.sides_of-cut.ensures).few)) (cut-sized _ _ _ c.requires _ c.sides_of-cut.ensures).few
+total_of-requires c = same-le (front_length _ c.singular_values.new.values _ (c.singular_values.auto.values ∙ length-take-le _ _ (cut-sized _ _ _ c.requires _ c.sides_of-cut.ensures).few)) (cut-sized _ _ _ c.requires _ c.sides_of-cut.ensures).few
 
 pub returns : goal.returns
-returns c = cut-total _ _ _ c.requires _ c.sides_of-cut.ensures _ _ (take_at _ _ _ (c.singular_values.auto.1.1.1.0 ∙ length-take-le _ _ (cut-sized _ _ _ c.requires _ c.sides_of-cut.ensures).few) ∙ c.singular_values.ensures.0) c.total_of.ensures
+returns c = cut-total _ _ _ c.requires _ c.sides_of-cut.ensures _ _ (take_at _ _ _ (c.singular_values.auto.values ∙ length-take-le _ _ (cut-sized _ _ _ c.requires _ c.sides_of-cut.ensures).few) ∙ c.singular_values.ensures.0) c.total_of.ensures

@@ -13,10 +13,10 @@ pub sort_down-requires : goal.sort_down-requires
 sort_down-requires c = length-take-le _ _ c.requires
 
 pub slice_bounds-sorted-end-2 : goal.slice_bounds-sorted-end-2
-slice_bounds-sorted-end-2 c = front-in _ c.sort_down.new.1.0 _ (c.sort_down.auto.1.0 ∙ length-take-le _ _ c.requires)
+slice_bounds-sorted-end-2 c = front-in _ c.sort_down.new.sorted _ (c.sort_down.auto.sorted ∙ length-take-le _ _ c.requires)
 
 pub slice_bounds-total_sorted-end : goal.slice_bounds-total_sorted-end
-slice_bounds-total_sorted-end c = sym (front_length _ c.sort_down.new.1.0 _ (c.sort_down.auto.1.0 ∙ length-take-le _ _ c.requires))
+slice_bounds-total_sorted-end c = sym (front_length _ c.sort_down.new.sorted _ (c.sort_down.auto.sorted ∙ length-take-le _ _ c.requires))
 
 pub returns : goal.returns
-returns c = c.total_sorted.ensures ∙ ap total_sorted (take_at _ _ _ (c.sort_down.auto.1.0 ∙ length-take-le _ _ c.requires) ∙ c.sort_down.ensures)
+returns c = c.total_sorted.ensures ∙ ap total_sorted (take_at _ _ _ (c.sort_down.auto.sorted ∙ length-take-le _ _ c.requires) ∙ c.sort_down.ensures)

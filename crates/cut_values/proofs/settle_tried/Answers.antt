@@ -16,12 +16,12 @@ pub returns-then-all_finite : goal.returns-then-all_finite
 returns-then-all_finite c =
     let t = c.settle_work-sweeps in
     let p = c.requires in
-    settled-plainly _ _ _ _ t.result p.0 (t.auto.1.1.1.0 ∙ p.1) t.ensures c.all_finite.ensures c.if-all_finite.true
+    settled-plainly _ _ _ _ t.result p.0 (t.auto.work ∙ p.1) t.ensures c.all_finite.ensures c.if-all_finite.true
 
 pub settle_work-requires-2 : goal.settle_work-requires-2
 settle_work-requires-2 c =
     let p = c.requires in
-    (p.0, c.settle_work-sweeps.auto.1.1.1.0 ∙ p.1)
+    (p.0, c.settle_work-sweeps.auto.work ∙ p.1)
 
 pub returns : goal.returns
 returns c = settled-exactly _ _ _ _ c.settle_work-2.result c.requires.0 c.settle_work-2.ensures

@@ -12,7 +12,7 @@ pub settle_alone-requires : goal.settle_alone-requires
 settle_alone-requires c =
     let p = c.requires in
     let a = all-cells _ _ _ p.0 in
-    record { work = omega (arith, c.gather_work.auto.1.1.1.0, p.1, a); columns = p.0.few; cells = omega (arith, a, pow_small _ p.0.small) }
+    record { work = omega (arith, c.gather_work.auto.work, p.1, a); columns = p.0.few; cells = omega (arith, a, pow_small _ p.0.small) }
 
 pub returns : goal.returns
 returns c = settled-from _ _ _ c.gather_work.ensures c.settle_alone.ensures

@@ -35,10 +35,10 @@ sweep-swept-requires c =
     (p.0, length-take-le _ _ h ∙ ap (λ (x : ℕ). 2 * x) c.bit-all.ensures, length-take-le _ _ p.0.few)
 
 pub slice_bounds-norms-end-2 : goal.slice_bounds-norms-end-2
-slice_bounds-norms-end-2 c = front-in _ c.sweep-swept.new.1.1.1.1.0 _ (c.sweep-swept.auto.1.1.1.1.0 ∙ length-take-le _ _ c.requires.0.few)
+slice_bounds-norms-end-2 c = front-in _ c.sweep-swept.new.norms _ (c.sweep-swept.auto.norms ∙ length-take-le _ _ c.requires.0.few)
 
 pub slice_bounds-sort-end : goal.slice_bounds-sort-end
-slice_bounds-sort-end c = sym (front_length _ c.sweep-swept.new.1.1.1.1.0 _ (c.sweep-swept.auto.1.1.1.1.0 ∙ length-take-le _ _ c.requires.0.few))
+slice_bounds-sort-end c = sym (front_length _ c.sweep-swept.new.norms _ (c.sweep-swept.auto.norms ∙ length-take-le _ _ c.requires.0.few))
 
 pub slice_bounds-sort-end-2 : goal.slice_bounds-sort-end-2
 slice_bounds-sort-end-2 c =
@@ -54,10 +54,10 @@ pub sort-requires : goal.sort-requires
 sort-requires c =
     let small-enough : let a = c.args in a.cut.rows ≤ length a.scratch.now = omega (arith, rows_fit _ _ _ c.requires.0, c.requires.2) in
     let p = c.requires in
-    (p.0.few, front_length _ c.sweep-swept.new.1.1.1.1.0 _ (c.sweep-swept.auto.1.1.1.1.0 ∙ length-take-le _ _ p.0.few), p.1, length-take-le _ _ (le_same (small-enough) (search rules)))
+    (p.0.few, front_length _ c.sweep-swept.new.norms _ (c.sweep-swept.auto.norms ∙ length-take-le _ _ p.0.few), p.1, length-take-le _ _ (le_same (small-enough) (search rules)))
 
 pub returns : goal.returns
 returns c =
     let p = c.requires in
     let t = c.sweep-swept in
-    (values-made _ _ _ p.0 (take_at _ _ _ (t.auto.1.1.1.1.0 ∙ length-take-le _ _ p.0.few) ∙ t.ensures.0) c.sort.ensures.1, t.ensures.1, t.ensures.2)
+    (values-made _ _ _ p.0 (take_at _ _ _ (t.auto.norms ∙ length-take-le _ _ p.0.few) ∙ t.ensures.0) c.sort.ensures.1, t.ensures.1, t.ensures.2)

@@ -12,7 +12,7 @@ pub norms_marked-exact-requires : goal.norms_marked-exact-requires
 norms_marked-exact-requires c =
     let p = c.requires in
     let a = all-cells _ _ _ p.0 in
-    (omega (arith, a, pow_small _ p.0.small), omega (arith, c.settle_tried-sweeps.auto.1.1.1.0, p.1, a), omega (arith, p.2))
+    (omega (arith, a, pow_small _ p.0.small), omega (arith, c.settle_tried-sweeps.auto.work, p.1, a), omega (arith, p.2))
 
 pub returns : goal.returns
 returns c =

@@ -6,5 +6,5 @@ use Rattle.cut_values.proofs.work.Goals as goal
 pub returns : goal.returns
 returns c =
     let v = c.values_made-made in
-    let m = v.auto.1.1.1.1.0 ∙ c.requires.2 in
+    let m = v.auto.scratch ∙ c.requires.2 in
     worked _ _ _ _ _ _ _ v.ensures m m c.zero_first.ensures

@@ -13,4 +13,4 @@ pub returns : goal.returns
 returns c =
     let h = c.check_header-header in
     let f = c.of_file-kept in
-    header-done _ h.result h.ensures (was-done h.result.answer _ h.ensures.answer-is c.in-Done.is) _ _ f.result _ _ f.ensures f.auto.1.1.1.0 f.auto.1.1.1.1.0
+    header-done _ h.result h.ensures (was-done h.result.answer _ h.ensures.answer-is c.in-Done.is) _ _ f.result _ _ f.ensures f.auto.list f.auto.values

@@ -13,10 +13,10 @@ pub slice_bounds-state-end : goal.slice_bounds-state-end
 slice_bounds-state-end c = omega (arith, c.bit-components.ensures, small_power c.args.n c.requires.0.n-small)
 
 pub slice_bounds-values_of-end : goal.slice_bounds-values_of-end
-slice_bounds-values_of-end c = sym (length-take-le _ _ (omega (arith, c.decode_state.auto.1.1.1.0, c.bit-components.ensures, small_power c.args.n c.requires.0.n-small)))
+slice_bounds-values_of-end c = sym (length-take-le _ _ (omega (arith, c.decode_state.auto.out, c.bit-components.ensures, small_power c.args.n c.requires.0.n-small)))
 
 pub slice_bounds-values_of-end-3 : goal.slice_bounds-values_of-end-3
-slice_bounds-values_of-end-3 c = sym (length-take-le _ _ (omega (arith, c.decode_list.auto.1.1.1.0, c.requires.0.k-small, c.requires.1)))
+slice_bounds-values_of-end-3 c = sym (length-take-le _ _ (omega (arith, c.decode_list.auto.out, c.requires.0.k-small, c.requires.1)))
 
 pub returns : goal.returns
 returns c = file-valued _ _ _ _ _ _ _ _ _ c.values_of.result _ (ap (λ (x : ℕ). 2 * x) c.bit-components.ensures) c.decode_list.ensures c.decode_state.ensures c.values_of.ensures

@@ -18,7 +18,7 @@ overflow_add-at c =
 pub loop-c-preserved : goal.loop-c-preserved
 loop-c-preserved c =
     let z = c.requires in
-    columns-step _ _ _ _ _ _ _ z _ _ _ _ c.loop-c.invariant c.loop-c-test.true _ _ c.fill_column.auto.1.1.1.1.1.1.0
+    columns-step _ _ _ _ _ _ _ z _ _ _ _ c.loop-c.invariant c.loop-c-test.true _ _ c.fill_column.auto.out
     c.fill_column.ensures c.next_submask-bits.ensures
 
 pub shape_of-out : goal.shape_of-out

@@ -26,7 +26,7 @@ returns-in_default c =
     place-refused _ _ _ r (refused r _ _ c.square_refusal-first.ensures c.in_default.not-Done) (stopped-number r c.in_default.not-Done)
 
 pub trace_of-trace-requires : goal.trace_of-trace-requires
-trace_of-trace-requires c = square-done _ _ (was-done _ _ c.square_refusal-first.ensures c.enum_told-1.given.1)
+trace_of-trace-requires c = square-done _ _ (was-done _ _ c.square_refusal-first.ensures c.in-Done.is)
 
 pub returns-then-trace : goal.returns-then-trace
 returns-then-trace c =
@@ -36,13 +36,13 @@ returns-then-trace c =
 
 pub overflow_mul-cells : goal.overflow_mul-cells
 overflow_mul-cells c =
-    omega (arith, square-small c.args.dim (square-done c.args.rho.now c.args.dim (was-done _ _ c.square_refusal-first.ensures c.enum_told-1.given.1)).small)
+    omega (arith, square-small c.args.dim (square-done c.args.rho.now c.args.dim (was-done _ _ c.square_refusal-first.ensures c.in-Done.is)).small)
 
 pub scaled_finite-requires : goal.scaled_finite-requires
-scaled_finite-requires c = (square-done c.args.rho.now c.args.dim (was-done _ _ c.square_refusal-first.ensures c.enum_told-1.given.1)).room
+scaled_finite-requires c = (square-done c.args.rho.now c.args.dim (was-done _ _ c.square_refusal-first.ensures c.in-Done.is)).room
 
 pub scale_cells-requires : goal.scale_cells-requires
-scale_cells-requires c = (square-done c.args.rho.now c.args.dim (was-done _ _ c.square_refusal-first.ensures c.enum_told-1.given.1)).room
+scale_cells-requires c = (square-done c.args.rho.now c.args.dim (was-done _ _ c.square_refusal-first.ensures c.in-Done.is)).room
 
 pub returns-then-scaled_finite : goal.returns-then-scaled_finite
 returns-then-scaled_finite c =

@@ -22,4 +22,4 @@ pub put_lines-requires : goal.put_lines-requires
 put_lines-requires c = (omega (arith, c.requires), made-long _ _ c.lot_sheet-answer.result _ c.lot_sheet-answer.ensures c.in-Done.is)
 
 pub returns : goal.returns
-returns c = puts-counts _ _ _ _ (omega (arith, length-sheet c.number_at-count.result c.lot_sheet-answer.new.1.0 (made-long _ _ c.lot_sheet-answer.result _ c.lot_sheet-answer.ensures c.in-Done.is), c.requires)) c.put_lines.ensures
+returns c = puts-counts _ _ _ _ (omega (arith, length-sheet c.number_at-count.result c.lot_sheet-answer.new.sheet (made-long _ _ c.lot_sheet-answer.result _ c.lot_sheet-answer.ensures c.in-Done.is), c.requires)) c.put_lines.ensures

@@ -13,7 +13,7 @@ pub sort_down-requires : goal.sort_down-requires
 sort_down-requires c = length-take-le _ _ c.requires
 
 pub slice_bounds-finish_sorted-end-2 : goal.slice_bounds-finish_sorted-end-2
-slice_bounds-finish_sorted-end-2 c = let n = length c.args.values.now in sym (length-take-le _ _ (omega (arith, length-append c.sort_down.new.1.0 (drop n c.args.out.now), c.sort_down.auto.1.0, length-take-le n c.args.out.now c.requires)))
+slice_bounds-finish_sorted-end-2 c = let n = length c.args.values.now in sym (length-take-le _ _ (omega (arith, length-append c.sort_down.new.sorted (drop n c.args.out.now), c.sort_down.auto.sorted, length-take-le n c.args.out.now c.requires)))
 
 pub returns : goal.returns
 returns c = finished-made _ _ _ _ _ c.sort_down.ensures c.finish_sorted.ensures

@@ -22,7 +22,7 @@ pub overflow_sub-n : goal.overflow_sub-n
 overflow_sub-n c = within _ _ _ c.floor_of.ensures c.kept_count-count.ensures
 
 pub returns-then-scaled : goal.returns-then-scaled
-returns-then-scaled c = sorted-done _ _ _ c.floor_of.ensures c.kept_count-count.ensures c.if-count-eq0.false _ _ c.scale_kept-scaled.ensures.now _ c.scale_kept-scaled.ensures.whether.0 c.if-scaled.true c.zero_first-then-scaled.ensures _ c.scale_kept-scaled.ensures.whether.1
+returns-then-scaled c = sorted-done _ _ _ c.floor_of.ensures c.kept_count-count.ensures c.if-count-eq0.false _ _ c.scale_kept-scaled.ensures.now _ c.scale_kept-scaled.ensures.whether c.if-scaled.true c.zero_first-then-scaled.ensures _ c.scale_kept-scaled.ensures.marked
 
 pub returns : goal.returns
-returns c = sorted-infinite _ _ _ c.floor_of.ensures c.kept_count-count.ensures c.if-count-eq0.false _ c.scale_kept-scaled.ensures.whether.0 c.if-scaled.false _ _ c.scale_kept-scaled.auto.s c.zero_first-2.ensures
+returns c = sorted-infinite _ _ _ c.floor_of.ensures c.kept_count-count.ensures c.if-count-eq0.false _ c.scale_kept-scaled.ensures.whether c.if-scaled.false _ _ c.scale_kept-scaled.auto.s c.zero_first-2.ensures

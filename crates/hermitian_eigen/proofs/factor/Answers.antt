@@ -29,4 +29,4 @@ pub write_vectors-requires : goal.write_vectors-requires
 write_vectors-requires c = let e = c.requires in (record { tall = omega arith; columns = e.side; cells = omega (arith, mul-le-mul e.side e.side); s-is = search rules; other-is = search rules; scratch-is = search rules }, rising-places _ _ _ _ c.rank_rising.ensures)
 
 pub returns : goal.returns
-returns c = let e = c.requires in factored-made _ _ _ _ e.side (c.sweep-sweeps.auto.1.1.1.0 ∙ length-take-le _ _ (omega (arith, e.scratch-is))) c.sweep-sweeps.ensures c.rank_rising.ensures c.write_vectors.ensures
+returns c = let e = c.requires in factored-made _ _ _ _ e.side (c.sweep-sweeps.auto.work ∙ length-take-le _ _ (omega (arith, e.scratch-is))) c.sweep-sweeps.ensures c.rank_rising.ensures c.write_vectors.ensures

@@ -10,7 +10,7 @@ pub load_shifted-requires : goal.load_shifted-requires
 load_shifted-requires c = c.requires
 
 pub settle_alone-requires : goal.settle_alone-requires
-settle_alone-requires c = record { work = omega (arith, c.load_shifted.auto.1.1.1.0, c.requires.2); columns = c.requires.0; cells = omega (arith, mul-le-mul c.requires.0 c.requires.0) }
+settle_alone-requires c = record { work = omega (arith, c.load_shifted.auto.work, c.requires.2); columns = c.requires.0; cells = omega (arith, mul-le-mul c.requires.0 c.requires.0) }
 
 pub returns : goal.returns
 returns c = sweep-made _ _ _ c.load_shifted.ensures (c.settle_alone.ensures ∙ settled-exact _ _ _ _)

@@ -13,14 +13,14 @@ returns c =
     let l = c.lower in
     let s = c.shift_of-shift.ensures in
     worked _ _ _ c.args.values.now c.args.vectors.now c.args.scratch.now _ _ _ c.requires
-    (l.auto.0 ∙ f.auto.1.1.1.0)
-    f.auto.1.1.1.1.0
+    (l.auto.values ∙ f.auto.values)
+    f.auto.vectors
     (values-made _ _ _ s f.ensures l.ensures)
     (vectors-made _ _ _ s f.ensures)
     (sweeps-made _ _ _ _ s f.ensures)
     _
-    f.auto.1.1.1.1.1.0
-    f.auto.1.1.1.1.1.0
+    f.auto.scratch
+    f.auto.scratch
     c.zero_first.ensures
     c.finish-answer.ensures
     c.answered.ensures

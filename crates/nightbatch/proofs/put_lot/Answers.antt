@@ -18,4 +18,4 @@ pub tally-sheet-requires : goal.tally-sheet-requires
 tally-sheet-requires c = let h = header-fits _ (was-done c.check_lot-answer.result _ c.check_lot-answer.ensures c.in-Done.is) in let n = c.number_at-count.ensures.0 in (omega (arith, n, h.1), omega (arith, n, h.2))
 
 pub returns : goal.returns
-returns c = puts-counts _ _ _ _ (omega (arith, length-sheet c.number_at-count.result c.put_sheet.new.1.0 (search rules), c.requires)) c.put_lines.ensures
+returns c = puts-counts _ _ _ _ (omega (arith, length-sheet c.number_at-count.result c.put_sheet.new.out (search rules), c.requires)) c.put_lines.ensures

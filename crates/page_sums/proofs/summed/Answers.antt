@@ -10,16 +10,16 @@ pub slice_bounds-matrix-end : goal.slice_bounds-matrix-end
 slice_bounds-matrix-end c = omega (arith, state-fits _ _ _ _ c.requires)
 
 pub slice_bounds-sum_from_cut-end : goal.slice_bounds-sum_from_cut-end
-slice_bounds-sum_from_cut-end c = sym (length-take-le _ _ (omega (arith, state-fits _ _ _ _ c.requires, c.cut_matrix.auto.1.1.1.1.0)))
+slice_bounds-sum_from_cut-end c = sym (length-take-le _ _ (omega (arith, state-fits _ _ _ _ c.requires, c.cut_matrix.auto.out)))
 
 pub sum_from_cut-requires : goal.sum_from_cut-requires
-sum_from_cut-requires c = recountable _ _ _ _ c.requires _ c.cut_matrix.result _ c.cut_matrix.ensures refl _ refl c.cut_matrix.auto.1.1.1.1.0
+sum_from_cut-requires c = recountable _ _ _ _ c.requires _ c.cut_matrix.result _ c.cut_matrix.ensures refl _ refl c.cut_matrix.auto.out
 
 -- LEFT: no goal array-share-prefix-preserved
 -- array-share-prefix-again c = omega (arith, density-fits _ _ _ _ c.requires)
 
 pub slice_bounds-same_floats-end : goal.slice_bounds-same_floats-end
-slice_bounds-same_floats-end c = sym (length-take-le _ _ (omega (arith, density-fits _ _ _ _ c.requires, c.sum_from_cut.auto.1.1.1.0)))
+slice_bounds-same_floats-end c = sym (length-take-le _ _ (omega (arith, density-fits _ _ _ _ c.requires, c.sum_from_cut.auto.out)))
 
 pub returns : goal.returns
 returns c = sums-is _ _ _ _ c.requires _ c.cut_matrix.result _ c.cut_matrix.ensures refl _ _ _ c.sum_from_cut.ensures c.same_floats.ensures

@@ -31,7 +31,7 @@ pub slice_bounds-density-end : goal.slice_bounds-density-end
 slice_bounds-density-end c = omega (arith, square-small c.bit-dim.result (rows_few _ _ _ _ _ c.dense_reduced_density-answer.result _ _ c.dense_reduced_density-answer.ensures refl refl (ap (λ (a : Answer). (paper a).0) c.in-Done.is) _ c.bit-dim.ensures))
 
 pub slice_bounds-summed-end : goal.slice_bounds-summed-end
-slice_bounds-summed-end c = sym (length-take-le _ _ (omega (arith, square-small c.bit-dim.result (rows_few _ _ _ _ _ c.dense_reduced_density-answer.result _ _ c.dense_reduced_density-answer.ensures refl refl (ap (λ (a : Answer). (paper a).0) c.in-Done.is) _ c.bit-dim.ensures), c.dense_reduced_density-answer.auto.1.1.1.1.0)))
+slice_bounds-summed-end c = sym (length-take-le _ _ (omega (arith, square-small c.bit-dim.result (rows_few _ _ _ _ _ c.dense_reduced_density-answer.result _ _ c.dense_reduced_density-answer.ensures refl refl (ap (λ (a : Answer). (paper a).0) c.in-Done.is) _ c.bit-dim.ensures), c.dense_reduced_density-answer.auto.out)))
 
 pub summed-same-requires : goal.summed-same-requires
 summed-same-requires c = sums-asked _ _ _ _ _ c.dense_reduced_density-answer.result _ _ c.dense_reduced_density-answer.ensures refl refl (ap (λ (a : Answer). (paper a).0) c.in-Done.is) _ _ _ c.requires (front-is _ _ _ _ _ c.dense_reduced_density-answer.result _ _ c.dense_reduced_density-answer.ensures refl refl (ap (λ (a : Answer). (paper a).0) c.in-Done.is) _ _ c.bit-dim.ensures refl)
@@ -40,7 +40,7 @@ pub slice_bounds-density-end-2 : goal.slice_bounds-density-end-2
 slice_bounds-density-end-2 c = omega (arith, square-small c.bit-dim.result (rows_few _ _ _ _ _ c.dense_reduced_density-answer.result _ _ c.dense_reduced_density-answer.ensures refl refl (ap (λ (a : Answer). (paper a).0) c.in-Done.is) _ c.bit-dim.ensures))
 
 pub slice_bounds-put_matrices-end : goal.slice_bounds-put_matrices-end
-slice_bounds-put_matrices-end c = sym (length-take-le _ _ (omega (arith, square-small c.bit-dim.result (rows_few _ _ _ _ _ c.dense_reduced_density-answer.result _ _ c.dense_reduced_density-answer.ensures refl refl (ap (λ (a : Answer). (paper a).0) c.in-Done.is) _ c.bit-dim.ensures), c.dense_reduced_density-answer.auto.1.1.1.1.0)))
+slice_bounds-put_matrices-end c = sym (length-take-le _ _ (omega (arith, square-small c.bit-dim.result (rows_few _ _ _ _ _ c.dense_reduced_density-answer.result _ _ c.dense_reduced_density-answer.ensures refl refl (ap (λ (a : Answer). (paper a).0) c.in-Done.is) _ c.bit-dim.ensures), c.dense_reduced_density-answer.auto.out)))
 
 pub put_matrices-requires : goal.put_matrices-requires
 put_matrices-requires c = matrices-asked _ _ _ _ _ c.dense_reduced_density-answer.result _ _ c.dense_reduced_density-answer.ensures refl refl (ap (λ (a : Answer). (paper a).0) c.in-Done.is) _ _ _ _ c.bit-dim.ensures c.requires (front-is _ _ _ _ _ c.dense_reduced_density-answer.result _ _ c.dense_reduced_density-answer.ensures refl refl (ap (λ (a : Answer). (paper a).0) c.in-Done.is) _ _ c.bit-dim.ensures refl)

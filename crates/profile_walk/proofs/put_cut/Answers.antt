@@ -17,7 +17,7 @@ pub offset_bounds-values-at-2 : goal.offset_bounds-values-at-2
 offset_bounds-values-at-2 c = omega (arith, at-inside c.args.n c.args.j _ _ c.requires.values-fit, c.well_formed.1.1.1.1.1.1.0)
 
 pub bounds-values-at : goal.bounds-values-at
-bounds-values-at c = put-inside _ c.args.values.now c.cut_alone-alone.new.1.1.1.1.0 (at-inside c.args.n c.args.j _ _ c.requires.values-fit) c.cut_alone-alone.auto.1.1.1.1.0
+bounds-values-at c = put-inside _ c.args.values.now c.cut_alone-alone.new.out (at-inside c.args.n c.args.j _ _ c.requires.values-fit) c.cut_alone-alone.auto.out
 
 pub overflow_add-result : goal.overflow_add-result
 overflow_add-result c = omega (arith, end-within _ _ _ _ _ c.cut_alone-alone.result c.cut_alone-alone.ensures c.in-Done.is c.requires.values-fit, c.well_formed.1.1.1.1.1.1.0)

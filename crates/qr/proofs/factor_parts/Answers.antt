@@ -8,4 +8,4 @@ pub factor-rank-requires : goal.factor-rank-requires
 factor-rank-requires c = record { qr_room = c.requires.qr_room; in_bounds = c.requires.in_bounds }
 
 pub returns : goal.returns
-returns c = record { is = finished_as c.factor-rank.ensures c.settle.ensures; cleared = c.zero_first.ensures ∙ zeroed-all c.factor-rank.new.1.1.1.1.1.0 c.factor-rank.auto.1.1.1.1.1.0 }
+returns c = record { is = finished_as c.factor-rank.ensures c.settle.ensures; cleared = c.zero_first.ensures ∙ zeroed-all c.factor-rank.new.v c.factor-rank.auto.v }

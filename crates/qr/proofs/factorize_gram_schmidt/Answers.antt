@@ -103,4 +103,4 @@ returns c =
     let q_room : let x = c.args in 2 * (c.smaller-cap.result * x.rows) ≤ length x.q.now = omega (arith, q-same c.args.rows c.args.cols c.smaller-cap.ensures, (long).q-has) in
     let r-room : let x = c.args in 2 * (c.smaller-cap.result * x.cols) ≤ length x.r.now = omega (arith, r-same c.args.rows c.args.cols c.smaller-cap.ensures, (long).r-has) in
     let x = c.args in
-    call-worked _ _ _ x.q.now x.r.now x.scratch.now _ _ (call-passed _ _ _ x.q.now x.r.now x.scratch.now (good)) (q-same _ _ c.smaller-cap.ensures) (r-same _ _ c.smaller-cap.ensures) refl c.factor_parts.ensures.is (c.factor_parts.auto.1.1.1.0 ∙ length-take-le _ _ (q_room)) (c.factor_parts.auto.1.1.1.1.0 ∙ length-take-le _ _ (r-room)) (c.factor_parts.ensures.cleared ∙ ap zeros (length-take-le _ _ (long).s-has))
+    call-worked _ _ _ x.q.now x.r.now x.scratch.now _ _ (call-passed _ _ _ x.q.now x.r.now x.scratch.now (good)) (q-same _ _ c.smaller-cap.ensures) (r-same _ _ c.smaller-cap.ensures) refl c.factor_parts.ensures.is (c.factor_parts.auto.q ∙ length-take-le _ _ (q_room)) (c.factor_parts.auto.r ∙ length-take-le _ _ (r-room)) (c.factor_parts.ensures.cleared ∙ ap zeros (length-take-le _ _ (long).s-has))

@@ -16,7 +16,7 @@ pub overflow_mul-i : goal.overflow_mul-i
 overflow_mul-i c = omega (arith, column_fits c.loop-i.i c.args.cap c.args.rows c.loop-i-test.true, c.loop-i.invariant.1, c.requires)
 
 pub place_column-requires : goal.place_column-requires
-place_column-requires c = omega (arith, column_fits c.loop-i.i c.args.cap c.args.rows c.loop-i-test.true, c.loop-i.invariant.1, c.loop-i.invariant.2, c.copy_column.auto.1.1.1.0, c.requires)
+place_column-requires c = omega (arith, column_fits c.loop-i.i c.args.cap c.args.rows c.loop-i-test.true, c.loop-i.invariant.1, c.loop-i.invariant.2, c.copy_column.auto.v, c.requires)
 
 pub overflow_step-i : goal.overflow_step-i
 overflow_step-i c = omega (arith, c.loop-i-test.true)
@@ -25,7 +25,7 @@ pub loop-i-smaller : goal.loop-i-smaller
 loop-i-smaller c = omega (arith, c.loop-i-test.true)
 
 pub loop-i-preserved : goal.loop-i-preserved
-loop-i-preserved c = (omega (arith, c.loop-i-test.true), c.place_column.auto.1.1.0 ∙ c.loop-i.invariant.1, c.copy_column.auto.1.1.1.0 ∙ c.loop-i.invariant.2, laid_more _ _ _ (omega (arith, column_fits c.loop-i.i c.args.cap c.args.rows c.loop-i-test.true, c.requires)) c.loop-i.invariant.1 c.loop-i.invariant.3 c.copy_column.ensures c.place_column.ensures)
+loop-i-preserved c = (omega (arith, c.loop-i-test.true), c.place_column.auto.q ∙ c.loop-i.invariant.1, c.copy_column.auto.v ∙ c.loop-i.invariant.2, laid_more _ _ _ (omega (arith, column_fits c.loop-i.i c.args.cap c.args.rows c.loop-i-test.true, c.requires)) c.loop-i.invariant.1 c.loop-i.invariant.3 c.copy_column.ensures c.place_column.ensures)
 
 pub shape_of-q : goal.shape_of-q
 shape_of-q c = c.loop-i.invariant.1

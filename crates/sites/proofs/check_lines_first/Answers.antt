@@ -14,4 +14,4 @@ pub slice_bounds-check_values-end : goal.slice_bounds-check_values-end
 slice_bounds-check_values-end c = sym (length-take-le _ _ c.requires.2)
 
 pub returns : goal.returns
-returns c = c.check_values.ensures ∙ sym (passed _ _ _ c.check_lines-answer.ensures c.enum_told-1.given.1)
+returns c = c.check_values.ensures ∙ sym (passed _ _ _ c.check_lines-answer.ensures c.in-Done.is)

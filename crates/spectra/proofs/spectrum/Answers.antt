@@ -5,4 +5,4 @@ use Rattle.spectra.proofs.OutcomeLaws.{spectrum-made, spectrum-sweeps, zeroed-ot
 use Rattle.spectra.proofs.spectrum.Goals as goal
 
 pub returns : goal.returns
-returns c = (spectrum-made _ _ _ c.load_cells.ensures c.settle-sweeps.ensures c.write_diagonal.ensures, c.zero_first.ensures ∙ zeroed-other _ _ _ (omega (arith, c.settle-sweeps.auto.xs, c.load_cells.auto.1.1.0, c.requires.1)) (omega (arith, c.requires.1)), spectrum-sweeps _ _ c.load_cells.ensures c.settle-sweeps.ensures)
+returns c = (spectrum-made _ _ _ c.load_cells.ensures c.settle-sweeps.ensures c.write_diagonal.ensures, c.zero_first.ensures ∙ zeroed-other _ _ _ (omega (arith, c.settle-sweeps.auto.xs, c.load_cells.auto.work, c.requires.1)) (omega (arith, c.requires.1)), spectrum-sweeps _ _ c.load_cells.ensures c.settle-sweeps.ensures)

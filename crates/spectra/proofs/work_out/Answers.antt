@@ -22,10 +22,10 @@ pub spectrum-sweeps-requires : goal.spectrum-sweeps-requires
 spectrum-sweeps-requires c = let g = c.requires in let l = length-take-le _ c.args.scratch.now g.spare in (record { some = g.some; side = g.side; matrix = g.matrix; room = g.room; spare = omega (arith, l) }, l)
 
 pub slice_bounds-all_finite-end : goal.slice_bounds-all_finite-end
-slice_bounds-all_finite-end c = omega (arith, c.requires.room, c.spectrum-sweeps.auto.1.1.0)
+slice_bounds-all_finite-end c = omega (arith, c.requires.room, c.spectrum-sweeps.auto.out)
 
 pub slice_bounds-all_finite-end-2 : goal.slice_bounds-all_finite-end-2
-slice_bounds-all_finite-end-2 c = sym (length-take-le _ _ (omega (arith, c.requires.room, c.spectrum-sweeps.auto.1.1.0)))
+slice_bounds-all_finite-end-2 c = sym (length-take-le _ _ (omega (arith, c.requires.room, c.spectrum-sweeps.auto.out)))
 
 pub returns-then-all_finite : goal.returns-then-all_finite
 returns-then-all_finite c =
@@ -33,7 +33,7 @@ returns-then-all_finite c =
     worked-done _ _ _ _ _ _ _ s.0 (zeroed-part _ _ _ c.requires.spare s.1) s.2 _ c.all_finite.ensures c.if-all_finite.true _ c.answered.ensures
 
 pub zero_first-requires : goal.zero_first-requires
-zero_first-requires c = omega (arith, c.requires.room, c.spectrum-sweeps.auto.1.1.0)
+zero_first-requires c = omega (arith, c.requires.room, c.spectrum-sweeps.auto.out)
 
 pub returns : goal.returns
 returns c =

@@ -25,7 +25,7 @@ pub returns-then-m-n : goal.returns-then-m-n
 returns-then-m-n c =
     let h : 2 * (c.args.m * c.args.n) ≤ length c.args.scratch.now = omega (arith, c.requires.scratch-is) in
     let loaded = c.load_wide in
-    wide-made _ _ _ c.if-m-n.true (take_at _ _ _ (loaded.auto.1.1.1.0 ∙ length-take-le _ _ h) ∙ loaded.ensures) c.factor.ensures
+    wide-made _ _ _ c.if-m-n.true (take_at _ _ _ (loaded.auto.work ∙ length-take-le _ _ h) ∙ loaded.ensures) c.factor.ensures
 
 pub overflow_mul-c : goal.overflow_mul-c
 overflow_mul-c c = omega (arith, mul_comm c.args.n c.args.m, c.requires.cells)
@@ -50,4 +50,4 @@ returns c =
     let h : 2 * (c.args.n * c.args.m) ≤ length c.args.scratch.now =
     omega (arith, mul_comm c.args.n c.args.m, c.requires.scratch-is) in
     let loaded = c.load_tall in
-    tall-made _ _ _ c.if-m-n.false (take_at _ _ _ (loaded.auto.1.1.0 ∙ length-take-le _ _ h) ∙ loaded.ensures) c.factor-2.ensures
+    tall-made _ _ _ c.if-m-n.false (take_at _ _ _ (loaded.auto.work ∙ length-take-le _ _ h) ∙ loaded.ensures) c.factor-2.ensures

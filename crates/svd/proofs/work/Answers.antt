@@ -7,13 +7,13 @@ returns c =
     let a = c.args in
     let f = c.factor-sweeps in
     worked _ _ _ _ a.u.now a.s.now a.vt.now a.scratch.now _ _ _ c.requires
-    f.auto.1.1.1.0
-    f.auto.1.1.1.1.0
-    f.auto.1.1.1.1.1.0
+    f.auto.u
+    f.auto.s
+    f.auto.vt
     f.ensures
     _
-    f.auto.1.1.1.1.1.1.0
-    f.auto.1.1.1.1.1.1.0
+    f.auto.scratch
+    f.auto.scratch
     c.zero_first.ensures
     c.finish-answer.ensures
     c.answered.ensures

@@ -8,4 +8,4 @@ thin-sweeps-requires c = c.requires
 pub returns : goal.returns
 returns c =
     let t = c.thin-sweeps in
-    loaded _ _ c.args.u.now c.args.s.now c.args.vt.now _ _ c.requires t.auto.1.1.0 t.auto.1.1.1.0 t.auto.1.1.1.1.0 t.ensures c.finish-answer.ensures c.answered.ensures
+    loaded _ _ c.args.u.now c.args.s.now c.args.vt.now _ _ c.requires t.auto.u t.auto.s t.auto.vt t.ensures c.finish-answer.ensures c.answered.ensures

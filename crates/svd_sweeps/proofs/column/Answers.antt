@@ -35,17 +35,17 @@ loop-q-preserved c =
     let i = c.loop-q.invariant in
     let l = c.loop-q-test.true in
     let r = c.visit-t in
-    let w = pair-after _ _ _ _ r.ensures.0 in (
+    let w = pair-after _ _ _ _ r.ensures.done in (
       omega (arith, i.0),
       omega (arith, l),
-      r.auto.0 ∙ i.2,
-      r.auto.1.0 ∙ i.3,
-      r.auto.1.1.0 ∙ i.4,
-      pairs-more _ _ _ _ i.0 i.5 r.ensures.0,
+      r.auto.work ∙ i.2,
+      r.auto.v ∙ i.3,
+      r.auto.marks ∙ i.4,
+      pairs-more _ _ _ _ i.0 i.5 r.ensures.done,
       omega (arith, w.turned, i.6, i.0),
       w.begun ∙ i.7,
-      seen_at (omega (arith, i.7)) r.ensures.1.0,
-      r.ensures.1.1)
+      seen_at (omega (arith, i.7)) r.ensures.seen,
+      r.ensures.waiting)
 
 pub shape_of-work : goal.shape_of-work
 shape_of-work c = c.loop-q.invariant.2
@@ -57,11 +57,5 @@ pub shape_of-marks : goal.shape_of-marks
 shape_of-marks c = c.loop-q.invariant.4
 
 pub returns : goal.returns
-returns c =
-    let i = c.loop-q.invariant in
-    let e : c.loop-q.q ≡ c.args.n = omega (arith, i.1, c.loop-q-test.false) in
-    record {
-      done = rw e at i.5;
-      seen = seen-column _ _ _ _ _ _ c.requires.0.columns c.requires.1 (seen_at (omega (arith, e)) i.8);
-      waiting = i.9;
-    }
+returns c = let i = c.loop-q.invariant in
+    let e : c.loop-q.q ≡ c.args.n = omega (arith, i.1, c.loop-q-test.false) in record { done = rw e at i.5; seen = seen-column _ _ _ _ _ _ c.requires.0.columns c.requires.1 (seen_at (omega (arith, e)) i.8); waiting = i.9 }

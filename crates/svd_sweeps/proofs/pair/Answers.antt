@@ -56,7 +56,7 @@ turn_columns-requires c =
 
 pub returns-in-Turn : goal.returns-in-Turn
 returns-in-Turn c = let start = c.requires in
-    let decided = verdict-one _ _ (rw c.gram_of.ensures at c.decide-d.ensures) in record { done = pair-turned _ _ _ _ _ _ _ _ _ decided c.in-Turn.is c.catch_up.ensures c.turn_columns.ensures c.count-s.ensures; waiting = (record { rising = λ h. start.1; within = λ h. start.2 }) }
+    let decided = verdict-one _ _ (rw c.gram_of.ensures at c.decide-d.ensures) in record { done = pair-turned _ _ _ _ _ _ _ _ _ decided c.in-Turn.is c.catch_up.ensures c.turn_columns.ensures c.count-s.ensures; waiting = record { rising = λ h. start.1; within = λ h. start.2 } }
 
 pub returns : goal.returns
 returns c = let decided = verdict-one _ _ (rw c.gram_of.ensures at c.decide-d.ensures) in record { done = pair_left _ _ _ _ _ _ _ _ _ decided c.in-Leave.is; waiting = c.requires.4 }

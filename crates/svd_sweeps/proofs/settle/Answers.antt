@@ -7,7 +7,7 @@ pub catch_up-requires : goal.catch_up-requires
 catch_up-requires c =
     let start = c.requires in
     let swept = c.sweep_all-w in
-    (v-kept swept.auto.1.0 start.v, start.columns, swept.ensures.1)
+    (v-kept swept.auto.v start.v, start.columns, swept.ensures.waiting)
 
 pub returns : goal.returns
 returns c = caught-state _ _ _ _ _ c.catch_up.ensures c.sweep_all-w.ensures.done

@@ -46,16 +46,16 @@ loop-p-preserved c =
     let i = c.loop-p.invariant in
     let l = c.loop-p-test.true in
     let r = c.column-t in
-    let w = pairs-after _ _ _ _ r.ensures.0 in (
+    let w = pairs-after _ _ _ _ r.ensures.done in (
       omega (arith, l),
-      r.auto.0 ∙ i.1,
-      r.auto.1.0 ∙ i.2,
-      r.auto.1.1.0 ∙ i.3,
-      columns-more _ _ _ _ i.4 r.ensures.0,
+      r.auto.work ∙ i.1,
+      r.auto.v ∙ i.2,
+      r.auto.marks ∙ i.3,
+      columns-more _ _ _ _ i.4 r.ensures.done,
       turned_more _ _ _ i.5 w,
       w.begun ∙ i.6,
-      seen_at (omega (arith, i.6)) r.ensures.1.0,
-      r.ensures.1.1)
+      seen_at (omega (arith, i.6)) r.ensures.seen,
+      r.ensures.waiting)
 
 pub shape_of-work : goal.shape_of-work
 shape_of-work c = c.loop-p.invariant.1
@@ -67,14 +67,8 @@ pub shape_of-marks : goal.shape_of-marks
 shape_of-marks c = c.loop-p.invariant.3
 
 pub returns : goal.returns
-returns c =
-    let began = c.begin_sweep-t.ensures in
+returns c = let began = c.begin_sweep-t.ensures in
     let number = ap (λ (x : Late). x.s.begun) began in
     let i = c.loop-p.invariant in
     let e : c.loop-p.p ≡ c.args.n = omega (arith, i.0, c.loop-p-test.false) in
-    let made = sweep-made (svd_pairings _ _ _) _ _ refl (rw e at i.4 ∙ ap (columns_to _ _ _) (begun-state _ _ _ _ _ began)) in
-    record {
-      done = made;
-      seen = seen_at (omega arith) (seen-sweep _ _ (c.args.w.s.begun + 1) _ _ c.requires.0.columns (seen_at (omega (arith, e, number)) i.7));
-      waiting = i.8;
-    }
+    let made = sweep-made (svd_pairings _ _ _) _ _ refl (rw e at i.4 ∙ ap (columns_to _ _ _) (begun-state _ _ _ _ _ began)) in record { done = made; seen = seen_at (omega arith) (seen-sweep _ _ (c.args.w.s.begun + 1) _ _ c.requires.0.columns (seen_at (omega (arith, e, number)) i.7)); waiting = i.8 }

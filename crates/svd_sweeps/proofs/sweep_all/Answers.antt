@@ -23,8 +23,7 @@ loop-k-init c =
       omega (arith, number),
       omega (arith, turned),
       seen_at (omega (arith, number)) (seen_first _ _ _ c.requires.columns),
-      none-waits _ _ none,
-    )
+      none-waits _ _ none)
 
 pub slice_bounds-sweep-end : goal.slice_bounds-sweep-end
 slice_bounds-sweep-end c = sym c.loop-k.invariant.3
@@ -39,25 +38,23 @@ sweep-w-requires c =
       omega (arith, i.6, l),
       i.3,
       i.7,
-      i.8,
-    )
+      i.8)
 
 pub loop-k-preserved : goal.loop-k-preserved
 loop-k-preserved c =
     let i = c.loop-k.invariant in
     let l = c.loop-k-test.true in
     let r = c.sweep-w in
-    let w = sweep-after _ _ _ r.ensures.0 in (
+    let w = sweep-after _ _ _ r.ensures.done in (
       omega (arith, l),
-      r.auto.0 ∙ i.1,
-      r.auto.1.0 ∙ i.2,
-      r.auto.1.1.0 ∙ i.3,
-      sweeps-more _ _ 100 _ _ l i.4 r.ensures.0 c.if-s.false,
+      r.auto.work ∙ i.1,
+      r.auto.v ∙ i.2,
+      r.auto.marks ∙ i.3,
+      sweeps-more _ _ 100 _ _ l i.4 r.ensures.done c.if-s.false,
       omega (arith, w.begun, i.5),
       omega (arith, w.turned, i.6, pairs-few _ c.args.n c.requires.columns, c.requires.columns),
-      seen_at (omega (arith, w.begun)) r.ensures.1.0,
-      r.ensures.1.1,
-    )
+      seen_at (omega (arith, w.begun)) r.ensures.seen,
+      r.ensures.waiting)
 
 pub returns-after-loop-k : goal.returns-after-loop-k
 returns-after-loop-k c = record { done = sweeps-done _ _ 100 _ c.loop-k-test.false c.loop-k.invariant.4; waiting = c.loop-k.invariant.8 }

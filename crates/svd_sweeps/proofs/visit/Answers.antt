@@ -7,26 +7,14 @@ use Rattle.svd_sweeps.proofs.MarksLaws.{seen-old, seen-left, seen_turned, seen_s
 use Rattle.svd_sweeps.proofs.visit.Goals as goal
 
 pub returns-then-unchanged : goal.returns-then-unchanged
-returns-then-unchanged c =
-    let k = c.requires.1 in
+returns-then-unchanged c = let k = c.requires.1 in
     let old = c.unchanged.ensures c.if-unchanged.true in
-    let left = seen-old _ _ _ _ _ _ _ k.begun k.rising k.within old.0 old.1 c.requires.2 in
-    record {
-      done = passed_over _ _ _ _ _ _ left;
-      seen = seen-left _ _ _ _ _ _ _ c.requires.0.columns k.rising k.within left c.requires.2;
-      waiting = c.requires.3;
-    }
+    let left = seen-old _ _ _ _ _ _ _ k.begun k.rising k.within old.0 old.1 c.requires.2 in record { done = passed_over _ _ _ _ _ _ left; seen = seen-left _ _ _ _ _ _ _ c.requires.0.columns k.rising k.within left c.requires.2; waiting = c.requires.3 }
 
 pub returns-then-r-s : goal.returns-then-r-s
-returns-then-r-s c =
-    let k = c.requires.1 in
+returns-then-r-s c = let k = c.requires.1 in
     let done = c.pair-t.ensures in
-    let left = uncounted _ _ _ _ _ _ done.0 c.if-r-s.true in
-    record {
-      done = done.0;
-      seen = seen_same left.1 (seen-left _ _ _ _ _ _ _ c.requires.0.columns k.rising k.within left.0 c.requires.2);
-      waiting = done.1;
-    }
+    let left = uncounted _ _ _ _ _ _ done.0 c.if-r-s.true in record { done = done.0; seen = seen_same left.1 (seen-left _ _ _ _ _ _ _ c.requires.0.columns k.rising k.within left.0 c.requires.2); waiting = done.1 }
 
 pub offset_bounds-marks-p : goal.offset_bounds-marks-p
 offset_bounds-marks-p c = omega (arith, c.requires.1.rising, c.requires.1.within, c.requires.0.columns)
@@ -43,12 +31,6 @@ bounds-marks-q c =
     lt-length-set c.args.marks.now c.args.p (c.args.w.s.begun * 4096 + c.args.p * 64 + c.args.q) h
 
 pub returns : goal.returns
-returns c =
-    let k = c.requires.1 in
+returns c = let k = c.requires.1 in
     let done = c.pair-t.ensures in
-    let seen = seen_turned _ _ _ _ _ _ _ _ _ c.requires.0.columns k.rising k.within k.marks (done-to _ _ _ _ _ _ done.0) c.requires.2 in
-    record {
-      done = done.0;
-      seen = seen;
-      waiting = done.1;
-    }
+    let seen = seen_turned _ _ _ _ _ _ _ _ _ c.requires.0.columns k.rising k.within k.marks (done-to _ _ _ _ _ _ done.0) c.requires.2 in record { done = done.0; seen = seen; waiting = done.1 }

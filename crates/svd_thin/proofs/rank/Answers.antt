@@ -33,8 +33,8 @@ pub returns : goal.returns
 returns c =
     let fits : 2 * (c.args.side * c.args.rows) + c.args.side ≤ length c.args.scratch.now = omega (arith, c.requires.scratch-is) in
     ranked-made _ _ _ _ fits
-    (c.norms.auto.1.1.1.0 ∙ length-take-le _ _ (omega (arith, side-fits c.args.side, c.requires.other-is)))
+    (c.norms.auto.s ∙ length-take-le _ _ (omega (arith, side-fits c.args.side, c.requires.other-is)))
     c.norms.ensures
-    (c.sort.auto.1.1.1.0 ∙ part_length _ _ _ fits)
+    (c.sort.auto.order ∙ part_length _ _ _ fits)
     c.sort.ensures.0
     c.sort.ensures.1
