@@ -20,7 +20,9 @@ def plain(name):
 
 def need_key(name):
     name = plain(name)
-    return name[9:] if name.startswith("overflow_") else name
+    if name.startswith("overflow_"):
+        return name[9:]
+    return "part" + name[12:] if name.startswith("slice_bounds_") else name
 
 
 def blocks(text):

@@ -1,5 +1,6 @@
 // Inner: how the sweeps of a cut went, as three whole numbers in a lent slice, and such a slice cleared.
 #![tactic(auto)]
+
 ghost use Rattle.std.specs.Prelude.{◌≡◌, ◌++◌, ◌+◌, ◌≤◌, length, take, drop, replicate};
 ghost use Rattle.cut_marks.specs.Marks.{one_if, cut_marks};
 

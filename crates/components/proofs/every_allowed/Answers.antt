@@ -17,7 +17,8 @@ pub loop-i-preserved : goal.loop-i-preserved
 loop-i-preserved c = (
   omega arith,
   every_more _ _ c.loop-i.every c.loop-i-test.true c.loop-i.invariant.1
-      ∙ ap (λ (x : Bool). (c.loop-i.every && x) && every_allowed (drop (c.loop-i.i + 1) c.args.s.now)) (sym c.component_allowed-one.ensures))
+      ∙ ap (λ (x : Bool). (c.loop-i.every && x) && every_allowed (drop (c.loop-i.i + 1) c.args.s.now)) (sym c.component_allowed-one.ensures),
+)
 
 pub returns : goal.returns
 returns c = every-end _ _ _ c.loop-i-test.false c.loop-i.invariant.1

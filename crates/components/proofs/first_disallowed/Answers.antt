@@ -11,7 +11,8 @@ loop-i-init c = (omega arith, refl)
 pub loop-i-preserved : goal.loop-i-preserved
 loop-i-preserved c = (
   omega arith,
-  c.loop-i.invariant.1 ∙ components-good _ _ c.loop-i-test.true (sym c.component_allowed.ensures ∙ c.if-component_allowed.true))
+  c.loop-i.invariant.1 ∙ components-good _ _ c.loop-i-test.true (sym c.component_allowed.ensures ∙ c.if-component_allowed.true),
+)
 
 pub returns-else-component_allowed : goal.returns-else-component_allowed
 returns-else-component_allowed c =

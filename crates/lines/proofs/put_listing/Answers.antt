@@ -30,7 +30,8 @@ put_last-requires c =
       length-side a.side.now,
       z.ensures.next,
       z.auto.out,
-      length-values (length a.values.now) a.values.now)
+      length-values (length a.values.now) a.values.now,
+    )
 
 pub returns : goal.returns
 unfolding listing

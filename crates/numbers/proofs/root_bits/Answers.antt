@@ -27,9 +27,11 @@ scaled_root-requires c =
 pub returns-then-b-lt4503599627370496 : goal.returns-then-b-lt4503599627370496
 returns-then-b-lt4503599627370496 c = (
   (λ h. subst (λ (n : ℕ). RootOf n c.scaled_root.result) (up_same _ c.requires.0 c.if-b-lt4503599627370496.true _ refl) c.scaled_root.ensures),
-  (λ h. absurd (omega arith)))
+  (λ h. absurd (omega arith)),
+)
 
 pub returns : goal.returns
 returns c = (
   (λ h. absurd (omega arith)),
-  (λ h. subst (λ (n : ℕ). RootOf n c.scaled_root-2.result) (normal-same _ h) c.scaled_root-2.ensures))
+  (λ h. subst (λ (n : ℕ). RootOf n c.scaled_root-2.result) (normal-same _ h) c.scaled_root-2.ensures),
+)

@@ -19,7 +19,8 @@ loop-t-preserved c =
     let l = c.loop-t in (
       omega (arith, c.loop-t-test.true),
       simp length-set l.invariant.1,
-      rw (l.invariant.2, c.row_offset.ensures) (filled_more l.t (row_offset c.args.list.now) _ (omega (arith, c.loop-t-test.true, c.requires.count_value.1))))
+      rw (l.invariant.2, c.row_offset.ensures) (filled_more l.t (row_offset c.args.list.now) _ (omega (arith, c.loop-t-test.true, c.requires.count_value.1))),
+    )
 
 pub shape_of-out : goal.shape_of-out
 shape_of-out c = c.loop-t.invariant.1

@@ -21,7 +21,8 @@ loop-i-preserved c =
     let h = c.loop-i-test.true in (
       omega (arith, h),
       c.loop-i.invariant.1 ∙ mask-more _ _ i h ∙ ap (λ (b : ℕ). mask_from (bit_or c.loop-i.mask b) (drop (i + 1) c.args.list.now)) (sym c.bit-mask.ensures),
-      rw c.bit-mask.ensures (or_lt _ _ _ c.loop-i.invariant.2 (pow-lt (p.below i h))))
+      rw c.bit-mask.ensures (or_lt _ _ _ c.loop-i.invariant.2 (pow-lt (p.below i h))),
+    )
 
 pub returns : goal.returns
 returns c = (sym (c.loop-i.invariant.1 ∙ mask_end _ _ _ c.loop-i-test.false), c.loop-i.invariant.2)

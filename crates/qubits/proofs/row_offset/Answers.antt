@@ -23,7 +23,8 @@ loop-i-preserved c =
       omega (arith, h),
       k.invariant.1 ∙ spread-step _ k.i k.offset _ h
           ∙ ap (λ (b : ℕ). bit_or (bit_or k.offset b) (spread (drop (k.i + 1) c.args.list.now) (c.args.t / 2 ^ (k.i + 1))))
-          (sym (bit-code (c.args.t / 2 ^ k.i) q l)))
+          (sym (bit-code (c.args.t / 2 ^ k.i) q l)),
+    )
 
 pub returns : goal.returns
 returns c = sym (c.loop-i.invariant.1 ∙ offset-end _ _ _ _ c.loop-i-test.false)

@@ -33,7 +33,8 @@ pub loop-i-preserved : goal.loop-i-preserved
 loop-i-preserved c =
     let t = sym c.stands_in.ensures ∙ c.if-stands_in.false in (
       omega (arith, c.loop-i-test.true),
-      rw (places-past _ _ _ c.loop-i-test.true c.if-n-q.false t) at c.loop-i.invariant.1)
+      rw (places-past _ _ _ c.loop-i-test.true c.if-n-q.false t) at c.loop-i.invariant.1,
+    )
 
 pub returns-then-list-eq0 : goal.returns-then-list-eq0
 returns-then-list-eq0 c =

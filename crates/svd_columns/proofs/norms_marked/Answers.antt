@@ -35,7 +35,8 @@ loop-j-preserved c =
       search rules,
       simp length-set c.loop-j.invariant.1,
       filled-step _ _ _ (omega (arith, c.requires.2, c.loop-j-test.true)) c.loop-j.invariant.2 (c.sqrt_marked-one.ensures.0 ∙ ap sqrt_of sum),
-      all_more _ _ c.loop-j.invariant.3 (c.sqrt_marked-one.ensures.1 ∙ ap exact_root sum))
+      all_more _ _ c.loop-j.invariant.3 (c.sqrt_marked-one.ensures.1 ∙ ap exact_root sum),
+    )
 
 pub returns : goal.returns
 unfolding norms_of norms_exact
@@ -43,4 +44,5 @@ returns c =
     let a = c.args in
     let f : ℕ → Float = λ i. squares_to (plane_from a.work.now (a.side * a.rows) (i * a.rows)) a.rows in (
       stop (λ k. filled k (λ i. sqrt_of (f i)) a.s.now) c.loop-j.invariant.2 (search rules) (search rules) ∙ filled-all _ _ _ c.requires.2,
-      stop (λ k. all_exact k f) c.loop-j.invariant.3 (search rules) (search rules))
+      stop (λ k. all_exact k f) c.loop-j.invariant.3 (search rules) (search rules),
+    )

@@ -75,7 +75,8 @@ loop-j-preserved c =
           (omega (arith, l))
           c.loop-j.invariant.2
           o.ensures.0
-          c.direction_column.ensures)
+          c.direction_column.ensures,
+    )
 
 pub returns : goal.returns
 unfolding directions_of

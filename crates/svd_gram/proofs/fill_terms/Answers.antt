@@ -28,7 +28,8 @@ loop-j-preserved c =
       terms-more _ _ _ _ _ i.1.room (omega (arith, c.loop-j-test.true, c.requires.3)) _ _ _ _ i.1
           (c.norm_sqr.ensures ∙ ap norm_sqr p)
           (c.norm_sqr-in-loop-j.ensures ∙ ap norm_sqr q)
-          (rw (c.conj.ensures, p, q) at c.mul-mixed.ensures))
+          (rw (c.conj.ensures, p, q) at c.mul-mixed.ensures),
+    )
 
 pub returns : goal.returns
 returns c =

@@ -20,7 +20,8 @@ loop-r-preserved c =
     let w = c.block_width-w.ensures in (
       omega (arith, c.loop-r.invariant.0, w.1),
       search rules,
-      rw (c.add_terms-g.ensures, c.loop-r.invariant.2) (block-added _ _ _ _ _ _ _ _ c.fill_terms.ensures (omega arith)))
+      rw (c.add_terms-g.ensures, c.loop-r.invariant.2) (block-added _ _ _ _ _ _ _ _ c.fill_terms.ensures (omega arith)),
+    )
 
 pub returns : goal.returns
 returns c = stop (gram_to _ _ _ _) c.loop-r.invariant.2 c.loop-r.invariant.0 (omega (arith, c.loop-r-test.false))

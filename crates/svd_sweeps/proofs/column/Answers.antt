@@ -22,7 +22,8 @@ visit-t-requires c =
       record { work = i.2 ∙ s.0.work; v = v-kept i.3 s.0.v; columns = s.0.columns; cells = s.0.cells },
       record { rising = i.0; within = l; turned = omega (arith, i.6, s.2, l); begun = omega (arith, i.7, s.3); few = omega (arith, i.7, s.4); marks = i.4 ∙ s.5 },
       seen_at (omega (arith, i.7)) i.8,
-      i.9)
+      i.9,
+    )
 
 pub overflow_step-q-in-loop-q : goal.overflow_step-q-in-loop-q
 overflow_step-q-in-loop-q c = omega (arith, c.loop-q-test.true, c.requires.0.columns)
@@ -45,7 +46,8 @@ loop-q-preserved c =
       omega (arith, w.turned, i.6, i.0),
       w.begun ∙ i.7,
       seen_at (omega (arith, i.7)) r.ensures.seen,
-      r.ensures.waiting)
+      r.ensures.waiting,
+    )
 
 pub shape_of-work : goal.shape_of-work
 shape_of-work c = c.loop-q.invariant.2

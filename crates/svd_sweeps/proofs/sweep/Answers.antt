@@ -33,7 +33,8 @@ column-t-requires c =
       omega (arith, i.6, s.1, number),
       i.3 ∙ s.3,
       seen_at (omega (arith, i.6)) i.7,
-      i.8)
+      i.8,
+    )
 
 pub overflow_step-p : goal.overflow_step-p
 overflow_step-p c = omega (arith, c.loop-p-test.true, c.requires.0.columns)
@@ -55,7 +56,8 @@ loop-p-preserved c =
       turned_more _ _ _ i.5 w,
       w.begun ∙ i.6,
       seen_at (omega (arith, i.6)) r.ensures.seen,
-      r.ensures.waiting)
+      r.ensures.waiting,
+    )
 
 pub shape_of-work : goal.shape_of-work
 shape_of-work c = c.loop-p.invariant.1

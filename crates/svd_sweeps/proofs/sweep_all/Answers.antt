@@ -23,7 +23,8 @@ loop-k-init c =
       omega (arith, number),
       omega (arith, turned),
       seen_at (omega (arith, number)) (seen_first _ _ _ c.requires.columns),
-      none-waits _ _ none)
+      none-waits _ _ none,
+    )
 
 pub slice_bounds-sweep-end : goal.slice_bounds-sweep-end
 slice_bounds-sweep-end c = sym c.loop-k.invariant.3
@@ -38,7 +39,8 @@ sweep-w-requires c =
       omega (arith, i.6, l),
       i.3,
       i.7,
-      i.8)
+      i.8,
+    )
 
 pub loop-k-preserved : goal.loop-k-preserved
 loop-k-preserved c =
@@ -54,7 +56,8 @@ loop-k-preserved c =
       omega (arith, w.begun, i.5),
       omega (arith, w.turned, i.6, pairs-few _ c.args.n c.requires.columns, c.requires.columns),
       seen_at (omega (arith, w.begun)) r.ensures.seen,
-      r.ensures.waiting)
+      r.ensures.waiting,
+    )
 
 pub returns-after-loop-k : goal.returns-after-loop-k
 returns-after-loop-k c = record { done = sweeps-done _ _ 100 _ c.loop-k-test.false c.loop-k.invariant.4; waiting = c.loop-k.invariant.8 }

@@ -14,7 +14,7 @@ returns-then-unchanged c = let k = c.requires.1 in
 pub returns-then-r-s : goal.returns-then-r-s
 returns-then-r-s c = let k = c.requires.1 in
     let done = c.pair-t.ensures in
-    let left = uncounted _ _ _ _ _ _ done.0 c.if-r-s.true in record { done = done.0; seen = seen_same left.1 (seen-left _ _ _ _ _ _ _ c.requires.0.columns k.rising k.within left.0 c.requires.2); waiting = done.1 }
+    let left = uncounted _ _ _ _ _ _ done.done c.if-r-s.true in record { done = done.done; seen = seen_same left.1 (seen-left _ _ _ _ _ _ _ c.requires.0.columns k.rising k.within left.0 c.requires.2); waiting = done.waiting }
 
 pub offset_bounds-marks-p : goal.offset_bounds-marks-p
 offset_bounds-marks-p c = omega (arith, c.requires.1.rising, c.requires.1.within, c.requires.0.columns)
@@ -33,4 +33,4 @@ bounds-marks-q c =
 pub returns : goal.returns
 returns c = let k = c.requires.1 in
     let done = c.pair-t.ensures in
-    let seen = seen_turned _ _ _ _ _ _ _ _ _ c.requires.0.columns k.rising k.within k.marks (done-to _ _ _ _ _ _ done.0) c.requires.2 in record { done = done.0; seen = seen; waiting = done.1 }
+    let seen = seen_turned _ _ _ _ _ _ _ _ _ c.requires.0.columns k.rising k.within k.marks (done-to _ _ _ _ _ _ done.done) c.requires.2 in record { done = done.done; seen = seen; waiting = done.waiting }
