@@ -19,7 +19,7 @@ def main(crate, log):
         if not m:
             continue
         path, at, name = m.groups()
-        got = []
+        got = [c for c in re.findall(r"write the clause `([^`]+)`", line) if " = " in c]
         for l in lines[i + 1 :]:
             if not l.startswith("  "):
                 break

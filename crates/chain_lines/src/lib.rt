@@ -1,6 +1,7 @@
 // The lines of a chain of sites, put into a lent buffer of bytes. Inner: the caller gives room, and lists that hold a chain. Each
 // function answers the place past what it put, and touches nothing else.
 #![tactic(auto)]
+
 ghost use Rattle.std.specs.Prelude.{◌≡◌, ◌+◌, ◌*◌, ◌<◌, ◌≤◌, length, get_or};
 ghost use Rattle.texts.specs.Text.{Puts, line};
 ghost use Rattle.chain_lines.specs.ChainLines.{quiet_word, site_line, site_cell_line, site_cell_lines, rank_line, cut_behind, site_text, site_texts, chain_text, ChainLaid};

@@ -1,6 +1,7 @@
 // Inner: one step of the chain of sites over the lent slices. The carried rows stand at the front of u; the site goes to sites from cell
 // `at` on.
 #![tactic(auto)]
+
 ghost use Rattle.std.specs.Prelude.{◌≡◌, length};
 ghost use Rattle.chain_link.specs.OneLink.{LinkRoom, OneLink};
 

@@ -1,6 +1,7 @@
 // Inner: the work matrix of a step of the chain of sites, as planes, straight from the rows that are carried: the step's matrix, or its
 // conjugate transpose where it is wider than tall.
 #![tactic(auto)]
+
 ghost use Rattle.std.specs.Prelude.{◌≡◌, ◌*◌, ◌<◌, ◌≤◌, length};
 ghost use Rattle.svd_load.specs.Loading.{planes_of, planes_to};
 ghost use Rattle.chain_load.specs.Carried.{conjugated_at, across_at, carried_work};

@@ -1,5 +1,6 @@
 // Inner: what the chain of sites asks of its state, and the rows of its first step.
 #![tactic(auto)]
+
 ghost use Rattle.std.specs.Prelude.{◌≡◌, List, ◌+◌, ◌*◌, ◌^◌, ◌≤◌, Float, length};
 ghost use Rattle.answers.specs.Paper.{paper};
 ghost use Rattle.numbers.specs.Numbers.{allowed_for};

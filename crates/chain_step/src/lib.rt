@@ -1,6 +1,7 @@
 // Inner: one step of the chain of sites. What is carried has bond rows of 2·columns cells, which are the 2·bond rows, bond·2 + bit, of
 // the step's matrix one after another.
 #![tactic(auto)]
+
 ghost use Rattle.std.specs.Prelude.{◌≡◌, ◌*◌, ◌≤◌, ◌<◌, min, length, take};
 ghost use Rattle.complex.specs.Cells.{cells_of, written};
 ghost use Rattle.site_lines.specs.Sources.{site_cell, isometry_cell, scaled_vt_cell};

@@ -1,6 +1,7 @@
 // Inner: the work matrix of the sweeps of a cut, gathered from the state as planes: the cut matrix, or its conjugate
 // transpose where it is wider than tall.
 #![tactic(auto)]
+
 ghost use Rattle.std.specs.Prelude.{◌≡◌, ◌*◌, ◌^◌, length};
 ghost use Rattle.complex.specs.Cells.{cells_of};
 ghost use Rattle.cuts.specs.Cut.{cell_of, CutReady, ColumnReady};

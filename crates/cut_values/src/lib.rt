@@ -1,5 +1,6 @@
 // The Schmidt values of a cut of a state: the singular values of its cut matrix, and then the finish.
 #![tactic(auto)]
+
 ghost use Rattle.std.specs.Prelude.{◌≡◌, false, [], ◌+◌, ◌*◌, ◌^◌, ◌≤◌, length};
 ghost use Rattle.answers.specs.Paper.{paper};
 ghost use Rattle.sweeps.specs.Sweeping.{no_sweeps};

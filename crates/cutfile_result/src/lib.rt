@@ -2,6 +2,7 @@
 // prints, counts or goes on from it starts here. A file has at most 9 qubits, so 1,024 numbers of state, 4,128 of scratch and 16
 // values are enough, and no file is refused by 6.
 #![tactic(auto)]
+
 ghost use Rattle.std.specs.Prelude.{◌≡◌, length};
 ghost use Rattle.cutfile.specs.Layout.{LongEnough};
 ghost use Rattle.cutfile_result.specs.Result.{Valued, FileValued, Result};

@@ -1,6 +1,7 @@
 // The list and the state of a cut file, read through the view into lent slices. Inner: the caller has the counts from a
 // header that was answered 0.
 #![tactic(auto)]
+
 ghost use Rattle.std.specs.Prelude.{◌≡◌, ◌*◌, ◌^◌, ◌≤◌, length};
 ghost use Rattle.cutfile.specs.Layout.{LongEnough, file_entry, component_at};
 ghost use Rattle.tables.specs.Tables.{filled};

@@ -73,6 +73,7 @@ side-small k h = pow_mono h
 
 pub even_power : (k : ℕ) → 1 ≤ k → 2 ^ k % 2 ≡ 0
 even_power (suc k) h = omega (arith, pow-suc 2 k)
+even_power zero h = elim h [ ]
 
 module _ (s : List Float) (n : ℕ) (l : List ℕ) (o : List Float) (p : DensityAccepted s n l (length o)) where
   -- the matrix has room

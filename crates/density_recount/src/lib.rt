@@ -1,5 +1,6 @@
 // Page two from page one: the density summed from a lent cut matrix alone.
 #![tactic(auto)]
+
 ghost use Rattle.std.specs.Prelude.{◌≡◌, Bool, ◌*◌, ◌^◌, ◌≤◌, ◌<◌, length};
 ghost use Rattle.answers.specs.Paper.{paper};
 ghost use Rattle.submasks.specs.Submasks.{submask_number};

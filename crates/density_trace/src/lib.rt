@@ -1,5 +1,6 @@
 // Trace scaling: a square matrix multiplied by 1 / trace.
 #![tactic(auto)]
+
 ghost use Rattle.std.specs.Prelude.{◌≡◌, ◌*◌, ◌≤◌, length};
 ghost use Rattle.complex.specs.Cells.{written};
 ghost use Rattle.density_entries.specs.Squares.{Square};

@@ -2,6 +2,7 @@
 // Cosine and sine are real here. The definitions speak of planes; the matrix is lent as cells, since a column's cells are as far
 // apart as its rows are long and the two parts of each are then read at once.
 #![tactic(auto)]
+
 ghost use Rattle.std.specs.Prelude.{◌≡◌, ◌+◌, ◌*◌, ◌<◌, ◌≤◌, length};
 ghost use Rattle.svd_pair.specs.Decisions.{verdict};
 ghost use Rattle.eigen_pair.specs.Decide.{eigen_tangent, left_alone, eigen_decision};

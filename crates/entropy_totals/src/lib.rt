@@ -1,5 +1,6 @@
 // Inner: the sums of the entropy's band alone, as the printout shows them.
 #![tactic(auto)]
+
 ghost use Rattle.std.specs.Prelude.{◌≡◌, ◌≤◌, length};
 ghost use Rattle.entropy_totals.specs.Totals.{totals_of};
 

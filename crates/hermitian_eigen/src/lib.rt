@@ -2,6 +2,7 @@
 // spectral radius, and the singular values and left vectors of the shifted one are taken from the last to the first. V is no
 // part of the result, so the sweeps keep none.
 #![tactic(auto)]
+
 ghost use Rattle.std.specs.Prelude.{◌≡◌, false, ◌*◌, ◌<◌, ◌≤◌, length, get_or, take};
 ghost use Rattle.std.specs.Float.{nan, binary64};
 ghost use Rattle.std.specs.Float.Ieee.{sub};

@@ -1,6 +1,7 @@
 // The lines of a lot's sheet, put into a lent buffer of bytes. Inner: the caller gives room. Each function answers the place past what it
 // put, and touches nothing else.
 #![tactic(auto)]
+
 ghost use Rattle.std.specs.Prelude.{◌≡◌, ◌+◌, ◌*◌, ◌≤◌, length};
 ghost use Rattle.texts.specs.Text.{Puts};
 ghost use Rattle.lot_lines.specs.SheetLines.{count_lines, mark_lines, sheet_text};

@@ -1,6 +1,7 @@
 // The lines of a matrix, put into a lent buffer of bytes. Inner: the caller gives room. Each function answers the place past what
 // it put, and touches nothing else.
 #![tactic(auto)]
+
 ghost use Rattle.std.specs.Prelude.{◌≡◌, ◌+◌, ◌*◌, ◌≤◌, length};
 ghost use Rattle.texts.specs.Text.{Puts};
 ghost use Rattle.page_cells.specs.PageCells.{cell_line, cell_lines, Lined};

@@ -1,6 +1,7 @@
 // The short lines of the two pages, put into a lent buffer of bytes. Inner: the caller gives room. Each function answers the
 // place past what it put, and touches nothing else.
 #![tactic(auto)]
+
 ghost use Rattle.std.specs.Prelude.{◌≡◌, ◌+◌, ◌*◌, ◌≤◌, length};
 ghost use Rattle.answers.specs.Paper.{paper};
 ghost use Rattle.texts.specs.Text.{Puts};

@@ -1,5 +1,6 @@
 // The two pages of one state, worked out and held against each other.
 #![tactic(auto)]
+
 ghost use Rattle.std.specs.Prelude.{◌≡◌, ◌&&◌, ◌+◌, ◌*◌, ◌/◌, ◌<◌, ◌≤◌};
 ghost use Rattle.density_entries.specs.Filled.{table_entry, EntriesReady};
 ghost use Rattle.pages.specs.Agree.{same_floats, Says, pages_answer, pages_same, Held};

@@ -1,6 +1,7 @@
 // Inner: the sweeps of the SVD, tried without the products by zeros first. Where every number that they leave is finite and no zero, they
 // are the sweeps of 01 (`plain-is-exact`); else these are done from a copy.
 #![tactic(auto)]
+
 ghost use Rattle.std.specs.Prelude.{◌≡◌, ◌*◌, length, take};
 ghost use Rattle.svd_load.specs.Loading.{unit_planes};
 ghost use Rattle.sweeps.specs.Sweeping.{state};

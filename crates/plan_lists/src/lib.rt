@@ -1,5 +1,6 @@
 // Inner: the lists of a plan, in twelve places each, with zeros behind the last number.
 #![tactic(auto)]
+
 ghost use Rattle.std.specs.Prelude.{◌≡◌, ◌≤◌, length};
 ghost use Rattle.qubits.specs.Spread.{other_qubits};
 ghost use Rattle.cut_sides.specs.Sides.{Parted};

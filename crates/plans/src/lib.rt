@@ -1,5 +1,6 @@
 // A cut kept: its masks, sizes, named list and smaller side's list, as one value.
 #![tactic(auto)]
+
 ghost use Rattle.std.specs.Prelude.{◌≡◌, true};
 ghost use Rattle.cut_sides.specs.Sides.{Parted, sides_of, side_list};
 ghost use Rattle.plan_lists.specs.Padded.{padded};

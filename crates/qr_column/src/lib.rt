@@ -2,6 +2,7 @@
 // The basis columns of q (crate basis) and the column v that is worked on are held as planes, all real
 // parts and then all imaginary parts, so that two rows at a time are multiplied and added.
 #![tactic(auto)]
+
 ghost use Rattle.std.specs.Prelude.{◌≡◌, ◌+◌, ◌*◌, ◌<◌, ◌≤◌, length};
 ghost use Rattle.complex.specs.Cells.{cell_at};
 ghost use Rattle.complex.specs.Squares.{squares_to};

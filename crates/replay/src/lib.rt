@@ -1,6 +1,7 @@
 // For the programs that replay cases, and for them alone: hexadecimal words read from a text and written
 // to standard output. What they promise is only what a loop over a text needs; the gate compares the output.
 #![tactic(auto)]
+
 ghost use Rattle.std.specs.Prelude.{◌≡◌, ◌+◌, ◌*◌, ◌<◌, ◌≤◌, true, length};
 
 // A word of the text, and where the text goes on.

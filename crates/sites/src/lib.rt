@@ -1,5 +1,6 @@
 // Sites filled from factors: the fill helpers of src/backend/mps/svd.rs.
 #![tactic(auto)]
+
 ghost use Rattle.std.specs.Prelude.{◌≡◌, ◌*◌, ◌≤◌, length, take};
 ghost use Rattle.answers.specs.Paper.{paper, and_then};
 ghost use Rattle.values.specs.Lists.{values_allowed};

@@ -1,6 +1,7 @@
 // The thin SVD of an m by n matrix by one-sided Jacobi turns: A = U diag(s) V†, U column-major, V† row-major,
 // the values falling.
 #![tactic(auto)]
+
 ghost use Rattle.std.specs.Prelude.{◌≡◌, ◌*◌, ◌≤◌, length};
 ghost use Rattle.answers.specs.Paper.{paper};
 ghost use Rattle.svd.specs.Svd.{svd_lengths, svd_tests, finite_factors, SvdExact, SvdFactored, SvdFinished, SvdWorked, Svd};

@@ -1,6 +1,7 @@
 // Inner: the thin SVD of an m by n matrix whose work matrix stands at the front of scratch already: the matrix as planes, or its conjugate
 // transpose where it is wider than tall. Scratch is left as the work leaves it.
 #![tactic(auto)]
+
 ghost use Rattle.std.specs.Prelude.{◌≡◌, List, ◌*◌, Float, length, take};
 ghost use Rattle.svd.specs.Svd.{work_of, SvdExact, SvdFactored};
 ghost use Rattle.svd_loaded.specs.Loaded.{SvdLoaded};

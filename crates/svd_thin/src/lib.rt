@@ -2,6 +2,7 @@
 // columns, whose planes stand at the front of scratch. The factor on its own side comes out in `main`,
 // where V stands until then; the one on V's side in `other`, where the norms stand until then.
 #![tactic(auto)]
+
 ghost use Rattle.std.specs.Prelude.{◌≡◌, ◌*◌, ◌≤◌, length, take};
 ghost use Rattle.stable_order.specs.Places.{places_of, places_in, Places};
 ghost use Rattle.stable_order.specs.Order.{order_to};

@@ -1,5 +1,6 @@
 // Inner: Schmidt values from the eigenvalues of a density: the roots of those above the floor, finished.
 #![tactic(auto)]
+
 ghost use Rattle.std.specs.Prelude.{◌≡◌, ◌≤◌, length, take};
 ghost use Rattle.complex.specs.Zeros.{zero_float};
 ghost use Rattle.weights.specs.Weights.{largest_from, roots_above};

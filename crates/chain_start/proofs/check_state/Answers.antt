@@ -8,10 +8,10 @@ pub loop-i-init : goal.loop-i-init
 loop-i-init c = (omega arith, refl)
 
 pub loop-i-preserved : goal.loop-i-preserved
-loop-i-preserved c =
-    (
-      omega arith,
-      c.loop-i.invariant.1 ∙ state-good _ _ _ c.loop-i-test.true (sym c.state_allowed.ensures ∙ c.if-state_allowed.true))
+loop-i-preserved c = (
+  omega arith,
+  c.loop-i.invariant.1 ∙ state-good _ _ _ c.loop-i-test.true (sym c.state_allowed.ensures ∙ c.if-state_allowed.true),
+)
 
 pub returns-else-state_allowed : goal.returns-else-state_allowed
 returns-else-state_allowed c =

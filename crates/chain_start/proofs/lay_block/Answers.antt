@@ -43,7 +43,8 @@ loop-x-preserved c =
     let h : c.loop-x.x < 2 ^ c.args.low = below c.loop-x-test.true c.bit-count.ensures in (
       omega (arith, h),
       search rules,
-      λ old l e. block_more c.args.state.now _ _ _ _ _ old c.bit-count.ensures l c.requires.inside h (c.loop-x.invariant.2 old l e) (from_is _ _ _ c.args.state.now c.args.backs.now c.requires _ _ _ h refl c.other_way-from.ensures) c.read_cell-z.ensures c.write_cell.ensures)
+      λ old l e. block_more c.args.state.now _ _ _ _ _ old c.bit-count.ensures l c.requires.inside h (c.loop-x.invariant.2 old l e) (from_is _ _ _ c.args.state.now c.args.backs.now c.requires _ _ _ h refl c.other_way-from.ensures) c.read_cell-z.ensures c.write_cell.ensures,
+    )
 
 pub shape_of-u : goal.shape_of-u
 shape_of-u c = c.loop-x.invariant.1

@@ -7,11 +7,6 @@ use Rattle.answers.proofs.Stopped.{refused, passed, was-done, stopped-number}
 use Rattle.cuts.specs.Cut.{cut_lengths}
 use Rattle.cuts.proofs.CutLaws.{ready-sides, lengths-done, over-refused, over_done}
 use Rattle.cuts.proofs.cut_over.Goals as goal
-use Rattle.cuts.proofs.cut_over.Goals.{In-Done}
-
--- past the first call: 6 does not refuse
-first_done : (c : In-Done) (b : Reply) → let z = c.args in and_then (cut_lengths z.n (length z.state.now) (length z.out.now)) b ≡ b
-first_done c b = passed _ _ b c.cut_lengths-first.ensures c.in-Done.is
 
 pub cut_lengths-first-requires : goal.cut_lengths-first-requires
 cut_lengths-first-requires c = c.requires.parted.listed.small
@@ -25,22 +20,18 @@ returns-in_default c =
 
 pub returns-in_default-second : goal.returns-in_default-second
 returns-in_default-second c =
-    let f = c.before.before in
     let z = c.args in
     let r = c.check_components-second.result in
     over-refused z.state.now z.n z.cut z.out.now r
-    (c.check_components-second.ensures ∙ sym (first_done f _)) (stopped-number r c.in_default-second.not-Done)
+    (c.check_components-second.ensures ∙ sym (passed _ _ _ c.cut_lengths-first.ensures c.in-Done.is)) (stopped-number r c.in_default-second.not-Done)
 
 pub fill_cut-requires : goal.fill_cut-requires
 fill_cut-requires c =
-    let f = c.before.before.before.before in
     let d = lengths-done _ _ _ (was-done _ _ c.cut_lengths-first.ensures c.in-Done.is) in
     ready-sides _ _ _ _ c.requires d.0 d.1
 
 pub returns : goal.returns
 returns c =
-    let d = c.before.before.before.before in
-    let f = d.before.before.before in
     let z = c.args in
     over_done z.state.now z.n z.cut z.out.now _
-    (ap paper (sym c.in-Done-second.is) ∙ c.check_components-second.ensures ∙ sym (first_done f _)) _ refl c.fill_cut.ensures
+    (ap paper (sym c.in-Done-second.is) ∙ c.check_components-second.ensures ∙ sym (passed _ _ _ c.cut_lengths-first.ensures c.in-Done.is)) _ refl c.fill_cut.ensures

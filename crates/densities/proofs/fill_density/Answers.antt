@@ -17,9 +17,13 @@ pub fill_offsets-requires : goal.fill_offsets-requires
 fill_offsets-requires c = record { listed = c.requires.0.listed; dim_in_bounds = rw c.bit-dim.ensures (side-small (length c.args.list.now) c.requires.0.few) }
 
 pub fill_lower-requires : goal.fill_lower-requires
-fill_lower-requires c = let dim = c.bit-dim.ensures in record { entries_ready = (
-        density-ready _ _ _ c.args.out.now c.requires.0 _ _ _ _ dim c.fill_offsets.ensures (rw dim (side-small (length c.args.list.now) c.requires.0.few)) c.requires.1,
-        c.requires.0.allowed); square = (density-square _ _ _ _ c.requires.0 _ dim, density-few _ _ _ c.args.out.now c.requires.0 _ _ dim c.bit-groups.ensures) }
+fill_lower-requires c = let dim = c.bit-dim.ensures in record {
+  entries_ready = (
+    density-ready _ _ _ c.args.out.now c.requires.0 _ _ _ _ dim c.fill_offsets.ensures (rw dim (side-small (length c.args.list.now) c.requires.0.few)) c.requires.1,
+    c.requires.0.allowed,
+  );
+  square = (density-square _ _ _ _ c.requires.0 _ dim, density-few _ _ _ c.args.out.now c.requires.0 _ _ dim c.bit-groups.ensures);
+}
 
 pub mirror-requires : goal.mirror-requires
 mirror-requires c =

@@ -33,8 +33,11 @@ fill_numbers-requires c = let scale = layout-scale c.args.list.now c.args.n c.re
 
 pub fill_lower-requires : goal.fill_lower-requires
 fill_lower-requires c = let e = layout_is c.args.list.now c.args.n c.requires.parted _ _ c.sides_of-s.ensures c.bit.ensures _ c.layout_of-z.ensures in
-    let d = c.bit-dim.ensures in record { entries_ready = recount-ready c.args.matrix.now c.args.n c.args.list.now c.args.out.now c.requires _ e _ _ _ d c.fill_numbers.ensures
-          (rw d (side-small (length c.args.list.now) c.requires.few)); square = recount-square c.args.matrix.now c.args.n c.args.list.now c.args.out.now c.requires _ e _ d }
+    let d = c.bit-dim.ensures in record {
+      entries_ready = recount-ready c.args.matrix.now c.args.n c.args.list.now c.args.out.now c.requires _ e _ _ _ d c.fill_numbers.ensures
+          (rw d (side-small (length c.args.list.now) c.requires.few));
+      square = recount-square c.args.matrix.now c.args.n c.args.list.now c.args.out.now c.requires _ e _ d;
+    }
 
 pub mirror-requires : goal.mirror-requires
 mirror-requires c =

@@ -14,12 +14,8 @@ use Rattle.densities.proofs.SquareLaws.{square-done, place-refused, place-done}
 use Rattle.density_trace.specs.Trace.{scaled_cell, finite_cells, reciprocal}
 use Rattle.density_trace.proofs.TraceLaws.{scaling-none, scaling-wild, scaling-done}
 use Rattle.density_trace.proofs.normalize_trace.Goals as goal
-use Rattle.density_trace.proofs.normalize_trace.Goals.{In-Done}
 
 -- past the first call: 1, 6 and 7 do not refuse
-first_done : (c : In-Done) (b : Reply) → and_then (square_answer c.args.rho.now c.args.dim) b ≡ b
-first_done c b = passed _ _ b c.square_refusal-first.ensures c.in-Done.is
-
 pub returns-in_default : goal.returns-in_default
 returns-in_default c =
     let r = c.square_refusal-first.result in
@@ -31,7 +27,7 @@ trace_of-trace-requires c = square-done _ _ (was-done _ _ c.square_refusal-first
 pub returns-then-trace : goal.returns-then-trace
 returns-then-trace c =
     place-refused _ _ _ _
-    (sym (first_done c.before.before.before _ ∙ scaling-none c.args.rho.now c.args.dim (ap (λ (x : Float). Ieee.eq x zero_float) (sym c.trace_of-trace.ensures) ∙ c.if-trace.true)))
+    (sym (passed _ _ _ c.square_refusal-first.ensures c.in-Done.is ∙ scaling-none c.args.rho.now c.args.dim (ap (λ (x : Float). Ieee.eq x zero_float) (sym c.trace_of-trace.ensures) ∙ c.if-trace.true)))
     (λ e. omega arith)
 
 pub overflow_mul-cells : goal.overflow_mul-cells
@@ -50,7 +46,7 @@ returns-then-scaled_finite c =
     let d = c.args.dim in
     let e = c.trace_of-trace.ensures in
     place-done _ _ _ _
-    (sym (first_done c.before.before.before.before.before.before.before.before.before.before _ ∙ scaling-done s d (ap (λ (x : Float). Ieee.eq x zero_float) (sym e) ∙ c.if-trace.false)
+    (sym (passed _ _ _ c.square_refusal-first.ensures c.in-Done.is ∙ scaling-done s d (ap (λ (x : Float). Ieee.eq x zero_float) (sym e) ∙ c.if-trace.false)
     (ap (λ (x : Float). finite_cells (d * d) (scaled_cell s (reciprocal x))) (sym e) ∙ sym c.scaled_finite.ensures ∙ c.if-scaled_finite.true)))
     _ refl (c.scale_cells.ensures ∙ ap (λ (x : Float). written (d * d) (scaled_cell s (reciprocal x)) s) e)
 
@@ -60,6 +56,6 @@ returns c =
     let d = c.args.dim in
     let e = c.trace_of-trace.ensures in
     place-refused _ _ _ _
-    (sym (first_done c.before.before.before.before.before.before _ ∙ scaling-wild s d (ap (λ (x : Float). Ieee.eq x zero_float) (sym e) ∙ c.if-trace.false)
+    (sym (passed _ _ _ c.square_refusal-first.ensures c.in-Done.is ∙ scaling-wild s d (ap (λ (x : Float). Ieee.eq x zero_float) (sym e) ∙ c.if-trace.false)
     (ap (λ (x : Float). finite_cells (d * d) (scaled_cell s (reciprocal x))) (sym e) ∙ sym c.scaled_finite.ensures ∙ c.if-scaled_finite.false)))
     (λ e. omega arith)

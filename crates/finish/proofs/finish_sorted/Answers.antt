@@ -15,8 +15,8 @@ offset_bounds-s-count c = omega (arith, within _ _ _ c.floor_of.ensures c.kept_c
 pub slice_bounds-zero_first-count : goal.slice_bounds-zero_first-count
 slice_bounds-zero_first-count c = omega (arith, c.scale_kept-scaled.auto.s, within _ _ _ c.floor_of.ensures c.kept_count-count.ensures)
 
--- LEFT: no goal slice-bounds-zero-first-start
--- part-zero-first-start c = omega (arith, c.scale_kept-scaled.auto.s, within _ _ _ c.floor_of.ensures c.kept_count-count.ensures)
+pub slice_bounds-zero_first-start : goal.slice_bounds-zero_first-start
+slice_bounds-zero_first-start c = omega (arith, c.scale_kept-scaled.auto.s, within _ _ _ c.floor_of.ensures c.kept_count-count.ensures)
 
 pub overflow_sub-n : goal.overflow_sub-n
 overflow_sub-n c = within _ _ _ c.floor_of.ensures c.kept_count-count.ensures

@@ -25,9 +25,13 @@ overflow_sub-rest-2 c = omega (arith, c.bit-size.ensures, c.mask_of-named.ensure
 pub same_rows-requires : goal.same_rows-requires
 same_rows-requires c = let dim = c.bit-dim.ensures in
     let e = layout_is c.args.list.now c.args.n c.requires.parted _ _ c.sides_of-s.ensures c.bit-size.ensures _ c.layout_of-z.ensures in
-    let small = held_small _ _ _ _ c.requires _ dim in record { entries_ready = (
+    let small = held_small _ _ _ _ c.requires _ dim in record {
+      entries_ready = (
         held-state _ _ _ _ c.requires _ dim _ _ _ (ap₂ (λ (x y : ℕ). x - 1 - y) c.bit-size.ensures c.mask_of-named.ensures.0) c.fill_offsets.ensures small,
-        held-matrix _ _ _ _ c.requires _ dim _ e _ _ c.fill_numbers.ensures small); dim_bound = small }
+        held-matrix _ _ _ _ c.requires _ dim _ e _ _ c.fill_numbers.ensures small,
+      );
+      dim_bound = small;
+    }
 
 pub returns : goal.returns
 returns c =

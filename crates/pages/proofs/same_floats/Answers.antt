@@ -20,7 +20,8 @@ loop-i-preserved c =
     let w = c.loop-i.invariant in (
       omega arith,
       w.1,
-      w.2 ∙ same_step _ _ c.loop-i.i c.loop-i-test.true (omega (arith, w.1)) (sym c.bits_of.ensures ∙ c.if-bits_of.false ∙ c.bits_of-in-loop-i.ensures))
+      w.2 ∙ same_step _ _ c.loop-i.i c.loop-i-test.true (omega (arith, w.1)) (sym c.bits_of.ensures ∙ c.if-bits_of.false ∙ c.bits_of-in-loop-i.ensures),
+    )
 
 pub returns : goal.returns
 returns c =

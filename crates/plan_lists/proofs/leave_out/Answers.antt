@@ -26,8 +26,9 @@ pub loop-i-preserved : goal.loop-i-preserved
 loop-i-preserved c =
     let t = c.loop-i-test.true in
     elim c.if-x-q.branch [
-      then-x-q w ↦ rw (w.numbers-is, w.count-is) (leave-keep _ _ c.requires _ _ _ c.loop-i.invariant t w.if-x-q.true)
-    | else-x-q w ↦ rw (w.numbers-is, w.count-is) (leave-skip _ _ c.requires _ _ _ c.loop-i.invariant t w.if-x-q.false) ]
+      | then-x-q w ↦ rw (w.numbers-is, w.count-is) (leave-keep _ _ c.requires _ _ _ c.loop-i.invariant t w.if-x-q.true)
+      | else-x-q w ↦ rw (w.numbers-is, w.count-is) (leave-skip _ _ c.requires _ _ _ c.loop-i.invariant t w.if-x-q.false)
+    ]
 
 pub returns : goal.returns
 returns c = leave-end _ _ c.requires _ _ _ c.loop-i.invariant c.loop-i-test.false

@@ -14,16 +14,6 @@ use Rattle.plans.proofs.is_made.Goals as goal
 pub returns-then-k-gt12 : goal.returns-then-k-gt12
 returns-then-k-gt12 c = sym (made-long c.args.p c.if-k-gt12.true)
 
-pub slice_bounds-named-end : goal.slice_bounds-named-end
-slice_bounds-named-end c =
-    omega (arith, c.if-k-gt12.false, twelve c.args.p.named c.well_formed.0.1.1.1.1.1.1.1.1.0.1.0.1)
-
-pub slice_bounds-cut_plan-end : goal.slice_bounds-cut_plan-end
-slice_bounds-cut_plan-end c =
-    let h : c.args.p.k ≤ length c.args.p.named
-    = omega (arith, c.if-k-gt12.false, twelve c.args.p.named c.well_formed.0.1.1.1.1.1.1.1.1.0.1.0.1) in
-    sym (length-take-le c.args.p.k c.args.p.named h)
-
 pub returns-in_default : goal.returns-in_default
 returns-in_default c =
     let p = c.args.p in

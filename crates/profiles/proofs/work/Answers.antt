@@ -20,11 +20,11 @@ offset_bounds-values-at c = omega (arith, walked-within _ _ c.walk-made.result _
 pub slice_bounds-zero_first-count : goal.slice_bounds-zero_first-count
 slice_bounds-zero_first-count c = walked-within _ _ c.walk-made.result _ _ _ _ _ c.walk-made.ensures c.in-Done.is
 
--- LEFT: no goal slice-bounds-zero-first-start
--- part-zero-first-start c = walked-within _ _ c.walk-made.result _ _ _ _ _ c.walk-made.ensures c.enum_told-1.given.1
+pub slice_bounds-zero_first-start : goal.slice_bounds-zero_first-start
+slice_bounds-zero_first-start c = walked-within _ _ c.walk-made.result _ _ _ _ _ c.walk-made.ensures c.in-Done.is
 
--- LEFT: no goal slice-bounds-zero-first-end
--- part-zero-first-end c = omega (arith, walked-within _ _ c.walk-made.result _ _ _ _ _ c.walk-made.ensures c.enum_told-1.given.1)
+pub slice_bounds-zero_first-end : goal.slice_bounds-zero_first-end
+slice_bounds-zero_first-end c = omega (arith, walked-within _ _ c.walk-made.result _ _ _ _ _ c.walk-made.ensures c.in-Done.is)
 
 pub zero_first-requires-2 : goal.zero_first-requires-2
 zero_first-requires-2 c = tail-long _ _ c.walk-made.new.values (omega (arith, walked-within _ _ c.walk-made.result _ _ _ _ _ c.walk-made.ensures c.in-Done.is))

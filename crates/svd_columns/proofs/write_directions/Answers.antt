@@ -47,11 +47,15 @@ slice_bounds-direction_column-count c =
     let goal : let a = c.args in c.loop-j.j * a.rows + a.rows ≤ a.side * a.rows = column_fits _ _ _ c.loop-j-test.true in
     omega (arith, goal)
 
--- LEFT: no goal slice-bounds-direction-column-start
--- part-direction-column-start c = omega (arith, goal c.before.before)
+pub slice_bounds-direction_column-start : goal.slice_bounds-direction_column-start
+slice_bounds-direction_column-start c =
+    let goal : let a = c.args in c.loop-j.j * a.rows + a.rows ≤ a.side * a.rows = column_fits _ _ _ c.loop-j-test.true in
+    omega (arith, goal)
 
--- LEFT: no goal slice-bounds-direction-column-end
--- part-direction-column-end c = omega (arith, goal c.before.before)
+pub slice_bounds-direction_column-end : goal.slice_bounds-direction_column-end
+slice_bounds-direction_column-end c =
+    let goal : let a = c.args in c.loop-j.j * a.rows + a.rows ≤ a.side * a.rows = column_fits _ _ _ c.loop-j-test.true in
+    omega (arith, goal)
 
 pub direction_column-requires : goal.direction_column-requires
 direction_column-requires c =

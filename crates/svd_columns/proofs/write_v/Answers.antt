@@ -43,11 +43,15 @@ slice_bounds-turn_column-count c =
     let goal : let a = c.args in c.loop-j.j * a.side + a.side ≤ a.side * a.side = column_fits _ _ _ c.loop-j-test.true in
     omega (arith, goal)
 
--- LEFT: no goal slice-bounds-turn-column-start
--- part-turn-column-start c = omega (arith, goal c.before)
+pub slice_bounds-turn_column-start : goal.slice_bounds-turn_column-start
+slice_bounds-turn_column-start c =
+    let goal : let a = c.args in c.loop-j.j * a.side + a.side ≤ a.side * a.side = column_fits _ _ _ c.loop-j-test.true in
+    omega (arith, goal)
 
--- LEFT: no goal slice-bounds-turn-column-end
--- part-turn-column-end c = omega (arith, goal c.before)
+pub slice_bounds-turn_column-end : goal.slice_bounds-turn_column-end
+slice_bounds-turn_column-end c =
+    let goal : let a = c.args in c.loop-j.j * a.side + a.side ≤ a.side * a.side = column_fits _ _ _ c.loop-j-test.true in
+    omega (arith, goal)
 
 pub turn_column-requires : goal.turn_column-requires
 turn_column-requires c =

@@ -69,4 +69,4 @@ pub shape_of-v-then-s : goal.shape_of-v-then-s
 shape_of-v-then-s c = c.sweep-w.auto.v ∙ c.loop-k.invariant.2
 
 pub returns-then-s : goal.returns-then-s
-returns-then-s c = let swept = c.sweep-w.ensures in record { done = sweeps-quiet _ _ 100 _ _ c.loop-k-test.true c.loop-k.invariant.4 swept.0 c.if-s.true; waiting = swept.1.1 }
+returns-then-s c = let swept = c.sweep-w.ensures in record { done = sweeps-quiet _ _ 100 _ _ c.loop-k-test.true c.loop-k.invariant.4 swept.done c.if-s.true; waiting = swept.waiting }

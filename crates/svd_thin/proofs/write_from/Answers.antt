@@ -10,19 +10,19 @@ pub slice_bounds-write_factors-end : goal.slice_bounds-write_factors-end
 slice_bounds-write_factors-end c = sym (length-take-le _ _ (omega (arith, c.requires.0.scratch-is)))
 
 pub write_factors-requires : goal.write_factors-requires
-write_factors-requires c =
-    (
-      record {
-        tall = c.requires.0.tall;
-        columns = c.requires.0.columns;
-        cells = c.requires.0.cells;
-        work-is = length-take-le _ _ (omega (arith, c.requires.0.scratch-is));
-        order_is = part_length (2 * (c.args.side * c.args.rows)) c.args.side c.args.scratch.now (omega (arith, c.requires.0.scratch-is));
-        s-is = c.requires.0.s-is;
-        main-is = c.requires.1;
-        other-is = c.requires.0.other-is;
-      },
-      c.requires.2)
+write_factors-requires c = (
+  record {
+    tall = c.requires.0.tall;
+    columns = c.requires.0.columns;
+    cells = c.requires.0.cells;
+    work-is = length-take-le _ _ (omega (arith, c.requires.0.scratch-is));
+    order_is = part_length (2 * (c.args.side * c.args.rows)) c.args.side c.args.scratch.now (omega (arith, c.requires.0.scratch-is));
+    s-is = c.requires.0.s-is;
+    main-is = c.requires.1;
+    other-is = c.requires.0.other-is;
+  },
+  c.requires.2,
+)
 
 pub returns : goal.returns
 returns c = c.write_factors.ensures
