@@ -1,5 +1,6 @@
 // What the program `cutprint` prints of the result of a cut file. Its number buffers are filled arrays, lent to the library.
 #![tactic(auto)]
+
 ghost use Rattle.std.specs.Prelude.{◌≡◌, ◌≤◌, length};
 ghost use Rattle.answers.specs.Paper.{paper};
 ghost use Rattle.io.specs.Counts.{IsPrefixLen};

@@ -1,5 +1,6 @@
 // Inner: the refusals of the chain of sites before its work: 1, 6 and 7, in this order.
 #![tactic(auto)]
+
 ghost use Rattle.std.specs.Prelude.{◌≡◌, ◌≤◌, length};
 ghost use Rattle.answers.specs.Paper.{paper};
 ghost use Rattle.chain_checks.specs.Checks.{chain_sizes, result_lengths, scratch_lengths, chain_tests};

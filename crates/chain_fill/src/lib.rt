@@ -1,5 +1,6 @@
 // Inner: the work of an accepted call, over slices of exactly the needed lengths.
 #![tactic(auto)]
+
 ghost use Rattle.std.specs.Prelude.{◌≡◌, ◌+◌, ◌-◌, ◌*◌, ◌≤◌, ◌++◌, length, take, set};
 ghost use Rattle.complex.specs.Zeros.{zeros};
 ghost use Rattle.chain_fill.specs.Fill.{number_at, LastRoom, Last, FillRoom, ChainFilled};

@@ -1,5 +1,6 @@
 // Inner: the room that a chain of sites asks, in cells.
 #![tactic(auto)]
+
 ghost use Rattle.std.specs.Prelude.{◌≡◌, ◌≤◌, min};
 ghost use Rattle.chain_walk.specs.Chain.{most_of, room_to};
 

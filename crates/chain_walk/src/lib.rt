@@ -1,5 +1,6 @@
 // Inner: the walk along the chain of sites, one step after another over the lent slices.
 #![tactic(auto)]
+
 ghost use Rattle.std.specs.Prelude.{◌≡◌, ◌++◌, ◌+◌, ◌*◌, ◌≤◌, length, take, drop};
 ghost use Rattle.chain_step.specs.Step.{columnwise};
 ghost use Rattle.chain_link.specs.OneLink.{rows_at, columns_at, cells_at};

@@ -1,6 +1,7 @@
 // The total of the squares of a cut's kept singular values, before the scale: the number whose root scales page one. Inner: the cut
 // was not refused by 1 to 5.
 #![tactic(auto)]
+
 ghost use Rattle.std.specs.Prelude.{◌≡◌, ◌≤◌, length};
 ghost use Rattle.cut_values.specs.Schmidt.{singular_values};
 ghost use Rattle.cut_totals.specs.Totals.{total_sorted, kept_total, Totalled};

@@ -1,6 +1,7 @@
 // Inner: the single result of a cut file, as the sheet of a lot counts it: the answer's number, and the rank, which is how many values
 // were kept. Whoever counts files knows them by this alone.
 #![tactic(auto)]
+
 ghost use Rattle.std.specs.Prelude.{◌≡◌};
 ghost use Rattle.lot_verdicts.specs.Verdict.{verdict_of};
 

@@ -1,6 +1,7 @@
 // The lines of page two's matrices, put into a lent buffer of bytes: the density as it was summed and its trace, the total of page
 // one where it was not refused, the trace-scaled matrix or its refusal, and whether the two pages agree. Inner: the caller gives room.
 #![tactic(auto)]
+
 ghost use Rattle.std.specs.Prelude.{◌≡◌, ◌+◌, ◌*◌, ◌≤◌, length};
 ghost use Rattle.texts.specs.Text.{Puts};
 ghost use Rattle.page_cells.specs.PageCells.{Lined};

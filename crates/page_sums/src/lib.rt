@@ -1,6 +1,7 @@
 // Whether the density of a cut file's state is the one summed from its cut matrix alone. Inner: the cut was not refused, and the
 // density was answered 0. A file has at most 9 qubits, so 1,024 numbers of matrix and 2,048 of density are enough.
 #![tactic(auto)]
+
 ghost use Rattle.std.specs.Prelude.{◌≡◌};
 ghost use Rattle.pages.specs.Agree.{pages_same};
 ghost use Rattle.page_sums.specs.Sums.{Summable};

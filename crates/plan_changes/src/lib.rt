@@ -1,5 +1,6 @@
 // A plan changed by one qubit, or turned to the other side: equal to a plan made from the changed list.
 #![tactic(auto)]
+
 ghost use Rattle.std.specs.Prelude.{◌≡◌};
 ghost use Rattle.answers.specs.Paper.{paper, if_done};
 ghost use Rattle.plan_changes.specs.Changes.{adding, dropping, switching, Changed};

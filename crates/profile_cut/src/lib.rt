@@ -1,5 +1,6 @@
 // Inner: one cut of a chain, the qubits 0..j against the rest, and its marks.
 #![tactic(auto)]
+
 ghost use Rattle.std.specs.Prelude.{◌≡◌, ◌++◌, suc, ◌+◌, ◌*◌, ◌≤◌, length, take};
 ghost use Rattle.profile_cut.specs.Cut.{marks_each, marks_of, CutRoom, AloneAt};
 

@@ -1,5 +1,6 @@
 // Inner: the walk along the cuts of a chain, one cut after another over the lent slices.
 #![tactic(auto)]
+
 ghost use Rattle.std.specs.Prelude.{◌≡◌, length};
 ghost use Rattle.profile_walk.specs.Page.{PutRoom, PutCut, WalkRoom, WalkEnd};
 

@@ -1,6 +1,7 @@
 // Modified Gram-Schmidt, as `factorize_gram_schmidt` of src/backend/mps/svd.rs has it. Inner: callers keep the lengths.
 // The basis columns of q and the column v that is worked on are held as planes (crates basis and columns).
 #![tactic(auto)]
+
 ghost use Rattle.std.specs.Prelude.{◌≡◌, ◌+◌, ◌*◌, ◌<◌, ◌≤◌, min, length};
 ghost use Rattle.complex.specs.Arithmetic.{complex_of};
 ghost use Rattle.complex.specs.Cells.{set_cell};

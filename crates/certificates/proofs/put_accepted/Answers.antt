@@ -30,13 +30,10 @@ write_others-requires c =
     let a = c.requires.0 in
     (omega (arith, a.small), omega (arith, others-length z.n z.list.now (is-parted z.list.now z.n 10 a.taken).listed, a.small))
 
-pub slice_bounds-put_sided-end : goal.slice_bounds-put_sided-end
-slice_bounds-put_sided-end c = sym (length-take-le _ _ (array-share-prefix-others c.before))
-
 pub put_sided-requires-2 : goal.put_sided-requires-2
 put_sided-requires-2 c =
     let a = c.requires.0 in
-    (omega (arith, slice-aggregate-put-sided c.before), a.small, a.few, c.requires.1)
+    (omega arith, a.small, a.few, c.requires.1)
 
 pub returns : goal.returns
 returns c =

@@ -30,6 +30,9 @@ returns c = let rho = c.args.rho.now in
     let l = length-unscaled rho c.args.dim c.requires.some c.requires.small in
     let k = length-kept c.args.accepted c.args.total in
     let m = length-scaled rho c.args.dim c.requires.some c.requires.small in
-    let q = square-small c.args.dim c.requires.small in record { puts = puts_then _ _ _ _ _ _ _ _ (omega (arith, c.requires.fits))
+    let q = square-small c.args.dim c.requires.small in record {
+      puts = puts_then _ _ _ _ _ _ _ _ (omega (arith, c.requires.fits))
           (puts_then _ _ _ _ _ _ _ _ (omega (arith, c.requires.fits))
-          (puts_then _ _ _ _ _ _ _ _ (omega (arith, c.requires.fits)) c.put_unscaled-second.ensures c.put_kept-third.ensures) c.put_scaled-last.ensures.puts) c.put_said.ensures; rho_after = c.put_scaled-last.ensures.rho_after }
+          (puts_then _ _ _ _ _ _ _ _ (omega (arith, c.requires.fits)) c.put_unscaled-second.ensures c.put_kept-third.ensures) c.put_scaled-last.ensures.puts) c.put_said.ensures;
+      rho_after = c.put_scaled-last.ensures.rho_after;
+    }

@@ -16,7 +16,7 @@ pub slice_bounds-matrix-end : goal.slice_bounds-matrix-end
 slice_bounds-matrix-end c = let z = c.args in omega (arith, state-fits z.state.now z.n z.list.now z.cap c.recount_size-first.result c.recount_size-first.ensures c.in-Done.is _ _ _ c.cut_matrix-second.ensures refl c.in-Done-second.is)
 
 pub slice_bounds-same_densities-end : goal.slice_bounds-same_densities-end
-slice_bounds-same_densities-end c = sym (length-take-le _ _ (array-share-prefix-matrix c.before))
+slice_bounds-same_densities-end c = let z = c.args in sym (length-take-le _ _ (omega (arith, state-fits z.state.now z.n z.list.now z.cap c.recount_size-first.result c.recount_size-first.ensures c.in-Done.is _ _ _ c.cut_matrix-second.ensures refl c.in-Done-second.is)))
 
 pub same_densities-requires : goal.same_densities-requires
 same_densities-requires c = let z = c.args in held z.state.now z.n z.list.now z.cap c.recount_size-first.result c.recount_size-first.ensures c.in-Done.is _ _ _ c.cut_matrix-second.ensures refl c.in-Done-second.is
