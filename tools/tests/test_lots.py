@@ -1,5 +1,5 @@
 """The night batch: tools/lot, the program over the kept lots, and that the lot's crates know a file by its single result alone.
-Needs target/bin/nightbatch for the program."""
+Needs crates/nightbatch/out/nightbatch for the program."""
 import importlib.util
 import pathlib
 import re
@@ -11,7 +11,7 @@ import unittest
 ROOT = pathlib.Path(__file__).resolve().parents[2]
 TOOL = ROOT / 'tools' / 'lot'
 START = ROOT / 'tools' / 'start'
-PROGRAM = ROOT / 'target' / 'bin' / 'nightbatch'
+PROGRAM = ROOT / 'crates' / 'nightbatch' / 'out' / 'nightbatch'
 sys.dont_write_bytecode = True
 spec = importlib.util.spec_from_file_location('lots', ROOT / 'tools' / 'vectors' / 'lots.py')
 lots = importlib.util.module_from_spec(spec)
