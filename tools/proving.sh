@@ -5,7 +5,7 @@
 # Paths are relative to a base folder, which has crates.txt and crates/; the sums are of the files' contents.
 #
 # What rt makes stands in crates/NAME/out, and each `rt ci` clears that: so who keeps a program or the library copies it into target/.
-# .ci/run sets ZEGRAFULT_GATE=1 for its steps: then `rt ci` has passed just now over these very files, and what it left is taken.
+# .ci/run names the checkout in ZEGRAFULT_GATE for its steps: `rt ci` has passed just now over these very files, and what it left is taken.
 
 # The crate NAME and those of crates.txt that it stands on, one to a line.
 reach() { # BASE NAME
@@ -63,7 +63,7 @@ take_lock() { # BASE
 # Whether `rt ci` left the libraries below the crate NAME, of which no `rt check` has made one since or before: those have a stamp.
 left_by_ci() { # BASE NAME
   local name
-  [ "${ZEGRAFULT_GATE:-}" = 1 ] || return 1
+  [ "${ZEGRAFULT_GATE:-}" = "$1" ] || return 1
   for name in $(reach "$1" "$2"); do
     [ "$name" = "$2" ] || { [ -d "$1/crates/$name/out/rlib/$name.rlib" ] && [ ! -e "$1/crates/$name/out/rlib/stamp" ]; } || return 1
   done
@@ -71,7 +71,7 @@ left_by_ci() { # BASE NAME
 
 # Proves and builds the program NAME, which stays as crates/NAME/out/NAME: `rt run` builds it and runs it once, on no input.
 build_program_of() { # BASE NAME
-  if [ "${ZEGRAFULT_GATE:-}" = 1 ] && [ -x "$1/crates/$2/out/$2" ]; then
+  if [ "${ZEGRAFULT_GATE:-}" = "$1" ] && [ -x "$1/crates/$2/out/$2" ]; then
     echo "as rt ci proved, built and ran it:"
     sed -n "s/^[0-9]* //; /^== $2\$/,/^rt: $2 proved/p; /^rt: $2 is kept/p" "$1/target/ci.log" 2>/dev/null
     return 0
