@@ -79,19 +79,28 @@ build_program_of() { # BASE NAME
   (cd "$1/crates/$2" && rt run </dev/null)
 }
 
-# Proves and builds the static library NAME, which stays as crates/NAME/out/libNAME.a. `rt lib` proves all below it where `rt check` has kept
-# no work: after `rt ci` alone NAME is proved once more, over the libraries as `rt ci` proved them, in the words that `rt lib` uses.
-build_library_of() { # BASE NAME
-  local kit name words=()
-  left_by_ci "$1" "$2" || { (cd "$1/crates/$2" && rt lib); return; }
+# Proves the crate NAME anew over the libraries as `rt ci` proved them, and builds it in out/, in the words that rt uses: a static library
+# to libNAME.a, a program to NAME.o, linked to NAME. No command of rt does that: `rt lib` and `rt run` prove what `rt check` has not kept.
+build_over_ci() { # BASE NAME
+  local kit name words=() root=src/lib.rt to=lib$2.a
   kit=$(readlink -f -- "$(command -v rt)") && kit=${kit%/bin/*} || return 1
-  for name in $(uses "$1" "$2"); do
+  if [ -e "$1/crates/$2/src/main.rt" ]; then root=src/main.rt to=$2.o; else words=(--crate-type staticlib); fi
+  for name in std $(uses "$1" "$2"); do
     if [ -d "$1/crates/$name" ]; then words+=(--extern "$name=../$name/out/rlib/$name.rlib"); else words+=(--extern "$name=$kit/rlibs/$name.rlib"); fi
   done
   for name in $(reach "$1" "$2"); do [ "$name" = "$2" ] || words+=(-L "dependency=../$name/out/rlib"); done
-  (cd "$1/crates/$2" && mkdir -p out && echo "rt: chose --jobs 2 for $2" && "$kit/bin/rattle" build --crate-name "$2" src/lib.rt --crate-type staticlib \
-    --extern "std=$kit/rlibs/std.rlib" -L "dependency=$kit/rlibs" "${words[@]}" --antt-project "$kit/rattle/logic/antt-project.json" \
-    --logic-built "$kit/logic_built" --jobs 2 --links "$2=" --toolchain "$kit/toolchain" --backend llvm -o "out/lib$2.a")
+  echo "rt: chose --jobs 2 for $2"
+  (
+    cd "$1/crates/$2" && mkdir -p out && "$kit/bin/rattle" build --crate-name "$2" "$root" "${words[@]}" -L "dependency=$kit/rlibs" --jobs 2 --links "$2=" \
+      --antt-project "$kit/rattle/logic/antt-project.json" --logic-built "$kit/logic_built" --toolchain "$kit/toolchain" --backend llvm -o "out/$to" || exit
+    [ "$root" = src/lib.rt ] || "$kit/bin/rattle-link" --target x86_64-unknown-linux-gnu --toolchain "$kit/toolchain" -o "out/$2" "out/$to" \
+      "$kit/c/libos_c.a" "$kit/c/liblibc_c.a"
+  )
+}
+
+# Proves and builds the static library NAME, which stays as crates/NAME/out/libNAME.a.
+build_library_of() { # BASE NAME
+  if left_by_ci "$1" "$2"; then build_over_ci "$1" "$2"; else (cd "$1/crates/$2" && rt lib); fi
 }
 
 # Runs COMMAND, which proves and builds the crate NAME in BASE, with what it writes in LOG, and leaves in FOLDER what `stands` needs once
