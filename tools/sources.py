@@ -7,13 +7,13 @@ CRATES = pathlib.Path('crates')
 WORD = r"[^\s(){}\[\],.;]+"
 SIGNATURE = re.compile(r'^((?:(?:unfoldable|abbrev|pub) )*)(' + WORD + r')(?: \{[^}]*\})? :(?: |$)')
 TYPE = re.compile(r'^(?:pub )?(?:record|data) (' + WORD + ')')
-USE = re.compile(r'^(?:ghost |(?:unfoldable )?pub )?use Rattle·(\w+?)(?:·specs|·proofs)?\.(specs|proofs)\.([\w-]+)(?:\.\{([^}]*)\}| as (\w+));?$', re.M)
+USE = re.compile(r'^(?:ghost |(?:unfoldable )?pub )?use Rattle\.(\w+)\.(specs|proofs)\.([\w-]+)(?:\.\{([^}]*)\}| as (\w+));?$', re.M)
 
 
 def listed():
     """crates.txt: each crate with the crates it stands on."""
     rows = [line.split('#')[0].partition(':') for line in pathlib.Path('crates.txt').read_text().splitlines()]
-    return {name.strip(): under.split() for name, colon, under in rows if colon}
+    return {head.split()[0]: under.split() for head, colon, under in rows if colon}
 
 
 def source(crate):
@@ -21,17 +21,18 @@ def source(crate):
 
 
 def words(text):
-    """What a text names: its words, and of `alias.name` the whole. A projection ` .field` is none."""
+    """What a text names: its words, of `alias.name` the whole and its head. A field, as in `x.field` or `(f x).field`, is none."""
     text = re.sub(r'(?:^|(?<=\s))--.*', ' ', text, flags=re.M)
-    text = re.sub(r'(?<=[\s(])\.[^\s(){}\[\],;]+', ' ', text)
-    return text, {word.strip('.⌜⌝') for word in re.findall(r"[^\s(){}\[\],;⌜⌝]+", text)}
+    text = re.sub(r'(?<=[)\]}])\.[^\s(){}\[\],;]+', ' ', text)
+    found = {word.strip('.') for word in re.findall(r"[^\s(){}\[\],;]+", text)}
+    return text, found | {word.partition('.')[0] for word in found}
 
 
 def says(said, name):
     text, all_words = said
-    if name in all_words or name.strip('_') in all_words:
+    if name in all_words or name.strip('◌') in all_words:
         return True
-    return '_' in name.strip('_') and all(part in text for part in name.split('_') if part)
+    return '◌' in name.strip('◌') and all(part in text for part in name.split('◌') if part)
 
 
 def brought(text):

@@ -1,4 +1,4 @@
-"""./certify as an operator meets it: what is lost is never silent, and the first use. The program is the proved one, target/bin/cutprint;
+"""./certify as an operator meets it: what is lost is never silent, and the first use. The program is the proved one, crates/cutprint/out/cutprint;
 the first uses are of a small checkout with a stand-in for `rt`, so that nothing is proved here. CERTIFY may name another script."""
 import os
 import pathlib
@@ -18,21 +18,22 @@ EMULATED = os.uname().machine != 'x86_64'  # by the kit's emulator, which the st
 if EMULATED and shutil.which('rt'):
     os.environ.setdefault('RATTLE_HOME', str(pathlib.Path(shutil.which('rt')).resolve().parents[1]))
 
-# It proves three crates by waiting, counts its runs, and fails where crates/low/src/lib.rt says so.
+# It proves three crates by waiting, counts its runs, and fails where crates/low/src/lib.rt says so. It works in a crate's folder.
 RT = r'''#!/bin/sh
 [ "$1" != version ] || { echo "a stand-in"; exit 0; }
 echo run >>"$COUNT"
-mkdir -p target/log target/bin || exit 2
-for name in low middle cutprint; do
-  echo failed >target/log/$name.res
+own=$(basename "$PWD")
+for name in low middle "$own"; do
+  echo "rt: chose --jobs 2 for $name"
   sleep "${SLOW:-0}"
-  echo proved >target/log/$name.res
+  echo "logic=proved functions=1"
 done
-rm -f target/bin/cutprint
-cp "$PROGRAM" target/bin/cutprint
-if grep -q broken crates/low/src/lib.rt; then echo "rt: low NOT PROVED (exit 1, 0 s)"; exit 1; fi
-mkdir -p target/staticlib && echo archive >target/staticlib/libexports.a
-echo "rt: ok, 3 crates proved"
+mkdir -p out || exit 2
+case $1 in
+run) rm -f "out/$own" && cp "$PROGRAM" "out/$own" ;;
+lib) echo archive >"out/lib$own.a" ;;
+esac
+if grep -q broken ../low/src/lib.rt; then echo "rt: the library low did not build, so nothing above it was checked"; exit 1; fi
 '''
 
 
@@ -195,7 +196,7 @@ def checkout(folder, built=False, program=None):
     (folder / 'bin').mkdir()
     (folder / 'bin' / 'rt').write_text(RT)
     (folder / 'bin' / 'rt').chmod(0o755)
-    shutil.copy(ROOT / 'target' / 'bin' / 'cutprint', folder / 'program')
+    shutil.copy(ROOT / 'crates' / 'cutprint' / 'out' / 'cutprint', folder / 'program')
     if built:
         done = run(PAPER, script=small / 'certify', env=surroundings(folder))
         assert done.returncode == 0, done.stderr
@@ -253,7 +254,7 @@ class FirstUse(Case):
         for count in (2, 3):
             done = self.use()
             self.assertEqual((done.returncode, done.stdout, self.count()), (3, b'', count))
-            self.assertIn(b'NOT PROVED', done.stderr)
+            self.assertIn(b'did not build', done.stderr)
 
     def test_two_at_once(self):
         done = []
@@ -343,7 +344,7 @@ class Library(Case):
         super().setUp()
         self.small = checkout(self.path)
         shutil.copy(CERTIFY.parent / 'tools' / 'library', self.small / 'tools')
-        (self.small / 'crates.txt').write_text('low:\nmiddle: low\nexports: middle\ncutprint: middle io\n')
+        (self.small / 'crates.txt').write_text('low:\nmiddle: low\nexports staticlib: middle\ncutprint: middle io\n')
         (self.small / 'crates' / 'exports').mkdir()
 
     def use(self, **more):
@@ -368,7 +369,7 @@ class Library(Case):
         for _ in range(2):
             done = self.use()
             self.assertEqual(done.returncode, 1)
-            self.assertIn(b'NOT PROVED', done.stderr)
+            self.assertIn(b'did not build', done.stderr)
 
     def test_with_certify_at_once(self):
         done = []

@@ -1,6 +1,6 @@
 """Chains of sites contracted back by numpy: with nothing dropped the state returns within 1e-13 of its norm, and every site but the last is
 an isometry where its kept values are not zero; tools/chain and tools/read over the examples. Needs numpy, a C compiler and
-target/staticlib/libexports.a (tools/library), or the archive that CHAIN_LIBRARY names; target/bin/chainprint, or the program that CHAINPRINT names, where it
+target/staticlib/libexports.a (tools/library), or the archive that CHAIN_LIBRARY names; crates/chainprint/out/chainprint, or the program that CHAINPRINT names, where it
 is there. CHAIN_STATES says how many states."""
 import importlib.machinery
 import importlib.util
@@ -16,7 +16,7 @@ import numpy
 
 ROOT = os.path.join(os.path.dirname(os.path.abspath(__file__)), '..', '..')
 ARCHIVE = os.environ.get('CHAIN_LIBRARY', os.path.join(ROOT, 'target', 'staticlib', 'libexports.a'))
-PROGRAM = os.environ.get('CHAINPRINT', os.path.join(ROOT, 'target', 'bin', 'chainprint'))
+PROGRAM = os.environ.get('CHAINPRINT', os.path.join(ROOT, 'crates', 'chainprint', 'out', 'chainprint'))
 STATES = int(os.environ.get('CHAIN_STATES', 2000))
 SEED = 20261121
 NEAR = 1e-13

@@ -1,5 +1,5 @@
 """Random Clifford+T circuits (H, T, CNOT) of 4 to 9 qubits, cut in half: the Schmidt values that the program prints beside
-those of numpy's singular value decomposition. It needs numpy and target/bin/cutprint, or the program that CUTPRINT names."""
+those of numpy's singular value decomposition. It needs numpy and crates/cutprint/out/cutprint, or the program that CUTPRINT names."""
 import os
 import pathlib
 import random
@@ -12,7 +12,7 @@ import numpy
 
 ROOT = pathlib.Path(__file__).resolve().parents[2]
 START = ROOT / 'tools' / 'start'
-PROGRAM = os.environ.get('CUTPRINT') or ROOT / 'target' / 'bin' / 'cutprint'
+PROGRAM = os.environ.get('CUTPRINT') or ROOT / 'crates' / 'cutprint' / 'out' / 'cutprint'
 SEED = 20261116
 CIRCUITS = 80       # of each width
 NEAR = 1e-12

@@ -1,6 +1,7 @@
 """tools/edits --more and tools/times, in a small checkout with a stand-in for `rt`, so that nothing is proved here."""
 import os
 import pathlib
+import re
 import subprocess
 import tempfile
 import unittest
@@ -13,10 +14,8 @@ shift
 echo "asked for $*"
 for edit in crates/*/must-fail/*.edit; do
   [ -f "$edit" ] || continue
-  crate=$(basename "$(dirname "$(dirname "$edit")")") name=$(basename "$edit" .edit)
-  mkdir -p "target/must-fail/$crate/$name"
-  echo "$PWD/target/must-fail/$crate/$name/proofs/Laws.antt:1:1: error: $(sed -n 's/^# error: //p' "$edit")" >"target/must-fail/$crate/$name/.log"
-  echo "tried $crate/$name"
+  crate=$(basename "$(dirname "$(dirname "$edit")")")
+  echo "rt: must-fail $crate/$(basename "$edit"): refused, as it must be: ./proofs/Laws.antt:1:1: error: $(sed -n 's/^# error: //p' "$edit")"
 done
 '''
 
@@ -48,7 +47,7 @@ class Checkout(unittest.TestCase):
     def tried(self, *words):
         done = self.run_it('edits', '--more', *words)
         self.assertEqual(done.returncode, 0, done.stdout + done.stderr)
-        return {line[6:] for line in done.stdout.splitlines() if line.startswith('tried ')}
+        return set(re.findall(r'^rt: must-fail (\S+)\.edit: ', done.stdout, re.M))
 
 
 class More(Checkout):
@@ -76,6 +75,14 @@ class More(Checkout):
         self.assertEqual(done.returncode, 1)
         self.assertIn('top/more: a name is missing', done.stdout)
 
+    def test_of_the_last_run(self):
+        self.write('target/ci.log', '1 rt: must-fail low/a.edit: refused, as it must be: ./proofs/Laws.antt:1:1: error: expected 3, found 2\n'
+                   '1 rt: must-fail low/b.edit: refused, as it must be (only by a limit of the prover, which gave no verdict, so): a\n')
+        done = self.run_it('edits')
+        self.assertEqual((done.returncode, done.stdout), (0, "low/b: a bound of the prover's own\n2 edits: 0 for a missing name, 1 for a weak reason\n"))
+        self.write('target/ci.log', "1 rt: must-fail low/a.edit: BAD EDIT: an 'old:' text is in src/lib.rt 0 times, and not once\n")
+        self.assertEqual(self.run_it('edits').returncode, 1)
+
     def test_cost(self):
         self.write('docs/check-times.txt', 'low 3\nmiddle 4\ntop 5\naside 6\n')
         (self.path / 'crates/top/edits/more.edit').unlink()
@@ -83,24 +90,41 @@ class More(Checkout):
 
 
 class Times(Checkout):
-    LOG = 'rt: low proved (10 s)\nrt: middle proved (10 s)\nrt: top proved (60 s)\nrt: must-fail low/kept: refused, as it must be (first at a:1:2; 20 s)\ncpu:\n0m0.000s 0m0.000s\n0m40.000s 0m10.000s\n'
+    """Of three crates whose out/ is made now; the log's lines say when each is proved."""
 
-    def test_share_of_the_cpu(self):
-        self.write('target/ci.log', self.LOG)
+    def setUp(self):
+        super().setUp()
+        for name in ('low', 'middle', 'top'):
+            (self.path / 'crates' / name / 'out').mkdir()
+        made = [subprocess.run(['stat', '-c', '%W', self.path / 'crates' / name / 'out'], capture_output=True, text=True).stdout for name in ('low', 'middle', 'top')]
+        self.at = [int(second) for second in made]
+        if 0 in self.at:
+            self.skipTest('the file system does not say when a folder was made')
+        ends = [at + took for at, took in zip(self.at, (5, 5, 30))]
+        self.log = '%d == low\n%d rt: low proved\n%d rt: middle proved\n%d rt: top proved\n%d rt: must-fail low/kept.edit: refused, as it must be\n' % (self.at[0], *ends, ends[2])
+
+    def test_seconds(self):
+        self.write('target/ci.log', self.log)
         self.write('docs/check-times.txt', '')
         self.assertEqual(self.run_it('times', '--write').returncode, 0)
         lines = (self.path / 'docs/check-times.txt').read_text().splitlines()
         self.assertEqual(lines[1:], ['low 5', 'middle 5', 'top 30'])
 
+    def test_what_is_kept_has_no_time(self):
+        self.write('target/ci.log', self.log + '%d rt: aside is kept: an earlier run on this machine proved the same files over the same libraries\n' % self.at[0])
+        self.write('docs/check-times.txt', '')
+        self.assertIn('3 crates 40 s, 1 crates kept', self.run_it('times', '--write').stdout)
+        self.assertEqual((self.path / 'docs/check-times.txt').read_text(), '')
+
     def test_a_crate_that_doubled(self):
-        self.write('target/ci.log', self.LOG)
+        self.write('target/ci.log', self.log)
         self.write('docs/check-times.txt', 'low 10\nmiddle 10\ntop 10\n')
         said = self.run_it('times').stdout
         self.assertIn('top: 30 s', said)
         self.assertNotIn('low:', said)
 
     def test_a_slow_machine_is_no_crate(self):
-        self.write('target/ci.log', self.LOG)
+        self.write('target/ci.log', self.log)
         self.write('docs/check-times.txt', 'low 1\nmiddle 1\ntop 6\n')
         self.assertIn('no crate takes twice its part', self.run_it('times').stdout)
 

@@ -194,16 +194,16 @@ class Faces(unittest.TestCase):
             self.found()
 
     def test_library_of_another_version(self):
-        self.edit(faces.EXPORTS, '⌜ r ≡ 100 ⌝', '⌜ r ≡ 101 ⌝')
+        self.edit(faces.EXPORTS, '{ result ≡ 100 }', '{ result ≡ 101 }')
         self.says('crates/exports/src/lib.rt: the version is not 0.1.0, that is 100')
 
     # ---- a new call
 
     def test_new_call(self):
         """A call that exports gains is asked for everywhere; the table is written by the command."""
-        self.edit(faces.EXPORTS, '#[no_mangle]\npub extern "C" fn zg_sign(',
-                  '#[no_mangle]\npub extern "C" fn zg_never_there(bytes: &[u8], sheet: &mut [usize; 32], out: &mut [f64], place: &mut usize) -> u32\n'
-                  '    ensures { λ r. ⌜ r ≡ 0 ⌝ }\n{\n    0\n}\n\n#[no_mangle]\npub extern "C" fn zg_sign(')
+        self.edit(faces.EXPORTS, '#[unsafe(no_mangle)]\npub extern "C" fn zg_sign(',
+                  '#[unsafe(no_mangle)]\npub extern "C" fn zg_never_there(bytes: &[u8], sheet: &mut [usize; 32], out: &mut [f64], place: &mut usize) -> u32\n'
+                  '    ensures { result ≡ 0 }\n{\n    0\n}\n\n#[unsafe(no_mangle)]\npub extern "C" fn zg_sign(')
         lacks = ['%s: lacks zg_never_there' % p for p in (faces.HEADER, faces.FFI, faces.PORT)]
         lacks += ['%s: no call uses zg_never_there' % p for p in ('bindings/rust/src', faces.PYTHON)] + [p + ': lacks zg_never_there_out_len' for p in (faces.SIZES, faces.SIZES_TRIED)]
         self.says(*lacks, faces.TABLE + ': lacks zg_never_there')

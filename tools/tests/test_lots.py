@@ -1,5 +1,5 @@
 """The night batch: tools/lot, the program over the kept lots, and that the lot's crates know a file by its single result alone.
-Needs target/bin/nightbatch for the program."""
+Needs crates/nightbatch/out/nightbatch for the program."""
 import importlib.util
 import pathlib
 import re
@@ -11,7 +11,7 @@ import unittest
 ROOT = pathlib.Path(__file__).resolve().parents[2]
 TOOL = ROOT / 'tools' / 'lot'
 START = ROOT / 'tools' / 'start'
-PROGRAM = ROOT / 'target' / 'bin' / 'nightbatch'
+PROGRAM = ROOT / 'crates' / 'nightbatch' / 'out' / 'nightbatch'
 sys.dont_write_bytecode = True
 spec = importlib.util.spec_from_file_location('lots', ROOT / 'tools' / 'vectors' / 'lots.py')
 lots = importlib.util.module_from_spec(spec)
@@ -107,10 +107,14 @@ class Certify(unittest.TestCase):
 class Promises(unittest.TestCase):
     """`lots` and `lot_tallies` stand on the single result: they list no crate below it but the answers, the reading of a number and one law of
     whole numbers, name no definition below it, and unfold none of ours but their own."""
-    LAW = 'use Rattle·whole_numbers.proofs.WholeLaws.{le-or-lt}\n'
+    LAW = 'use Rattle.whole_numbers.proofs.WholeLaws.{le-or-lt}\n'
 
     def listed(self, crate):
         return re.search(rf'^{crate}:(.*)$', (ROOT / 'crates.txt').read_text(), re.M).group(1).split()
+
+    def unfoldable(self, crate):
+        paths = (ROOT / 'crates').glob(f'{crate}/specs/*.antt')
+        return {name for path in paths for name in re.findall(r'^unfoldable pub (\S+) :', path.read_text(), re.M)}
 
     def test_crates(self):
         self.assertEqual(self.listed('lot_tallies'), ['whole_numbers'])
@@ -118,16 +122,17 @@ class Promises(unittest.TestCase):
 
     def test_names_and_unfoldings(self):
         for crate in ('lot_tallies', 'lots'):
-            own = set()
-            for path in (ROOT / 'crates' / crate / 'specs').glob('*.antt'):
-                own |= set(re.findall(r'^unfoldable pub (\S+) :', path.read_text(), re.M))
-            for path in [p for kind in ('*.rt', '*.antt') for p in (ROOT / 'crates' / crate).rglob(kind)]:
+            own, theirs = self.unfoldable(crate), self.unfoldable('*')
+            named = set()
+            for path in [p for kind in ('*.rt', '*.antt') for part in ('src', 'specs', 'proofs') for p in (ROOT / 'crates' / crate / part).rglob(kind)]:
                 text = path.read_text().replace(self.LAW, '')
-                for other, module in re.findall(r'Rattle·(\w+)(?:·\w+)?\.([\w.]+)', text):
-                    known = {crate, 'answers', 'lot_verdicts', 'lot_tallies'} | ({'cutfile'} if module.startswith('specs.Bytes') else set())
+                for other, module in re.findall(r'Rattle\.(\w+)\.([\w.]+)', text):
+                    known = {crate, 'answers', 'lot_verdicts', 'lot_tallies', 'std'} | ({'cutfile'} if module.startswith('specs.Bytes') else set())
                     self.assertIn(other, known, path)
+                    named.add(other)
                 for line in re.findall(r'^\s*unfolding (.*)$', text, re.M):
-                    self.assertLessEqual(set(line.split()), own, path)
+                    self.assertEqual((set(line.split()) - own) & theirs, set(), path)
+            self.assertIn(crate, named)
 
 
 if __name__ == '__main__':

@@ -1,5 +1,5 @@
 """Both pages: `./certify --pages` with a stand-in for `pageprint` that prints what tools/vectors/pages.py makes, the proved program beside
-that maker where target/bin has it, and the pages that tools/read makes of the printouts. It needs no browser."""
+that maker where it is built, and the pages that tools/read makes of the printouts. It needs no browser."""
 import cmath
 import contextlib
 import html.parser
@@ -24,7 +24,7 @@ from unittest import mock
 ROOT = pathlib.Path(__file__).resolve().parents[2]
 MAKER = ROOT / 'tools' / 'vectors'
 START = ROOT / 'tools' / 'start'
-PROGRAM = ROOT / 'target' / 'bin' / 'pageprint'
+PROGRAM = ROOT / 'crates' / 'pageprint' / 'out' / 'pageprint'
 CIRCUIT = ROOT / 'examples' / 'circuit.cut'
 PRINTED = (ROOT / 'examples' / 'circuit.pages.txt').read_text()
 
@@ -115,7 +115,7 @@ class Certify(Case):
         self.assertIn('--pages', self.certify('--help').stdout)
 
 
-@unittest.skipUnless(PROGRAM.exists(), 'target/bin/pageprint is not built')
+@unittest.skipUnless(PROGRAM.exists(), 'crates/pageprint/out/pageprint is not built')
 class Proved(Case):
     """The proved program beside the maker, byte for byte."""
 
