@@ -1,6 +1,7 @@
 // The second part of the two pages: page two past its list, and the last line. Inner: the file's cut was not refused by 1 to 7, and
 // the caller gives room.
 #![tactic(auto)]
+
 ghost use Rattle.std.specs.Float.{binary64};
 ghost use Rattle.std.specs.Float.Ieee.{to_bits};
 ghost use Rattle.std.specs.Prelude.{length};

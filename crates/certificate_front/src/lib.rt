@@ -1,5 +1,6 @@
 // The first part of the two pages: page one, and page two up to its list. Inner: the caller gives room.
 #![tactic(auto)]
+
 ghost use Rattle.std.specs.Prelude.{◌≡◌, ◌+◌, ◌≤◌, length};
 ghost use Rattle.answers.specs.Paper.{paper};
 ghost use Rattle.texts.specs.Text.{Puts};

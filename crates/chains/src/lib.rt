@@ -1,5 +1,6 @@
 // The chain of sites of a state, taken apart from the left: one site a qubit, each an isometry but the last, which holds the weight.
 #![tactic(auto)]
+
 ghost use Rattle.std.specs.Prelude.{◌≡◌, length, replicate};
 ghost use Rattle.complex.specs.Zeros.{zeroed};
 ghost use Rattle.chain_fill.specs.Fill.{FillRoom};

@@ -2,6 +2,7 @@
 // are orthonormal within it, and S never rises and never goes below zero. Every number is a whole number of 2^-18;
 // all sums are exact.
 #![tactic(auto)]
+
 ghost use Rattle.std.specs.Prelude.{◌≡◌, ◌≤◌, length};
 ghost use Rattle.countersign_products.specs.Products.{Read};
 ghost use Rattle.countersign.specs.Verdict.{says, verdict_of, Accepted, Countersign};

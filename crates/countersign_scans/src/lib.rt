@@ -1,5 +1,6 @@
 // Inner: the first failing cell of each test, or the number of its cells where none fails.
 #![tactic(auto)]
+
 ghost use Rattle.std.specs.Prelude.{◌≡◌, ◌*◌, ◌<◌, ◌≤◌, length};
 ghost use Rattle.countersign_shifted.specs.Shifted.{Shifted};
 ghost use Rattle.countersign_products.specs.Products.{Factors, Read, product_fits};

@@ -1,6 +1,7 @@
 // Inner: the cyclic Jacobi sweeps of the eigenvalues, over a square matrix of n rows that is lent as cells, row-major. The
 // definitions speak of its planes.
 #![tactic(auto)]
+
 ghost use Rattle.std.specs.Prelude.{◌≡◌, ◌+◌, ◌-◌, ◌*◌, ◌<◌, ◌≤◌, length};
 ghost use Rattle.sweeps.specs.Sweeping.{pair_step, pairs_to, sweep_of};
 ghost use Rattle.eigen_pair.specs.CellPlanes.{as_planes};

@@ -1,5 +1,6 @@
 // The entropy of a cut as a band of whole numbers: the weights of its Schmidt values, each one's band in their sum, and the sums.
 #![tactic(auto)]
+
 ghost use Rattle.std.specs.Prelude.{◌≡◌, ◌+◌, ◌*◌, ◌^◌, ◌≤◌, length, replicate};
 ghost use Rattle.answers.specs.Paper.{paper};
 ghost use Rattle.entropy_bands.specs.Bands.{entropy_lengths, entropy_rest, NoBands, SumReady, SummedUp, WorkReady, EntropyWorked, EntropyBand};

@@ -2,6 +2,7 @@
 // each one's u32 length, then the files, all little-endian. Every file is read into the same room, and only the bytes that were read are
 // handed on.
 #![tactic(auto)]
+
 ghost use Rattle.std.specs.Prelude.{◌≡◌, ◌+◌, ◌-◌, ◌*◌, ◌<◌, ◌≤◌, min, length};
 ghost use Rattle.answers.specs.Paper.{paper};
 ghost use Rattle.cutfile.specs.Bytes.{word32};

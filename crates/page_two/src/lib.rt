@@ -1,6 +1,7 @@
 // Page two of a state's certificate, past its list: the density and what is said of it, or its refusal. Inner: the cut of page one
 // was not refused. The cap is 10 as on page one, so the page names at most 5 qubits, and 2,048 numbers hold the density.
 #![tactic(auto)]
+
 ghost use Rattle.std.specs.Prelude.{◌≡◌, length};
 ghost use Rattle.texts.specs.Text.{Puts};
 ghost use Rattle.page_two.specs.PageTwo.{page_two_text, Shown};

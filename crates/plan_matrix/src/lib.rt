@@ -1,5 +1,6 @@
 // The cut matrix of a plan.
 #![tactic(auto)]
+
 ghost use Rattle.plan_matrix.specs.PlannedCut.{PlannedCut};
 
 use answers::Answer;

@@ -1,5 +1,6 @@
 // Inner: a plan as thirty numbers in a row, as C lays them out.
 #![tactic(auto)]
+
 ghost use Rattle.std.specs.Prelude.{◌≡◌};
 ghost use Rattle.plan_numbers.specs.Numbers.{numbers_of, plan_at};
 

@@ -1,5 +1,6 @@
 // Inner: the refusals of the page of a chain's cuts before its work: 1, 5, 6 and 7, in this order.
 #![tactic(auto)]
+
 ghost use Rattle.std.specs.Prelude.{◌≡◌, [], ◌∷◌, ◌-◌, ◌≤◌, min};
 ghost use Rattle.answers.specs.Paper.{paper};
 ghost use Rattle.cut_sides.specs.Sides.{cut_refusal};

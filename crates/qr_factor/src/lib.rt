@@ -1,6 +1,7 @@
 // The columns of a matrix one after the other, and the factors that they leave. Inner: callers keep the lengths.
 // While it is built q holds its columns as planes (crate basis); at the end they are laid out as cells.
 #![tactic(auto)]
+
 ghost use Rattle.std.specs.Prelude.{◌≡◌, ◌*◌, ◌<◌, ◌≤◌, min, max, length};
 ghost use Rattle.complex.specs.Zeros.{zeros};
 ghost use Rattle.qr_basis.specs.Matrix.{matrix_of};

@@ -1,5 +1,6 @@
 // Inner: the columns of the basis q, held as planes, are laid out as cells in their place, each through the column v.
 #![tactic(auto)]
+
 ghost use Rattle.std.specs.Prelude.{◌≡◌, ◌+◌, ◌*◌, ◌≤◌, length};
 ghost use Rattle.qr_basis.specs.Matrix.{matrix_of};
 ghost use Rattle.qr_column.specs.Columns.{column_of};

@@ -1,5 +1,6 @@
 // Inner: the tests of a call on a slab, in their order, and the run of cells that it takes.
 #![tactic(auto)]
+
 ghost use Rattle.std.specs.Prelude.{◌≡◌, true, ◌/◌, ◌≤◌};
 ghost use Rattle.slab_sites.specs.Sites.{count, each_apart};
 ghost use Rattle.slab_tests.specs.Tests.{sound, bad_data, room, misplaced, skipped, is_full, Judged};

@@ -1,5 +1,7 @@
 -- `certificates::put_accepted` meets its contract: the list at hand, or the others that were written, is the smaller side's list. Assumes nothing.
 use mathlib.Core.Path.{sym}
+use Prim.Native.Nat.{◌-◌}
+use lib.ListN.{length}
 use native.Mathlib.Omega.{arith}
 use lib.Seq.{length-take-le}
 use Rattle.qubits.proofs.OtherLaws.{others-length}
@@ -33,7 +35,7 @@ write_others-requires c =
 pub put_sided-requires-2 : goal.put_sided-requires-2
 put_sided-requires-2 c =
     let a = c.requires.0 in
-    (omega arith, a.small, a.few, c.requires.1)
+    (omega (arith, length-take-le (c.args.n - length c.args.list.now) c.write_others.new.out (omega (arith, a.small))), a.small, a.few, c.requires.1)
 
 pub returns : goal.returns
 returns c =

@@ -11,10 +11,10 @@ pub fits-requires : goal.fits-requires
 fits-requires c = record { read = c.requires.read; factors = (c.requires.factors.0, c.requires.factors.1, c.loop-c-test.true) }
 
 pub loop-c-preserved : goal.loop-c-preserved
-loop-c-preserved c = (omega arith, scan_good _ _ _ c.loop-c.invariant.1 c.loop-c-test.true (sym c.fits2.ensures ∙ c.if-fits.true))
+loop-c-preserved c = (omega arith, scan_good _ _ _ c.loop-c.invariant.1 c.loop-c-test.true (sym c.fits.ensures ∙ c.if-fits.true))
 
 pub returns-else-fits : goal.returns-else-fits
-returns-else-fits c = scan-bad _ _ _ c.loop-c.invariant.1 c.loop-c-test.true (sym c.fits2.ensures ∙ c.if-fits.false)
+returns-else-fits c = scan-bad _ _ _ c.loop-c.invariant.1 c.loop-c-test.true (sym c.fits.ensures ∙ c.if-fits.false)
 
 pub returns : goal.returns
 returns c = scan-end _ _ _ c.loop-c.invariant.1 c.loop-c-test.false

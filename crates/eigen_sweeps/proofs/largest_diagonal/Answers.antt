@@ -39,13 +39,14 @@ pub loop-i-preserved : goal.loop-i-preserved
 loop-i-preserved c =
     let at : let n = c.args.n in c.loop-i.i * n + c.loop-i.i < n * n = digits_lt c.loop-i-test.true c.loop-i-test.true in
     let a = c.args in
-    let x = plane-re (a.n * a.n) (c.loop-i.i * a.n + c.loop-i.i) a.xs.now at in
-    ( omega arith
-    , elim c.if-x-largest.branch [
-        then-x-largest w ↦ w.largest-is ∙ largest-more _ _ _ c.loop-i.invariant.1 x w.if-x-largest.true
-      | else-x-largest w ↦ w.largest-is ∙ largest-same _ _ _ c.loop-i.invariant.1 x w.if-x-largest.false ] )
+    let x = plane-re (a.n * a.n) (c.loop-i.i * a.n + c.loop-i.i) a.xs.now at in (
+      omega arith,
+      elim c.if-x-largest.branch [
+        | then-x-largest w ↦ w.largest-is ∙ largest-more _ _ _ c.loop-i.invariant.1 x w.if-x-largest.true
+        | else-x-largest w ↦ w.largest-is ∙ largest-same _ _ _ c.loop-i.invariant.1 x w.if-x-largest.false
+      ],
+    )
 
 pub returns : goal.returns
 returns c =
-    let at : let n = c.args.n in c.loop-i.i * n + c.loop-i.i < n * n = digits_lt c.loop-i-test.true c.loop-i-test.true in
     let e : c.loop-i.i ≡ c.args.n = omega arith in rw e at c.loop-i.invariant.1

@@ -15,8 +15,8 @@ slice_bounds-sum_from_cut-end c = sym (length-take-le _ _ (omega (arith, state-f
 pub sum_from_cut-requires : goal.sum_from_cut-requires
 sum_from_cut-requires c = recountable _ _ _ _ c.requires _ c.cut_matrix.result _ c.cut_matrix.ensures refl _ refl c.cut_matrix.auto.out
 
--- LEFT: no goal array-share-prefix-preserved
--- array-share-prefix-again c = omega (arith, density-fits _ _ _ _ c.requires)
+pub slice_bounds-again-end : goal.slice_bounds-again-end
+slice_bounds-again-end c = omega (arith, density-fits _ _ _ _ c.requires)
 
 pub slice_bounds-same_floats-end : goal.slice_bounds-same_floats-end
 slice_bounds-same_floats-end c = sym (length-take-le _ _ (omega (arith, density-fits _ _ _ _ c.requires, c.sum_from_cut.auto.out)))

@@ -57,5 +57,4 @@ loop-i-preserved c =
 
 pub returns : goal.returns
 returns c =
-    let at : let n = c.args.n in c.loop-i.i * n + c.loop-i.i < n * n = digits_lt c.loop-i-test.true c.loop-i-test.true in
     let e : c.loop-i.i ≡ c.args.n = omega (arith, c.loop-i.invariant.0, c.loop-i-test.false) in rw e at c.loop-i.invariant.2
