@@ -7,6 +7,7 @@
 //   dropped D
 // A file has at most 9 qubits, so 2,384 numbers of sites, 1,024 of state and 3,104 of scratch are enough, and 73,016 bytes of text.
 #![tactic(auto)]
+
 ghost use Rattle.std.specs.Prelude.{◌≡◌, ◌<◌, ◌≤◌, length};
 ghost use Rattle.answers.specs.Paper.{paper};
 ghost use Rattle.cutfile.specs.Layout.{LongEnough};

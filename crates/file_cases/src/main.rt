@@ -2,6 +2,7 @@
 // each, under a line with the table's name. A table is a row of files, each with its length before it in four bytes, little-endian; it has at
 // most 81,920 bytes.
 #![tactic(auto)]
+
 ghost use Rattle.std.specs.Prelude.{◌≡◌, ◌+◌, ◌≤◌, length};
 ghost use Rattle.io.specs.Counts.{IsPrefixLen};
 

@@ -2,6 +2,7 @@
 // header and then each file into the same room, so that a lot of any length fits; the step that adds a file is that of `lots::lot_sheet`.
 // A file's place moves by its whole length, and of a file that is longer than the room the front is read: it decides.
 #![tactic(auto)]
+
 ghost use Rattle.std.specs.Prelude.{◌≡◌, ◌+◌, ◌*◌, ◌<◌, ◌≤◌, length};
 ghost use Rattle.io.specs.Counts.{IsPrefixLen};
 ghost use Rattle.lot_tallies.specs.Tallies.{Tallied};

@@ -1,6 +1,7 @@
 // Reads `state.bin` and writes both pages of its certificate, or `refused N P`. A missing file counts as empty. The buffer is longer
 // than any valid file, so a file that is longer still is read as one that is too long, and is not cut to fit.
 #![tactic(auto)]
+
 ghost use Rattle.io.specs.Counts.{IsPrefixLen};
 
 use std::rt::Files;
