@@ -2,23 +2,26 @@
 // stands at the buffer's front.
 #![tactic(auto)]
 
+ghost use Rattle.std.specs.Prelude.{take};
+ghost use Rattle.std.specs.Io.KnownBytes.{Consumes};
 ghost use Rattle.io.specs.Counts.{IsPrefixLen};
 
 use std::fs;
 use std::io::Read;
 use std::rt::Files;
 
-// Reads until buf is full, the input ends or a read fails, and answers how many bytes it put at the front of buf.
+// Reads until buf is full, the input ends or a read fails, and answers how many bytes it put at the front of buf: those, and no more, are
+// taken from what the reader had left.
 pub fn read_full<R: Read>(from: &mut R, buf: &mut [u8]) -> usize
-    ensures { IsPrefixLen result buf.new }
+    ensures prefix_len { IsPrefixLen result buf.new }
+    ensures bytes { Consumes (R.remaining from.old) (R.remaining from.new) (take result buf.new) }
 {
     let mut done = 0;
     while done < buf.len() {
-        let n = from.read(&mut buf[done..]).unwrap_or(0);
-        if n == 0 {
-            break;
+        match from.read(&mut buf[done..]) {
+            Ok(0) | Err(_) => return done,
+            Ok(n) => done += n,
         }
-        done += n;
     }
     done
 }

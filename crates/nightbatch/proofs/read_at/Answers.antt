@@ -12,4 +12,4 @@ pub slice_bounds-read_full-end-2 : goal.slice_bounds-read_full-end-2
 slice_bounds-read_full-end-2 g c = sym (length-take-le _ _ (omega (arith, c.room_for-most.ensures, c.requires)))
 
 pub returns : goal.returns
-returns g c = front-counts _ _ _ c.read_full.ensures
+returns g c = front-counts _ _ _ c.read_full.ensures.prefix_len
