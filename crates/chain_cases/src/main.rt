@@ -9,7 +9,9 @@
 // is 200 numbers or longer as its digest. The state has at most 8,200 numbers, sites 21,840, matrix, u, vt, values and largest 8,200,
 // scratch 32,904, the others 64.
 #![tactic(auto)]
+
 use chain_fill::Chained;
+use std::io::Result;
 
 // The changes of a state, of which the text has the count at `at`; where the text goes on.
 fn changed(text: &[u8], at: usize, s: &mut [f64]) -> usize {
@@ -31,15 +33,16 @@ fn read_state(text: &[u8], at: usize, s: &mut [f64]) -> usize {
     changed(text, replay::past(text, at), s)
 }
 
-fn print_chained(r: Chained) {
+fn print_chained(rt: &impl Print, r: Chained) -> Result<()> {
     let answer = r.answer;
     let dropped = r.dropped;
-    replay::print_answer(answer);
-    replay::print_word(replay::word_of(dropped));
+    replay::print_answer(rt, answer)?;
+    replay::print_word(rt, replay::word_of(dropped))
 }
 
 // The call, its answer and the lent slices as it leaves them.
 fn take_apart(
+    rt: &impl Print,
     state: &[f64],
     n: usize,
     epsilon: f64,
@@ -52,21 +55,25 @@ fn take_apart(
     u: &mut [f64],
     vt: &mut [f64],
     scratch: &mut [f64],
-) {
-    print_chained(chains::chain_of_sites(
-        state, n, epsilon, limit, sites, bonds, starts, marks, matrix, u, vt, scratch,
-    ));
-    replay::print_or_digest(sites);
-    replay::print_counts(bonds);
-    replay::print_counts(starts);
-    replay::print_counts(marks);
-    replay::print_or_digest(matrix);
-    replay::print_or_digest(u);
-    replay::print_or_digest(vt);
-    replay::print_or_digest(scratch);
+) -> Result<()> {
+    print_chained(
+        rt,
+        chains::chain_of_sites(
+            state, n, epsilon, limit, sites, bonds, starts, marks, matrix, u, vt, scratch,
+        ),
+    )?;
+    replay::print_or_digest(rt, sites)?;
+    replay::print_counts(rt, bonds)?;
+    replay::print_counts(rt, starts)?;
+    replay::print_counts(rt, marks)?;
+    replay::print_or_digest(rt, matrix)?;
+    replay::print_or_digest(rt, u)?;
+    replay::print_or_digest(rt, vt)?;
+    replay::print_or_digest(rt, scratch)
 }
 
 fn page(
+    rt: &impl Print,
     state: &[f64],
     n: usize,
     cap: usize,
@@ -76,21 +83,25 @@ fn page(
     ranks: &mut [usize],
     marks: &mut [usize],
     scratch: &mut [f64],
-) {
-    replay::print_answer(profiles::cut_profile(
-        state, n, cap, header, values, largest, ranks, marks, scratch,
-    ));
-    replay::print_counts(header);
-    replay::print_or_digest(values);
-    replay::print_or_digest(largest);
-    replay::print_counts(ranks);
-    replay::print_counts(marks);
-    replay::print_or_digest(scratch);
+) -> Result<()> {
+    replay::print_answer(
+        rt,
+        profiles::cut_profile(
+            state, n, cap, header, values, largest, ranks, marks, scratch,
+        ),
+    )?;
+    replay::print_counts(rt, header)?;
+    replay::print_or_digest(rt, values)?;
+    replay::print_or_digest(rt, largest)?;
+    replay::print_counts(rt, ranks)?;
+    replay::print_counts(rt, marks)?;
+    replay::print_or_digest(rt, scratch)
 }
 
 // The call of a kind, with as many of the lent slices as it has; a page has the header for bonds, the ranks for starts, values for u and
 // largest for vt.
 fn call(
+    rt: &impl Print,
     kind: u64,
     state: &[f64],
     n: usize,
@@ -104,14 +115,13 @@ fn call(
     u: &mut [f64],
     vt: &mut [f64],
     scratch: &mut [f64],
-) {
+) -> Result<()> {
     if kind == 1 {
-        take_apart(
-            state, n, epsilon, limit, sites, bonds, starts, marks, matrix, u, vt, scratch,
+        return take_apart(
+            rt, state, n, epsilon, limit, sites, bonds, starts, marks, matrix, u, vt, scratch,
         );
-        return;
     }
-    page(state, n, limit, bonds, u, vt, starts, marks, scratch);
+    page(rt, state, n, limit, bonds, u, vt, starts, marks, scratch)
 }
 
 fn pick(kind: u64, of_chain: usize, of_page: usize) -> usize {
@@ -120,6 +130,7 @@ fn pick(kind: u64, of_chain: usize, of_page: usize) -> usize {
 
 // Lends buffers of the lengths that the text has from `at` on.
 fn lend(
+    rt: &impl Print,
     text: &[u8],
     at: usize,
     kind: u64,
@@ -127,7 +138,7 @@ fn lend(
     n: usize,
     epsilon: f64,
     limit: usize,
-) -> usize {
+) -> Result<usize> {
     let mut sites = [3.0; 21840];
     let mut bonds = [4613937818241073152usize; 64];
     let mut starts = [4613937818241073152usize; 64];
@@ -145,6 +156,7 @@ fn lend(
     let in_vt = replay::length_at(text, at, pick(kind, 6, 2), 8200);
     let in_scratch = replay::length_at(text, at, pick(kind, 7, 5), 32904);
     call(
+        rt,
         kind,
         state,
         n,
@@ -158,17 +170,18 @@ fn lend(
         &mut u[..in_u],
         &mut vt[..in_vt],
         &mut scratch[..in_scratch],
-    );
-    replay::skip(text, at, pick(kind, 8, 6))
+    )?;
+    Ok(replay::skip(text, at, pick(kind, 8, 6)))
 }
 
-fn case(text: &[u8], at: usize, kind: u64) -> usize {
+fn case(rt: &impl Print, text: &[u8], at: usize, kind: u64) -> Result<usize> {
     let mut numbers = [0.0; 8200];
     let count = replay::size_at(text, at);
     let next = read_state(text, replay::past(text, at), &mut numbers);
     let second = replay::past(text, next);
     let last = replay::skip(text, second, pick(kind, 1, 0));
     lend(
+        rt,
         text,
         replay::past(text, last),
         kind,
@@ -179,20 +192,21 @@ fn case(text: &[u8], at: usize, kind: u64) -> usize {
     )
 }
 
-fn run(text: &[u8]) {
+fn run(rt: &impl Print, text: &[u8]) -> Result<()> {
     let mut at = 0;
     for _ in 0..10000usize {
         let kind = replay::next_word(text, at);
         if !kind.found {
-            return;
+            return Ok(());
         }
-        at = case(text, kind.next, kind.value);
-        replay::end_line();
+        at = case(rt, text, kind.next, kind.value)?;
+        replay::end_line(rt)?;
     }
+    Ok(())
 }
 
-fn main() {
+fn main(rt: HostRuntime) -> Result<()> {
     let mut text = [0u8; 98304];
-    let n = io::read_full(0, &mut text);
-    run(&text[..n]);
+    let n = inputs::read_full(&mut rt.reader(), &mut text);
+    run(&rt, &text[..n])
 }

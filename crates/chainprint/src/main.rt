@@ -7,6 +7,7 @@
 //   dropped D
 // A file has at most 9 qubits, so 2,384 numbers of sites, 1,024 of state and 3,104 of scratch are enough, and 73,016 bytes of text.
 #![tactic(auto)]
+
 ghost use Rattle.std.specs.Prelude.{◌≡◌, ◌<◌, ◌≤◌, length};
 ghost use Rattle.answers.specs.Paper.{paper};
 ghost use Rattle.cutfile.specs.Layout.{LongEnough};
@@ -18,6 +19,7 @@ ghost use Rattle.chainprint.specs.Printout.{told_text, state_text, file_text};
 
 use answers::Answer;
 use chain_fill::Chained;
+use std::rt::Files;
 
 // Puts what the call answered, or the chain that it left.
 fn put_told(
@@ -104,22 +106,16 @@ fn put_bytes(out: &mut [u8], file: &[u8]) -> usize
 }
 
 // The bytes of `state.bin` at the front of buf, and how many there are: none where there is no such file.
-fn read_file(buf: &mut [u8]) -> usize
+fn read_file(files: &impl Files, buf: &mut [u8]) -> usize
     ensures { IsPrefixLen result buf.new }
 {
-    let fd = os::open_read(b"state.bin");
-    if fd < 0 {
-        return 0;
-    }
-    let got = io::read_full(fd, buf);
-    libc::close(fd);
-    got
+    inputs::read_file(files, "state.bin", buf)
 }
 
-fn main() {
+fn main(rt: HostRuntime) -> std::io::Result<()> {
     let mut file = [0u8; 8480];
-    let got = read_file(&mut file);
+    let got = read_file(&rt, &mut file);
     let mut text = [0u8; 73016];
     let length = put_bytes(&mut text, &file[..got]);
-    io::write_all(libc::STDOUT_FILENO, &text[..length]);
+    rt.write_all(&text[..length])
 }

@@ -3,7 +3,10 @@
 //   its length, how many of its numbers are not +0.0, and each of those: its place and its bits.
 // Each case writes one line of words: the answer's number and place, 1 for yes or 0, the test, the cell.
 #![tactic(auto)]
+
 ghost use Rattle.std.specs.Prelude.{◌≤◌};
+
+use std::io::Result;
 
 // The word as a length, where it is at most 8192, and else 8192: the buffers are that long.
 fn length_at(text: &[u8], at: usize) -> usize
@@ -21,18 +24,27 @@ fn fill(text: &[u8], at: usize, out: &mut [f64]) -> usize {
 }
 
 // The call, and what it says.
-fn report(a: &[f64], m: usize, n: usize, u: &[f64], s: &[f64], vt: &[f64], tolerance: u64) {
+fn report(
+    rt: &impl Print,
+    a: &[f64],
+    m: usize,
+    n: usize,
+    u: &[f64],
+    s: &[f64],
+    vt: &[f64],
+    tolerance: u64,
+) -> Result<()> {
     let k = countersign::countersign(a, m, n, u, s, vt, tolerance);
     let answer = k.answer;
     let finding = k.finding;
     let verdict = countersign::verdict_of(finding);
-    replay::print_answer(answer);
-    replay::print_yes(verdict.yes);
-    replay::print_word(replay::word_of(verdict.test));
-    replay::print_word(replay::word_of(verdict.cell));
+    replay::print_answer(rt, answer)?;
+    replay::print_yes(rt, verdict.yes)?;
+    replay::print_word(rt, replay::word_of(verdict.test))?;
+    replay::print_word(rt, replay::word_of(verdict.cell))
 }
 
-fn case(text: &[u8], at: usize) -> usize {
+fn case(rt: &impl Print, text: &[u8], at: usize) -> Result<usize> {
     let mut a = [0.0; 8192];
     let mut u = [0.0; 8192];
     let mut s = [0.0; 8192];
@@ -52,6 +64,7 @@ fn case(text: &[u8], at: usize) -> usize {
     let in_s = length_at(text, for_s);
     let in_vt = length_at(text, for_vt);
     report(
+        rt,
         &a[..in_a],
         m,
         n,
@@ -59,34 +72,37 @@ fn case(text: &[u8], at: usize) -> usize {
         &s[..in_s],
         &vt[..in_vt],
         tolerance,
-    );
-    next
+    )?;
+    Ok(next)
 }
 
-fn run(text: &[u8]) {
+fn run(rt: &impl Print, text: &[u8]) -> Result<()> {
     let mut at = 0;
     for _ in 0..10000usize {
         let kind = replay::next_word(text, at);
         if !kind.found {
-            return;
+            return Ok(());
         }
-        at = case(text, kind.next);
-        replay::end_line();
+        at = case(rt, text, kind.next)?;
+        replay::end_line(rt)?;
     }
+    Ok(())
 }
 
 // The text comes in blocks, each of whole cases and filled up with spaces: the proof of a long array takes long.
-fn blocks(text: &mut [u8]) {
+fn blocks(rt: &(impl Input + Print), text: &mut [u8]) -> Result<()> {
+    let mut input = rt.reader();
     for _ in 0..100usize {
-        let n = io::read_full(0, text);
+        let n = inputs::read_full(&mut input, text);
         if n == 0 {
-            return;
+            return Ok(());
         }
-        run(&text[..n]);
+        run(rt, &text[..n])?;
     }
+    Ok(())
 }
 
-fn main() {
+fn main(rt: HostRuntime) -> Result<()> {
     let mut text = [0u8; 98304];
-    blocks(&mut text);
+    blocks(&rt, &mut text)
 }

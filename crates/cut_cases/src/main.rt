@@ -27,7 +27,9 @@
 // A slice of whole numbers is lent as 100, 101 and so on; number i of a state has the bits 3FF0000000000000 + i, of a lent slice
 // C000000000000000 + i, but for kind 7 each is 1.0. Lent slices of 200 numbers or more are written as a digest, but for kinds 7 to A.
 #![tactic(auto)]
+
 use answers::Answer;
+use std::io::Result;
 
 #[derive(Clone, Copy)]
 struct Head {
@@ -50,13 +52,13 @@ fn read_head(text: &[u8], at: usize, list: &mut [usize]) -> Head {
     }
 }
 
-fn lists(text: &[u8], at: usize) -> usize {
+fn lists(rt: &impl Print, text: &[u8], at: usize) -> Result<usize> {
     let mut names = [0usize; 16];
     let h = read_head(text, at, &mut names);
     let list = replay::front(&names, h.k);
-    replay::print_answer(qubits::validate_qubit_set(list, h.n));
-    replay::print_answer(qubits::validate_subsystem(list, h.n));
-    h.next
+    replay::print_answer(rt, qubits::validate_qubit_set(list, h.n))?;
+    replay::print_answer(rt, qubits::validate_subsystem(list, h.n))?;
+    Ok(h.next)
 }
 
 // What a slice of whole numbers holds as it is lent.
@@ -76,90 +78,134 @@ fn counts_of(kind: u64, list: &[usize], n: usize, cap: usize, out: &mut [usize])
     cut_sides::smaller_side(list, n, cap, out)
 }
 
-fn print_side<'a>(kind: u64, list: &'a [usize], n: usize, cap: usize, others: &'a [usize]) {
+fn print_side<'a>(
+    rt: &impl Print,
+    kind: u64,
+    list: &'a [usize],
+    n: usize,
+    cap: usize,
+    others: &'a [usize],
+) -> Result<()> {
     if kind == 4 {
-        replay::print_counts(cut_sides::side_part(list, n, cap, others));
+        replay::print_counts(rt, cut_sides::side_part(list, n, cap, others))?;
     }
+    Ok(())
 }
 
-fn show_counts(kind: u64, list: &[usize], n: usize, cap: usize, room: usize, out: &mut [usize]) {
+fn show_counts(
+    rt: &impl Print,
+    kind: u64,
+    list: &[usize],
+    n: usize,
+    cap: usize,
+    room: usize,
+    out: &mut [usize],
+) -> Result<()> {
     if out.len() < room {
-        return;
+        return Ok(());
     }
-    replay::print_answer(counts_of(kind, list, n, cap, &mut out[..room]));
+    replay::print_answer(rt, counts_of(kind, list, n, cap, &mut out[..room]))?;
     let left = replay::front(out, room);
-    replay::print_counts(left);
-    print_side(kind, list, n, cap, left);
+    replay::print_counts(rt, left)?;
+    print_side(rt, kind, list, n, cap, left)
 }
 
-fn counts_case(text: &[u8], at: usize, kind: u64) -> usize {
+fn counts_case(rt: &impl Print, text: &[u8], at: usize, kind: u64) -> Result<usize> {
     let mut names = [0usize; 16];
     let h = read_head(text, at, &mut names);
     let mut out = [0usize; 128];
     mark(&mut out);
     show_counts(
+        rt,
         kind,
         replay::front(&names, h.k),
         h.n,
         h.cap,
         replay::size_at(text, h.next),
         &mut out,
-    );
-    replay::past(text, h.next)
+    )?;
+    Ok(replay::past(text, h.next))
 }
 
-fn base_case(text: &[u8], at: usize) -> usize {
+fn base_case(rt: &impl Print, text: &[u8], at: usize) -> Result<usize> {
     let mut names = [0usize; 16];
     let h = read_head(text, at, &mut names);
     let e = replay::size_at(text, h.next);
     let r = qubit_offsets::traced_base(e, replay::front(&names, h.k), h.n, h.cap);
     let answer = r.answer;
-    replay::print_answer(answer);
-    replay::print_word(replay::word_of(r.base));
-    replay::past(text, h.next)
+    replay::print_answer(rt, answer)?;
+    replay::print_word(rt, replay::word_of(r.base))?;
+    Ok(replay::past(text, h.next))
 }
 
-fn show_again(matrix: &[f64], n: usize, list: &[usize], cap: usize, size: usize) {
+fn show_again(
+    rt: &impl Print,
+    matrix: &[f64],
+    n: usize,
+    list: &[usize],
+    cap: usize,
+    size: usize,
+) -> Result<()> {
     let mut again = [0.0; 8200];
-    replay::print_answer(density_recount::density_from_cut(matrix, n, list, cap, &mut again));
-    replay::print_or_digest(replay::front_floats(&again, size));
+    replay::print_answer(
+        rt,
+        density_recount::density_from_cut(matrix, n, list, cap, &mut again),
+    )?;
+    replay::print_or_digest(rt, replay::front_floats(&again, size))
 }
 
-fn show_density(state: &[f64], n: usize, list: &[usize], cap: usize, size: usize) {
+fn show_density(
+    rt: &impl Print,
+    state: &[f64],
+    n: usize,
+    list: &[usize],
+    cap: usize,
+    size: usize,
+) -> Result<()> {
     let mut density = [0.0; 8200];
     let mut scratch = [0.0; 128];
-    replay::print_answer(densities::dense_reduced_density(
-        state,
-        n,
-        list,
-        cap,
-        &mut density,
-        &mut scratch,
-    ));
-    replay::print_or_digest(replay::front_floats(&density, size));
+    replay::print_answer(
+        rt,
+        densities::dense_reduced_density(state, n, list, cap, &mut density, &mut scratch),
+    )?;
+    replay::print_or_digest(rt, replay::front_floats(&density, size))
 }
 
-fn show_pages(state: &[f64], n: usize, list: &[usize], cap: usize, size: usize) {
+fn show_pages(
+    rt: &impl Print,
+    state: &[f64],
+    n: usize,
+    list: &[usize],
+    cap: usize,
+    size: usize,
+) -> Result<()> {
     let mut matrix = [0.0; 8200];
-    replay::print_answer(cuts::cut_matrix(state, n, list, cap, &mut matrix));
-    show_density(state, n, list, cap, size);
+    replay::print_answer(rt, cuts::cut_matrix(state, n, list, cap, &mut matrix))?;
+    show_density(rt, state, n, list, cap, size)?;
     show_again(
+        rt,
         replay::front_floats(&matrix, state.len()),
         n,
         list,
         cap,
         size,
-    );
+    )
 }
 
-fn values(state: &[f64], plan: &[usize; 30], out: &mut [f64], scratch: &mut [f64]) {
+fn values(
+    rt: &impl Print,
+    state: &[f64],
+    plan: &[usize; 30],
+    out: &mut [f64],
+    scratch: &mut [f64],
+) -> Result<()> {
     let r = plan_values::planned_schmidt_values(state, plan_numbers::read_plan(plan), out, scratch);
     let answer = r.answer;
     let sweeps = r.sweeps;
-    replay::print_answer(answer);
-    replay::print_word(replay::word_of(r.count));
-    replay::print_sweeps(sweeps);
-    replay::print_yes(r.exact);
+    replay::print_answer(rt, answer)?;
+    replay::print_word(rt, replay::word_of(r.count))?;
+    replay::print_sweeps(rt, sweeps)?;
+    replay::print_yes(rt, r.exact)
 }
 
 // The call of a kind that is lent floats: a is the state or the factor, n the register or the side of the matrix, cap the cap or the factor's
@@ -197,6 +243,7 @@ fn answer_of(
 }
 
 fn call(
+    rt: &impl Print,
     kind: u64,
     a: &[f64],
     n: usize,
@@ -205,28 +252,26 @@ fn call(
     plan: &[usize; 30],
     out: &mut [f64],
     scratch: &mut [f64],
-) {
+) -> Result<()> {
     if kind == 24 {
-        values(a, plan, out, scratch);
-        return;
+        return values(rt, a, plan, out, scratch);
     }
-    replay::print_answer(answer_of(kind, a, n, list, cap, plan, out, scratch));
+    replay::print_answer(rt, answer_of(kind, a, n, list, cap, plan, out, scratch))
 }
 
-fn print_lent(kind: u64, s: &[f64]) {
+fn print_lent(rt: &impl Print, kind: u64, s: &[f64]) -> Result<()> {
     if kind < 7 {
-        replay::print_or_digest(s);
-        return;
+        return replay::print_or_digest(rt, s);
     }
     if kind < 16 {
-        replay::print_floats(s);
-        return;
+        return replay::print_floats(rt, s);
     }
-    replay::print_or_digest(s);
+    replay::print_or_digest(rt, s)
 }
 
 // Lends the first numbers of out and of scratch, as many as are asked for.
 fn show(
+    rt: &impl Print,
     kind: u64,
     a: &[f64],
     n: usize,
@@ -237,14 +282,15 @@ fn show(
     room: usize,
     scratch: &mut [f64],
     more: usize,
-) {
+) -> Result<()> {
     if out.len() < room {
-        return;
+        return Ok(());
     }
     if scratch.len() < more {
-        return;
+        return Ok(());
     }
     call(
+        rt,
         kind,
         a,
         n,
@@ -253,9 +299,9 @@ fn show(
         plan,
         &mut out[..room],
         &mut scratch[..more],
-    );
-    print_lent(kind, replay::front_floats(out, room));
-    print_lent(kind, replay::front_floats(scratch, more));
+    )?;
+    print_lent(rt, kind, replay::front_floats(out, room))?;
+    print_lent(rt, kind, replay::front_floats(scratch, more))
 }
 
 fn ready(kind: u64, s: &mut [f64]) {
@@ -266,6 +312,7 @@ fn ready(kind: u64, s: &mut [f64]) {
 }
 
 fn lend(
+    rt: &impl Print,
     kind: u64,
     a: &[f64],
     n: usize,
@@ -274,12 +321,13 @@ fn lend(
     plan: &[usize; 30],
     room: usize,
     more: usize,
-) {
+) -> Result<()> {
     let mut out = [1.0; 8200];
     let mut scratch = [1.0; 520];
     ready(kind, &mut out);
     ready(kind, &mut scratch);
     show(
+        rt,
         kind,
         a,
         n,
@@ -290,10 +338,16 @@ fn lend(
         room,
         &mut scratch,
         more,
-    );
+    )
 }
 
-fn cut_case(text: &[u8], at: usize, kind: u64, plan: &[usize; 30]) -> usize {
+fn cut_case(
+    rt: &impl Print,
+    text: &[u8],
+    at: usize,
+    kind: u64,
+    plan: &[usize; 30],
+) -> Result<usize> {
     let mut names = [0usize; 16];
     let h = read_head(text, at, &mut names);
     let second = replay::past(text, h.next);
@@ -310,14 +364,20 @@ fn cut_case(text: &[u8], at: usize, kind: u64, plan: &[usize; 30]) -> usize {
     let list = replay::front(&names, h.k);
     let size = replay::size_at(text, second);
     if kind == 5 {
-        lend(kind, given, h.n, list, h.cap, plan, size, 0);
+        lend(rt, kind, given, h.n, list, h.cap, plan, size, 0)?;
     } else {
-        show_pages(given, h.n, list, h.cap, size);
+        show_pages(rt, given, h.n, list, h.cap, size)?;
     }
-    next
+    Ok(next)
 }
 
-fn density_case(text: &[u8], at: usize, kind: u64, plan: &[usize; 30]) -> usize {
+fn density_case(
+    rt: &impl Print,
+    text: &[u8],
+    at: usize,
+    kind: u64,
+    plan: &[usize; 30],
+) -> Result<usize> {
     let mut names = [0usize; 16];
     let h = read_head(text, at, &mut names);
     let m = replay::size_at(text, h.next);
@@ -325,6 +385,7 @@ fn density_case(text: &[u8], at: usize, kind: u64, plan: &[usize; 30]) -> usize 
     let room = replay::read_floats(text, replay::past(text, h.next), &mut state, m);
     let more = replay::past(text, room);
     lend(
+        rt,
         kind,
         replay::front_floats(&state, m),
         h.n,
@@ -333,12 +394,13 @@ fn density_case(text: &[u8], at: usize, kind: u64, plan: &[usize; 30]) -> usize 
         plan,
         replay::size_at(text, room),
         replay::size_at(text, more),
-    );
-    replay::past(text, more)
+    )?;
+    Ok(replay::past(text, more))
 }
 
 // A matrix as the text has it from its length on, and the call on it; where the text goes on after the matrix.
 fn square(
+    rt: &impl Print,
     text: &[u8],
     at: usize,
     kind: u64,
@@ -347,19 +409,25 @@ fn square(
     positions: &[usize],
     side: usize,
     plan: &[usize; 30],
-) -> usize {
+) -> Result<usize> {
     let m = replay::size_at(text, at);
     let mut rho = [0.0; 8200];
     let mut none = [0.0; 1];
     let next = replay::read_floats(text, replay::past(text, at), &mut rho, m);
     show(
-        kind, factor, dim, positions, side, plan, &mut rho, m, &mut none, 0,
-    );
-    next
+        rt, kind, factor, dim, positions, side, plan, &mut rho, m, &mut none, 0,
+    )?;
+    Ok(next)
 }
 
 // The factor stands after the matrix, and is read first.
-fn block_case(text: &[u8], at: usize, kind: u64, plan: &[usize; 30]) -> usize {
+fn block_case(
+    rt: &impl Print,
+    text: &[u8],
+    at: usize,
+    kind: u64,
+    plan: &[usize; 30],
+) -> Result<usize> {
     let second = replay::past(text, at);
     let k = replay::size_at(text, second);
     let mut positions = [0usize; 16];
@@ -374,6 +442,7 @@ fn block_case(text: &[u8], at: usize, kind: u64, plan: &[usize; 30]) -> usize {
     let mut factor = [0.0; 2048];
     let last = replay::read_floats(text, replay::past(text, after), &mut factor, f);
     square(
+        rt,
         text,
         matrix,
         kind,
@@ -382,13 +451,20 @@ fn block_case(text: &[u8], at: usize, kind: u64, plan: &[usize; 30]) -> usize {
         replay::front(&positions, k),
         replay::size_at(text, third),
         plan,
-    );
-    last
+    )?;
+    Ok(last)
 }
 
-fn square_case(text: &[u8], at: usize, kind: u64, plan: &[usize; 30]) -> usize {
+fn square_case(
+    rt: &impl Print,
+    text: &[u8],
+    at: usize,
+    kind: u64,
+    plan: &[usize; 30],
+) -> Result<usize> {
     let none = [0usize; 1];
     square(
+        rt,
         text,
         replay::past(text, at),
         kind,
@@ -400,26 +476,26 @@ fn square_case(text: &[u8], at: usize, kind: u64, plan: &[usize; 30]) -> usize {
     )
 }
 
-fn case(text: &[u8], at: usize, kind: u64, plan: &[usize; 30]) -> usize {
+fn case(rt: &impl Print, text: &[u8], at: usize, kind: u64, plan: &[usize; 30]) -> Result<usize> {
     if kind == 1 {
-        return lists(text, at);
+        return lists(rt, text, at);
     }
     if kind == 3 {
-        return base_case(text, at);
+        return base_case(rt, text, at);
     }
     if kind < 5 {
-        return counts_case(text, at, kind);
+        return counts_case(rt, text, at, kind);
     }
     if kind < 7 {
-        return cut_case(text, at, kind, plan);
+        return cut_case(rt, text, at, kind, plan);
     }
     if kind == 7 {
-        return density_case(text, at, kind, plan);
+        return density_case(rt, text, at, kind, plan);
     }
     if kind == 10 {
-        return block_case(text, at, kind, plan);
+        return block_case(rt, text, at, kind, plan);
     }
-    square_case(text, at, kind, plan)
+    square_case(rt, text, at, kind, plan)
 }
 
 fn set(plan: &mut [usize], place: usize, value: usize) {
@@ -428,12 +504,18 @@ fn set(plan: &mut [usize], place: usize, value: usize) {
     }
 }
 
-fn poke(text: &[u8], at: usize, kind: u64, plan: &mut [usize; 30]) -> usize {
-    replay::print_word(0);
-    replay::print_word(0);
+fn poke(
+    rt: &impl Print,
+    text: &[u8],
+    at: usize,
+    kind: u64,
+    plan: &mut [usize; 30],
+) -> Result<usize> {
+    replay::print_word(rt, 0)?;
+    replay::print_word(rt, 0)?;
     if kind == 16 {
         *plan = [0; 30];
-        return at;
+        return Ok(at);
     }
     let second = replay::past(text, at);
     set(
@@ -441,32 +523,47 @@ fn poke(text: &[u8], at: usize, kind: u64, plan: &mut [usize; 30]) -> usize {
         replay::size_at(text, at),
         replay::size_at(text, second),
     );
-    replay::past(text, second)
+    Ok(replay::past(text, second))
 }
 
-fn make(text: &[u8], at: usize, plan: &mut [usize; 30]) -> usize {
+fn make(rt: &impl Print, text: &[u8], at: usize, plan: &mut [usize; 30]) -> Result<usize> {
     let mut names = [0usize; 16];
     let h = read_head(text, at, &mut names);
-    replay::print_answer(plan_calls::store_cut_plan(replay::front(&names, h.k), h.n, h.cap, plan));
-    h.next
+    replay::print_answer(
+        rt,
+        plan_calls::store_cut_plan(replay::front(&names, h.k), h.n, h.cap, plan),
+    )?;
+    Ok(h.next)
 }
 
-fn change(text: &[u8], at: usize, kind: u64, plan: &mut [usize; 30]) -> usize {
+fn change(
+    rt: &impl Print,
+    text: &[u8],
+    at: usize,
+    kind: u64,
+    plan: &mut [usize; 30],
+) -> Result<usize> {
     if kind == 20 {
-        replay::print_answer(plan_calls::switch_plan(plan));
-        return at;
+        replay::print_answer(rt, plan_calls::switch_plan(plan))?;
+        return Ok(at);
     }
     let qubit = replay::size_at(text, at);
     if kind == 18 {
-        replay::print_answer(plan_calls::add_to_plan(plan, qubit));
+        replay::print_answer(rt, plan_calls::add_to_plan(plan, qubit))?;
     } else {
-        replay::print_answer(plan_calls::drop_from_plan(plan, qubit));
+        replay::print_answer(rt, plan_calls::drop_from_plan(plan, qubit))?;
     }
-    replay::past(text, at)
+    Ok(replay::past(text, at))
 }
 
 // The calls of a plan's list.
-fn planned(text: &[u8], at: usize, kind: u64, plan: &[usize; 30]) -> usize {
+fn planned(
+    rt: &impl Print,
+    text: &[u8],
+    at: usize,
+    kind: u64,
+    plan: &[usize; 30],
+) -> Result<usize> {
     let none = [0usize; 1];
     let mut numbers = [0.0; 512];
     let k = replay::size_at(text, at);
@@ -476,10 +573,11 @@ fn planned(text: &[u8], at: usize, kind: u64, plan: &[usize; 30]) -> usize {
     let room = replay::size_at(text, next);
     let second = replay::past(text, next);
     if kind == 22 {
-        lend(kind, a, 0, list, 0, plan, room, 0);
-        return second;
+        lend(rt, kind, a, 0, list, 0, plan, room, 0)?;
+        return Ok(second);
     }
     lend(
+        rt,
         kind,
         a,
         0,
@@ -488,50 +586,63 @@ fn planned(text: &[u8], at: usize, kind: u64, plan: &[usize; 30]) -> usize {
         plan,
         room,
         replay::size_at(text, second),
-    );
-    replay::past(text, second)
+    )?;
+    Ok(replay::past(text, second))
 }
 
-fn operate(text: &[u8], at: usize, kind: u64, plan: &mut [usize; 30]) -> usize {
+fn operate(
+    rt: &impl Print,
+    text: &[u8],
+    at: usize,
+    kind: u64,
+    plan: &mut [usize; 30],
+) -> Result<usize> {
     if kind > 21 {
-        return planned(text, at, kind, plan);
+        return planned(rt, text, at, kind, plan);
     }
     if kind == 16 {
-        return poke(text, at, kind, plan);
+        return poke(rt, text, at, kind, plan);
     }
     if kind == 21 {
-        return poke(text, at, kind, plan);
+        return poke(rt, text, at, kind, plan);
     }
     if kind == 17 {
-        return make(text, at, plan);
+        return make(rt, text, at, plan);
     }
-    change(text, at, kind, plan)
+    change(rt, text, at, kind, plan)
 }
 
-fn one(text: &[u8], at: usize, kind: u64, plan: &mut [usize; 30]) -> usize {
+fn one(
+    rt: &impl Print,
+    text: &[u8],
+    at: usize,
+    kind: u64,
+    plan: &mut [usize; 30],
+) -> Result<usize> {
     if kind < 16 {
-        return case(text, at, kind, plan);
+        return case(rt, text, at, kind, plan);
     }
-    let next = operate(text, at, kind, plan);
-    replay::print_counts(plan);
-    next
+    let next = operate(rt, text, at, kind, plan)?;
+    replay::print_counts(rt, plan)?;
+    Ok(next)
 }
 
-fn run(text: &[u8]) {
+fn run(rt: &impl Print, text: &[u8]) -> Result<()> {
     let mut plan = [0usize; 30];
     let mut at = 0;
     for _ in 0..10000usize {
         let kind = replay::next_word(text, at);
         if !kind.found {
-            return;
+            return Ok(());
         }
-        at = one(text, kind.next, kind.value, &mut plan);
-        replay::end_line();
+        at = one(rt, text, kind.next, kind.value, &mut plan)?;
+        replay::end_line(rt)?;
     }
+    Ok(())
 }
 
-fn main() {
+fn main(rt: HostRuntime) -> Result<()> {
     let mut text = [0u8; 393216];
-    let n = io::read_full(0, &mut text);
-    run(&text[..n]);
+    let n = inputs::read_full(&mut rt.reader(), &mut text);
+    run(&rt, &text[..n])
 }

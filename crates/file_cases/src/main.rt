@@ -2,37 +2,34 @@
 // each, under a line with the table's name. A table is a row of files, each with its length before it in four bytes, little-endian; it has at
 // most 81,920 bytes.
 #![tactic(auto)]
+
 ghost use Rattle.std.specs.Prelude.{◌≡◌, ◌+◌, ◌≤◌, length};
 ghost use Rattle.io.specs.Counts.{IsPrefixLen};
 
 use answers::Answer;
+use std::io::Result;
+use std::rt::Files;
 
 // The bytes of a table at the front of buf, and how many there are.
-fn read_table(name: &[u8], buf: &mut [u8]) -> usize
+fn read_table(files: &impl Files, name: &str, buf: &mut [u8]) -> usize
     ensures { IsPrefixLen result buf.new }
 {
-    let fd = os::open_read(name);
-    if fd < 0 {
-        return 0;
-    }
-    let got = io::read_full(fd, buf);
-    libc::close(fd);
-    got
+    inputs::read_file(files, name, buf)
 }
 
 // Writes the certificate of one file.
-fn show_certificate(file: &[u8]) {
+fn show_certificate(rt: &impl Print, file: &[u8]) -> Result<()> {
     let mut text = [0u8; 2048];
     let length = certificates::certificate(file, &mut text);
-    io::write_all(libc::STDOUT_FILENO, &text[..length]);
+    rt.write_all(&text[..length])
 }
 
 // Writes both pages of one file.
-fn show_pages(file: &[u8]) {
+fn show_pages(rt: &impl Print, file: &[u8]) -> Result<()> {
     let mut text = [0u8; 102400];
     let written = certificate_pages::print_pages(file, &mut text);
     let length = written.length;
-    io::write_all(libc::STDOUT_FILENO, &text[..length]);
+    rt.write_all(&text[..length])
 }
 
 // Puts what is written of a lot, and answers its length.
@@ -50,22 +47,20 @@ fn put_lot(lot: &[u8], text: &mut [u8]) -> usize
 }
 
 // Writes the sheet of one lot.
-fn show_sheet(lot: &[u8]) {
+fn show_sheet(rt: &impl Print, lot: &[u8]) -> Result<()> {
     let mut text = [0u8; 2048];
     let length = put_lot(lot, &mut text);
-    io::write_all(libc::STDOUT_FILENO, &text[..length]);
+    rt.write_all(&text[..length])
 }
 
-fn show(kind: u64, file: &[u8]) {
+fn show(rt: &impl Print, kind: u64, file: &[u8]) -> Result<()> {
     if kind == 1 {
-        show_certificate(file);
-        return;
+        return show_certificate(rt, file);
     }
     if kind == 2 {
-        show_pages(file);
-        return;
+        return show_pages(rt, file);
     }
-    show_sheet(file);
+    show_sheet(rt, file)
 }
 
 // Where the file at a place ends, or the table's end if that is nearer.
@@ -82,29 +77,29 @@ fn end_of(table: &[u8], at: usize) -> usize
 }
 
 // Writes what is written of each file of the table.
-fn show_all(kind: u64, table: &[u8]) {
+fn show_all(rt: &impl Print, kind: u64, table: &[u8]) -> Result<()> {
     let mut at = 0;
     while at + 4 <= table.len() {
         let from = at + 4;
         let to = end_of(table, at);
-        show(kind, &table[from..to]);
+        show(rt, kind, &table[from..to])?;
         at = to;
     }
+    Ok(())
 }
 
-fn run(kind: u64, name: &[u8]) {
+fn run(rt: &(impl Files + Print), kind: u64, name: &str) -> Result<()> {
     let mut table = [0u8; 81920];
-    let got = read_table(name, &mut table);
-    io::write_all(libc::STDOUT_FILENO, name);
-    io::write_all(libc::STDOUT_FILENO, b"\n");
-    show_all(kind, &table[..got]);
+    let got = read_table(rt, name, &mut table);
+    println!(rt; "{name}")?;
+    show_all(rt, kind, &table[..got])
 }
 
-fn main() {
-    run(1, b"certificates.bin");
-    run(2, b"pages-1.bin");
-    run(2, b"pages-2.bin");
-    run(3, b"lots-1.bin");
-    run(3, b"lots-2.bin");
-    run(3, b"lots-3.bin");
+fn main(rt: HostRuntime) -> Result<()> {
+    run(&rt, 1, "certificates.bin")?;
+    run(&rt, 2, "pages-1.bin")?;
+    run(&rt, 2, "pages-2.bin")?;
+    run(&rt, 3, "lots-1.bin")?;
+    run(&rt, 3, "lots-2.bin")?;
+    run(&rt, 3, "lots-3.bin")
 }

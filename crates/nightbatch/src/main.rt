@@ -2,12 +2,16 @@
 // header and then each file into the same room, so that a lot of any length fits; the step that adds a file is that of `lots::lot_sheet`.
 // A file's place moves by its whole length, and of a file that is longer than the room the front is read: it decides.
 #![tactic(auto)]
+
 ghost use Rattle.std.specs.Prelude.{◌≡◌, ◌+◌, ◌*◌, ◌<◌, ◌≤◌, length};
 ghost use Rattle.io.specs.Counts.{IsPrefixLen};
 ghost use Rattle.lot_tallies.specs.Tallies.{Tallied};
 
 use answers::Answer;
 use lot_tallies::Sheet;
+use std::fs;
+use std::io::{Read, Seek, SeekFrom, empty};
+use std::rt::Files;
 
 // How many bytes of a file of that size the room takes.
 fn room_for(size: usize) -> usize
@@ -19,26 +23,24 @@ fn room_for(size: usize) -> usize
     8480
 }
 
-fn place(from: usize) -> i64
-    requires { from < 9000000000000000000 }
-{
-    from as i64
+fn place(from: usize) -> SeekFrom {
+    SeekFrom::Start(from as u64)
 }
 
 // The front of the file at a place of the lot, and how many bytes of it there are.
-fn read_at(fd: i32, from: i64, size: usize, room: &mut [u8]) -> usize
+fn read_at<F: Read + Seek>(lot: &mut F, from: SeekFrom, size: usize, room: &mut [u8]) -> usize
     requires { length room.old ≡ 8480 }
     ensures { IsPrefixLen result room.new }
 {
-    if libc::lseek(fd, from, libc::SEEK_SET) < 0 {
+    if lot.seek(from).is_err() {
         return 0;
     }
     let most = room_for(size);
-    io::read_full(fd, &mut room[..most])
+    inputs::read_full(lot, &mut room[..most])
 }
 
 // The sheet of the files whose lengths the header has.
-fn tally(fd: i32, head: &[u8], count: usize) -> Sheet
+fn tally<F: Read + Seek>(lot: &mut F, head: &[u8], count: usize) -> Sheet
     requires { (count ≤ 1000) × (4 + 4 * count ≤ length head.now) }
     ensures { Tallied result count }
 {
@@ -48,7 +50,7 @@ fn tally(fd: i32, head: &[u8], count: usize) -> Sheet
     for i in 0..count {
         let size = lots::number_at(head, 4 + 4 * i);
         let at = place(from);
-        let got = read_at(fd, at, size, &mut room);
+        let got = read_at(lot, at, size, &mut room);
         sheet = lots::add_file(sheet, i, &room[..got]);
         from += size;
     }
@@ -56,7 +58,7 @@ fn tally(fd: i32, head: &[u8], count: usize) -> Sheet
 }
 
 // Puts what is written of the lot, and answers its length.
-fn put_lot(fd: i32, head: &[u8], text: &mut [u8]) -> usize
+fn put_lot<F: Read + Seek>(lot: &mut F, head: &[u8], text: &mut [u8]) -> usize
     requires { length text.old ≡ 2048 }
     ensures { IsPrefixLen result text.new }
 {
@@ -65,27 +67,42 @@ fn put_lot(fd: i32, head: &[u8], text: &mut [u8]) -> usize
         return lines::put_refused(text, answer);
     };
     let count = lots::number_at(head, 0);
-    let sheet = tally(fd, head, count);
+    let sheet = tally(lot, head, count);
     let mut numbers = [0usize; 32];
     lot_tallies::put_sheet(sheet, &mut numbers);
     lot_lines::put_lines(text, count, &numbers)
 }
 
-// The lot's first bytes: none where there is no such file.
-fn read_head(fd: i32, head: &mut [u8]) -> usize
+// The lot's first bytes.
+fn read_head<F: Read>(lot: &mut F, head: &mut [u8]) -> usize
     ensures { IsPrefixLen result head.new }
 {
-    if fd < 0 {
-        return 0;
-    }
-    io::read_full(fd, head)
+    inputs::read_full(lot, head)
 }
 
-fn main() {
-    let fd = os::open_read(b"lot.bin");
+// Reads the lot, puts what is written of it, and answers its length.
+fn put_whole<F: Read + Seek>(lot: &mut F, text: &mut [u8]) -> usize
+    requires { length text.old ≡ 2048 }
+    ensures { IsPrefixLen result text.new }
+{
     let mut head = [0u8; 4004];
-    let got = read_head(fd, &mut head);
+    let got = read_head(lot, &mut head);
+    put_lot(lot, &head[..got], text)
+}
+
+// The same of `lot.bin`, or of no bytes where there is no such file.
+fn put_file(files: &impl Files, text: &mut [u8]) -> usize
+    requires { length text.old ≡ 2048 }
+    ensures { IsPrefixLen result text.new }
+{
+    match fs::open(files, "lot.bin") {
+        Ok(mut lot) => put_whole(&mut lot, text),
+        Err(_) => put_whole(&mut empty(), text),
+    }
+}
+
+fn main(rt: HostRuntime) -> std::io::Result<()> {
     let mut text = [0u8; 2048];
-    let length = put_lot(fd, &head[..got], &mut text);
-    io::write_all(libc::STDOUT_FILENO, &text[..length]);
+    let length = put_file(&rt, &mut text);
+    rt.write_all(&text[..length])
 }

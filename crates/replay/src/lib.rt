@@ -4,6 +4,8 @@
 
 ghost use Rattle.std.specs.Prelude.{◌≡◌, ◌+◌, ◌*◌, ◌<◌, ◌≤◌, true, length};
 
+use std::io::Result;
+
 // A word of the text, and where the text goes on.
 #[derive(Clone, Copy)]
 pub struct Word {
@@ -181,7 +183,7 @@ fn glyph(d: u8) -> u8
 }
 
 // Writes the word as 16 digits and a space.
-pub fn print_word(value: u64) {
+pub fn print_word(rt: &impl Print, value: u64) -> Result<()> {
     let mut out = [b' '; 17];
     let mut rest = value;
     let mut i = 16;
@@ -190,61 +192,63 @@ pub fn print_word(value: u64) {
         out[i] = glyph((rest % 16) as u8);
         rest /= 16;
     }
-    io::write_all(1, &out);
+    rt.write_all(&out)
 }
 
 // Writes the bits of each number of the slice.
-pub fn print_floats(s: &[f64]) {
+pub fn print_floats(rt: &impl Print, s: &[f64]) -> Result<()> {
     let mut i = 0;
     while i < s.len() {
-        print_word(bits::bits_of(s[i]));
+        print_word(rt, bits::bits_of(s[i]))?;
         i += 1;
     }
+    Ok(())
 }
 
 // Writes each number of the slice.
-pub fn print_counts(s: &[usize]) {
+pub fn print_counts(rt: &impl Print, s: &[usize]) -> Result<()> {
     let mut i = 0;
     while i < s.len() {
-        print_word(word_of(s[i]));
+        print_word(rt, word_of(s[i]))?;
         i += 1;
     }
+    Ok(())
 }
 
 // Ends the line.
-pub fn end_line() {
-    io::write_all(1, b"\n");
+pub fn end_line(rt: &impl Print) -> Result<()> {
+    rt.write_all(b"\n")
 }
 
 // Writes an answer: its number and its place.
-pub fn print_answer(a: answers::Answer) {
+pub fn print_answer(rt: &impl Print, a: answers::Answer) -> Result<()> {
     let r = answers::number_of(a);
-    print_word(word_of(r.number));
-    print_word(word_of(r.place));
+    print_word(rt, word_of(r.number))?;
+    print_word(rt, word_of(r.place))
 }
 
 // Writes 1 for yes and 0 for no.
-pub fn print_yes(yes: bool) {
+pub fn print_yes(rt: &impl Print, yes: bool) -> Result<()> {
     if yes {
-        print_word(1);
+        print_word(rt, 1)
     } else {
-        print_word(0);
+        print_word(rt, 0)
     }
 }
 
 // Writes how the sweeps went: those begun, 1 where the last one was quiet, and the pairs turned.
-pub fn print_sweeps(s: sweeps::Sweeps) {
-    print_word(word_of(s.begun));
-    print_yes(s.quiet);
-    print_word(word_of(s.turned));
+pub fn print_sweeps(rt: &impl Print, s: sweeps::Sweeps) -> Result<()> {
+    print_word(rt, word_of(s.begun))?;
+    print_yes(rt, s.quiet)?;
+    print_word(rt, word_of(s.turned))
 }
 
 // Writes an answer and how its sweeps went.
-pub fn print_factored(r: factored::Factored) {
+pub fn print_factored(rt: &impl Print, r: factored::Factored) -> Result<()> {
     let answer = r.answer;
     let sweeps = r.sweeps;
-    print_answer(answer);
-    print_sweeps(sweeps);
+    print_answer(rt, answer)?;
+    print_sweeps(rt, sweeps)
 }
 
 // The first k numbers, or all where there are fewer.
@@ -302,10 +306,9 @@ fn digest(s: &[f64]) -> u64 {
 }
 
 // The numbers, or their digest where there are 200 or more.
-pub fn print_or_digest(s: &[f64]) {
+pub fn print_or_digest(rt: &impl Print, s: &[f64]) -> Result<()> {
     if s.len() < 200 {
-        print_floats(s);
-        return;
+        return print_floats(rt, s);
     }
-    print_word(digest(s));
+    print_word(rt, digest(s))
 }

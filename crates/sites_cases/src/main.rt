@@ -13,8 +13,10 @@
 // A fill writes its answer and the slice, or the slice's digest where it is 200 numbers or longer. Lists of kinds 1 and 2 have at
 // most 64 values; SOURCE at most 16,384 numbers, VALUES 4,200, the slice 8,300.
 #![tactic(auto)]
+
 use answers::Answer;
 use site_ranks::CutRank;
+use std::io::Result;
 
 // A source or values as the text has them, from the word after the length on; where the text goes on.
 fn read_source(text: &[u8], at: usize, s: &mut [f64]) -> usize {
@@ -22,46 +24,48 @@ fn read_source(text: &[u8], at: usize, s: &mut [f64]) -> usize {
     replay::change(text, replay::past(text, at), s, replay::size_at(text, at))
 }
 
-fn rank_case(text: &[u8], at: usize) -> usize {
+fn rank_case(rt: &impl Print, text: &[u8], at: usize) -> Result<usize> {
     let mut values = [0.0; 64];
     let count = replay::size_at(text, at);
     let next = replay::read_floats(text, replay::past(text, at), &mut values, count);
     let epsilon = replay::float_of(replay::next_word(text, next).value);
     let cap = replay::past(text, next);
     let list = replay::front_floats(&values, count);
-    replay::print_word(replay::word_of(site_ranks::truncated_svd_rank(
-        list,
-        epsilon,
-        replay::size_at(text, cap),
-    )));
-    replay::past(text, cap)
+    replay::print_word(
+        rt,
+        replay::word_of(site_ranks::truncated_svd_rank(list, epsilon, replay::size_at(text, cap))),
+    )?;
+    Ok(replay::past(text, cap))
 }
 
-fn discard_case(text: &[u8], at: usize) -> usize {
+fn discard_case(rt: &impl Print, text: &[u8], at: usize) -> Result<usize> {
     let mut values = [0.0; 64];
     let count = replay::size_at(text, at);
     let next = replay::read_floats(text, replay::past(text, at), &mut values, count);
     let list = replay::front_floats(&values, count);
-    replay::print_yes(site_ranks::discards_resolvable_weight(list, replay::size_at(text, next)));
-    replay::past(text, next)
+    replay::print_yes(
+        rt,
+        site_ranks::discards_resolvable_weight(list, replay::size_at(text, next)),
+    )?;
+    Ok(replay::past(text, next))
 }
 
-fn print_rank(r: CutRank) {
+fn print_rank(rt: &impl Print, r: CutRank) -> Result<()> {
     let answer = r.answer;
-    replay::print_answer(answer);
-    replay::print_word(r.rank);
+    replay::print_answer(rt, answer)?;
+    replay::print_word(rt, r.rank)
 }
 
-fn bond_case(text: &[u8], at: usize, kind: u64) -> usize {
+fn bond_case(rt: &impl Print, text: &[u8], at: usize, kind: u64) -> Result<usize> {
     let a = replay::size_at(text, at);
     let b = replay::size_at(text, replay::skip(text, at, 1));
     let c = replay::size_at(text, replay::skip(text, at, 2));
     if kind == 3 {
-        print_rank(site_ranks::cut_rank(a, b, c));
+        print_rank(rt, site_ranks::cut_rank(a, b, c))?;
     } else {
-        print_rank(site_ranks::widest_block_cut(a, b, c));
+        print_rank(rt, site_ranks::widest_block_cut(a, b, c))?;
     }
-    replay::skip(text, at, 3)
+    Ok(replay::skip(text, at, 3))
 }
 
 // The sizes of a fill: four words, the last of which only the fills of rows have.
@@ -96,12 +100,20 @@ fn fill(kind: u64, source: &[f64], values: &[f64], z: Sizes, out: &mut [f64]) ->
     sites::fill_scaled_vt_data(values, source, z.line, z.second, z.third, z.fourth, out)
 }
 
-fn show(kind: u64, source: &[f64], values: &[f64], z: Sizes, room: usize, out: &mut [f64]) {
+fn show(
+    rt: &impl Print,
+    kind: u64,
+    source: &[f64],
+    values: &[f64],
+    z: Sizes,
+    room: usize,
+    out: &mut [f64],
+) -> Result<()> {
     if out.len() < room {
-        return;
+        return Ok(());
     }
-    replay::print_answer(fill(kind, source, values, z, &mut out[..room]));
-    replay::print_or_digest(replay::front_floats(out, room));
+    replay::print_answer(rt, fill(kind, source, values, z, &mut out[..room]))?;
+    replay::print_or_digest(rt, replay::front_floats(out, room))
 }
 
 // VALUES, where the case has them at this place; where the text goes on.
@@ -120,7 +132,7 @@ fn values_length(text: &[u8], kind: u64, first: usize, last: usize) -> usize {
     replay::size_at(text, last)
 }
 
-fn fill_case(text: &[u8], at: usize, kind: u64) -> usize {
+fn fill_case(rt: &impl Print, text: &[u8], at: usize, kind: u64) -> Result<usize> {
     let first = if kind < 7 {
         replay::skip(text, at, 3)
     } else {
@@ -134,43 +146,45 @@ fn fill_case(text: &[u8], at: usize, kind: u64) -> usize {
     let mut out = [0.0; 8300];
     replay::count_up(&mut out, 0xc000_0000_0000_0000);
     show(
+        rt,
         kind,
         replay::front_floats(&source, replay::size_at(text, second)),
         replay::front_floats(&values, values_length(text, kind, first, last)),
         read_sizes(text, at),
         replay::size_at(text, room),
         &mut out,
-    );
-    replay::past(text, room)
+    )?;
+    Ok(replay::past(text, room))
 }
 
-fn case(text: &[u8], at: usize, kind: u64) -> usize {
+fn case(rt: &impl Print, text: &[u8], at: usize, kind: u64) -> Result<usize> {
     if kind == 1 {
-        return rank_case(text, at);
+        return rank_case(rt, text, at);
     }
     if kind == 2 {
-        return discard_case(text, at);
+        return discard_case(rt, text, at);
     }
     if kind < 5 {
-        return bond_case(text, at, kind);
+        return bond_case(rt, text, at, kind);
     }
-    fill_case(text, at, kind)
+    fill_case(rt, text, at, kind)
 }
 
-fn run(text: &[u8]) {
+fn run(rt: &impl Print, text: &[u8]) -> Result<()> {
     let mut at = 0;
     for _ in 0..10000usize {
         let kind = replay::next_word(text, at);
         if !kind.found {
-            return;
+            return Ok(());
         }
-        at = case(text, kind.next, kind.value);
-        replay::end_line();
+        at = case(rt, text, kind.next, kind.value)?;
+        replay::end_line(rt)?;
     }
+    Ok(())
 }
 
-fn main() {
+fn main(rt: HostRuntime) -> Result<()> {
     let mut text = [0u8; 262144];
-    let n = io::read_full(0, &mut text);
-    run(&text[..n]);
+    let n = inputs::read_full(&mut rt.reader(), &mut text);
+    run(&rt, &text[..n])
 }

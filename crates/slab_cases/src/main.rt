@@ -10,6 +10,8 @@
 // 8,192 numbers and one of the index, in which every number counts. Data have at most 8,300 numbers.
 #![tactic(auto)]
 
+use std::io::Result;
+
 // The patterns count up from the first.
 fn count_up(s: &mut [u64], first: u64) {
     let mut i = 0;
@@ -51,10 +53,10 @@ fn digest_index(s: &[u32]) -> u64 {
     sum
 }
 
-fn print_slab(cells: &[u64; 8192], index: &[u32; 193]) {
-    replay::print_word(wide(index[0]));
-    replay::print_word(digest(cells));
-    replay::print_word(digest_index(index));
+fn print_slab(rt: &impl Print, cells: &[u64; 8192], index: &[u32; 193]) -> Result<()> {
+    replay::print_word(rt, wide(index[0]))?;
+    replay::print_word(rt, digest(cells))?;
+    replay::print_word(rt, digest_index(index))
 }
 
 fn front(s: &[u64], k: usize) -> &[u64] {
@@ -69,7 +71,14 @@ fn word_at(text: &[u8], at: usize) -> u64 {
 }
 
 // A put, or a replace.
-fn put(text: &[u8], at: usize, kind: u64, cells: &mut [u64; 8192], index: &mut [u32; 193]) {
+fn put(
+    rt: &impl Print,
+    text: &[u8],
+    at: usize,
+    kind: u64,
+    cells: &mut [u64; 8192],
+    index: &mut [u32; 193],
+) -> Result<()> {
     let second = replay::past(text, at);
     let third = replay::past(text, second);
     let mut room = [0u64; 8300];
@@ -77,19 +86,26 @@ fn put(text: &[u8], at: usize, kind: u64, cells: &mut [u64; 8192], index: &mut [
     let data = front(&room, replay::size_at(text, second));
     let site = half(word_at(text, at));
     if kind == 1 {
-        replay::print_answer(slabs::put(cells, index, site, data));
+        replay::print_answer(rt, slabs::put(cells, index, site, data))?;
     } else {
-        replay::print_answer(slabs::replace(cells, index, site, data));
+        replay::print_answer(rt, slabs::replace(cells, index, site, data))?;
     }
+    Ok(())
 }
 
-fn drop(text: &[u8], at: usize, cells: &mut [u64; 8192], index: &mut [u32; 193]) {
-    replay::print_answer(slabs::drop(cells, index, half(word_at(text, at))));
+fn drop(
+    rt: &impl Print,
+    text: &[u8],
+    at: usize,
+    cells: &mut [u64; 8192],
+    index: &mut [u32; 193],
+) -> Result<()> {
+    replay::print_answer(rt, slabs::drop(cells, index, half(word_at(text, at))))
 }
 
-fn no_answer() {
-    replay::print_word(0);
-    replay::print_word(0);
+fn no_answer(rt: &impl Print) -> Result<()> {
+    replay::print_word(rt, 0)?;
+    replay::print_word(rt, 0)
 }
 
 fn set_cell(cells: &mut [u64], place: usize, bits: u64) {
@@ -104,37 +120,49 @@ fn set_index(index: &mut [u32], place: usize, value: u32) {
     }
 }
 
-fn poke(text: &[u8], at: usize, kind: u64, cells: &mut [u64; 8192], index: &mut [u32; 193]) {
-    no_answer();
+fn poke(
+    rt: &impl Print,
+    text: &[u8],
+    at: usize,
+    kind: u64,
+    cells: &mut [u64; 8192],
+    index: &mut [u32; 193],
+) -> Result<()> {
+    no_answer(rt)?;
     if kind == 0 {
         *cells = [0; 8192];
         *index = [0; 193];
-        return;
+        return Ok(());
     }
     let second = replay::past(text, at);
     let place = replay::size_at(text, at);
     let value = word_at(text, second);
     if kind == 4 {
         set_cell(cells, place, value);
-        return;
+        return Ok(());
     }
     set_index(index, place, half(value));
+    Ok(())
 }
 
-fn operate(text: &[u8], at: usize, kind: u64, cells: &mut [u64; 8192], index: &mut [u32; 193]) {
+fn operate(
+    rt: &impl Print,
+    text: &[u8],
+    at: usize,
+    kind: u64,
+    cells: &mut [u64; 8192],
+    index: &mut [u32; 193],
+) -> Result<()> {
     if kind == 1 {
-        put(text, at, kind, cells, index);
-        return;
+        return put(rt, text, at, kind, cells, index);
     }
     if kind == 2 {
-        drop(text, at, cells, index);
-        return;
+        return drop(rt, text, at, cells, index);
     }
     if kind == 3 {
-        put(text, at, kind, cells, index);
-        return;
+        return put(rt, text, at, kind, cells, index);
     }
-    poke(text, at, kind, cells, index);
+    poke(rt, text, at, kind, cells, index)
 }
 
 // How many words an operation has.
@@ -151,25 +179,26 @@ fn words_of(kind: u64) -> usize {
     2
 }
 
-fn run(text: &[u8]) {
+fn run(rt: &impl Print, text: &[u8]) -> Result<()> {
     let mut cells = [0u64; 8192];
     let mut index = [0u32; 193];
     let mut at = 0;
     for _ in 0..10000usize {
         let kind = replay::next_word(text, at);
         if !kind.found {
-            return;
+            return Ok(());
         }
         let next = kind.next;
-        operate(text, next, kind.value, &mut cells, &mut index);
-        print_slab(&cells, &index);
-        replay::end_line();
+        operate(rt, text, next, kind.value, &mut cells, &mut index)?;
+        print_slab(rt, &cells, &index)?;
+        replay::end_line(rt)?;
         at = replay::skip(text, next, words_of(kind.value));
     }
+    Ok(())
 }
 
-fn main() {
+fn main(rt: HostRuntime) -> Result<()> {
     let mut text = [0u8; 65536];
-    let n = io::read_full(0, &mut text);
-    run(&text[..n]);
+    let n = inputs::read_full(&mut rt.reader(), &mut text);
+    run(&rt, &text[..n])
 }

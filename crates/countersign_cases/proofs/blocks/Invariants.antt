@@ -5,7 +5,7 @@ use lib.ListN.{length}
 use Rattle.countersign_cases.proofs.blocks.Given as goal
 
 abbrev pub invariant-loop : goal.invariant-loop
-invariant-loop l = (l.counter ≤ 100) × (length l.text ≡ length l.initial.text)
+invariant-loop g l = (l.counter ≤ 100) × (length l.text ≡ length l.initial.text)
 
 abbrev pub decreases-loop : goal.decreases-loop
-decreases-loop l = 100 - l.counter
+decreases-loop g l = 100 - l.counter

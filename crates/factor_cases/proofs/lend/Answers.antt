@@ -5,16 +5,16 @@ use lib.Seq.{length-take-le}
 use Rattle.factor_cases.proofs.lend.Goals as goal
 
 pub slice_bounds-call-end : goal.slice_bounds-call-end
-slice_bounds-call-end c = sym (length-take-le _ _ (omega arith))
+slice_bounds-call-end g c = sym (length-take-le _ _ (omega arith))
 
 pub slice_bounds-call-end-2 : goal.slice_bounds-call-end-2
-slice_bounds-call-end-2 c = sym (length-take-le _ _ (omega arith))
+slice_bounds-call-end-2 g c = sym (length-take-le _ _ (omega arith))
 
 pub slice_bounds-call-end-3 : goal.slice_bounds-call-end-3
-slice_bounds-call-end-3 c = sym (length-take-le _ _ (omega arith))
+slice_bounds-call-end-3 g c = sym (length-take-le _ _ (omega arith))
 
 pub slice_bounds-call-end-4 : goal.slice_bounds-call-end-4
-slice_bounds-call-end-4 c = sym (length-take-le _ _ (omega arith))
+slice_bounds-call-end-4 g c = sym (length-take-le _ _ (omega arith))
 
 pub slice_bounds-call-end-5 : goal.slice_bounds-call-end-5
-slice_bounds-call-end-5 c = sym (length-take-le _ _ (omega arith))
+slice_bounds-call-end-5 g c = sym (length-take-le _ _ (omega arith))

@@ -5,7 +5,7 @@ use lib.ListN.{length}
 use Rattle.file_cases.proofs.show_all.Given as goal
 
 abbrev pub invariant-loop-at : goal.invariant-loop-at
-invariant-loop-at l = l.at ≤ length l.table
+invariant-loop-at g l = l.at ≤ length l.table
 
 abbrev pub decreases-loop-at : goal.decreases-loop-at
-decreases-loop-at l = length l.table - l.at
+decreases-loop-at g l = length l.table - l.at

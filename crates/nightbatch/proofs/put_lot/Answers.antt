@@ -9,13 +9,13 @@ use borrow.Author.Rules.{rules}
 use Rattle.nightbatch.proofs.put_lot.Goals as goal
 
 pub returns-in_default : goal.returns-in_default
-returns-in_default c = puts-counts _ _ _ _ (omega (arith, length-refused (paper c.check_lot-answer.result), c.requires)) c.put_refused.ensures
+returns-in_default g c = puts-counts _ _ _ _ (omega (arith, length-refused (paper c.check_lot-answer.result), c.requires)) c.put_refused.ensures
 
 pub number_at-count-requires : goal.number_at-count-requires
-number_at-count-requires c = (header-fits _ (was-done c.check_lot-answer.result _ c.check_lot-answer.ensures c.in-Done.is)).0
+number_at-count-requires g c = (header-fits _ (was-done c.check_lot-answer.result _ c.check_lot-answer.ensures c.in-Done.is)).0
 
 pub tally-sheet-requires : goal.tally-sheet-requires
-tally-sheet-requires c = let h = header-fits _ (was-done c.check_lot-answer.result _ c.check_lot-answer.ensures c.in-Done.is) in let n = c.number_at-count.ensures.0 in (omega (arith, n, h.1), omega (arith, n, h.2))
+tally-sheet-requires g c = let h = header-fits _ (was-done c.check_lot-answer.result _ c.check_lot-answer.ensures c.in-Done.is) in let n = c.number_at-count.ensures.0 in (omega (arith, n, h.1), omega (arith, n, h.2))
 
 pub returns : goal.returns
-returns c = puts-counts _ _ _ _ (omega (arith, length-sheet c.number_at-count.result c.put_sheet.new.out (search rules), c.requires)) c.put_lines.ensures
+returns g c = puts-counts _ _ _ _ (omega (arith, length-sheet c.number_at-count.result c.put_sheet.new.out (search rules), c.requires)) c.put_lines.ensures

@@ -3,7 +3,7 @@ use Prim.Native.Nat.{◌≤◌, ◌-◌}
 use Rattle.sites_cases.proofs.run.Given as goal
 
 abbrev pub invariant-loop : goal.invariant-loop
-invariant-loop l = l.counter ≤ 10000
+invariant-loop g l = l.counter ≤ 10000
 
 abbrev pub decreases-loop : goal.decreases-loop
-decreases-loop l = 10000 - l.counter
+decreases-loop g l = 10000 - l.counter
