@@ -1,5 +1,6 @@
 // Inner: the calls on a plan that is lent as thirty numbers. A refused call leaves them as they were.
 #![tactic(auto)]
+
 ghost use Rattle.std.specs.Prelude.{◌≡◌};
 ghost use Rattle.answers.specs.Paper.{paper, if_done};
 ghost use Rattle.plan_numbers.specs.Numbers.{numbers_of};
