@@ -1,6 +1,7 @@
 // The text of a cut file's certificate, in a lent buffer: page one as `cutprint` prints it, or both pages. A file that is refused by
 // another answer than 8 or 9 gives one line. Buffers are filled arrays, and no file is refused by 6.
 #![tactic(auto)]
+
 ghost use Rattle.std.specs.Prelude.{◌≡◌, true, false, ◌≤◌, length};
 ghost use Rattle.answers.specs.Paper.{if_worked};
 ghost use Rattle.io.specs.Counts.{IsPrefixLen};

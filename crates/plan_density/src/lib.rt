@@ -1,5 +1,6 @@
 // The unscaled density of a plan's list.
 #![tactic(auto)]
+
 ghost use Rattle.std.specs.Prelude.{◌≡◌, true};
 ghost use Rattle.submasks.specs.Submasks.{others};
 ghost use Rattle.qubits.specs.Spread.{named};

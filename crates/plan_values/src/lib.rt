@@ -1,5 +1,6 @@
 // The Schmidt values of a plan.
 #![tactic(auto)]
+
 ghost use Rattle.plan_values.specs.PlannedValues.{PlannedValues};
 
 use answers::Answer;

@@ -1,5 +1,6 @@
 // All cuts of a chain on one page: qubits 0..j against the rest, for j from 0 to n - 2.
 #![tactic(auto)]
+
 ghost use Rattle.std.specs.Prelude.{◌≡◌, length, replicate};
 ghost use Rattle.complex.specs.Zeros.{zeros};
 ghost use Rattle.profiles.specs.Profile.{WorkRoom, ProfileWorked, CutProfile};

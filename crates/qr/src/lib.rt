@@ -1,5 +1,6 @@
 // Thin QR: `factorize_gram_schmidt` of src/backend/mps/svd.rs, with its refusals.
 #![tactic(auto)]
+
 ghost use Rattle.std.specs.Prelude.{◌≡◌, ◌&&◌, ◌<◌, min, length};
 ghost use Rattle.answers.specs.Paper.{paper};
 ghost use Rattle.matrix_sizes.specs.Sizes.{MatrixSized};

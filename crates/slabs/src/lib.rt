@@ -2,6 +2,7 @@
 // put takes the lowest run of free cells that fits, a drop frees its cells, a replace is judged and placed as
 // if its old cells were free. A refused call changes nothing.
 #![tactic(auto)]
+
 ghost use Rattle.slabs.specs.Slab.{Put, Dropped, Replaced};
 
 use answers::Answer;

@@ -1,5 +1,6 @@
 // Spectra of square matrices of complex cells, row-major.
 #![tactic(auto)]
+
 ghost use Rattle.std.specs.Prelude.{◌≡◌, ◌*◌, ◌≤◌, length};
 ghost use Rattle.answers.specs.Paper.{paper};
 ghost use Rattle.eigen_sweeps.specs.Sweeping.{SquareRoom, diagonal};
