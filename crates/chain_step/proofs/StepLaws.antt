@@ -20,7 +20,7 @@ use Rattle.complex.specs.Arithmetic.{conjugate}
 use Rattle.complex.specs.Cells.{cell_at, cells_of, written, components}
 use Rattle.complex.proofs.CellLaws.{length-cells, cell-of}
 use Rattle.svd_load.specs.Loading.{conjugate_transposed}
-use Rattle.cut_planes.proofs.CutPlanesLaws.{All-same}
+use Rattle.cut_planes.proofs.CutPlanesLaws.{all-same}
 use Rattle.chain_load.specs.Carried.{conjugated_at, across_at, carried_work}
 use Rattle.site_lines.specs.Sources.{line_cell, site_cell, isometry_cell, scaled_vt_cell, LineReady}
 use Rattle.svd.specs.Svd.{side_of, need_u, need_vt, work_of, u_of, s_of, vt_of, svd_sweeps, svd_end, SvdExact}
@@ -71,8 +71,8 @@ pub carried-work : (carried : List Float) (rows columns : ℕ) → carried_work 
 unfolding carried_work work_of
 carried-work carried rows columns =
     rw (
-      All-same (rows * columns) (conjugated_at carried) (conjugate_transposed (columnwise carried rows columns) rows columns) (wide-cell carried rows columns),
-      All-same (columns * rows) (across_at carried columns rows) (cell_at (columnwise carried rows columns)) (tall-cell carried rows columns),
+      all-same (rows * columns) (conjugated_at carried) (conjugate_transposed (columnwise carried rows columns) rows columns) (wide-cell carried rows columns),
+      all-same (columns * rows) (across_at carried columns rows) (cell_at (columnwise carried rows columns)) (tall-cell carried rows columns),
     )
 
 -- ---- the factors

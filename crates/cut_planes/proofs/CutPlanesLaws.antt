@@ -24,7 +24,7 @@ use Rattle.cuts.specs.Cut.{amplitude, cell_of, CutReady, ColumnReady}
 use Rattle.cuts.proofs.CutLaws.{bits-more, row_inside, column-there, column-next}
 use Rattle.svd_load.specs.Loading.{planes_of, planes_to, conjugate_transposed}
 use Rattle.svd_load.proofs.LoadingLaws.{planes-none, planes-more, planes-join, planes-all, planes-alike}
-pub use Rattle.svd_load.proofs.LoadingLaws.{planes-alike as All-same}
+pub use Rattle.svd_load.proofs.LoadingLaws.{planes-alike as all-same}
 use Rattle.svd.specs.Svd.{work_of}
 use Rattle.cut_planes.specs.CutPlanes.{shown, work_cell, column_cell}
 

@@ -1,6 +1,5 @@
 // The header view of a cut file: a record holding the file slice and its counts. Each function takes the view apart and
-// calls one of `cutfile` on the slice and the numbers. The borrow checker covers no function over such a struct, so each
-// is proved by hand; callers use the two at the end, whose parameters are plain. All but `open` are inner.
+// calls one of `cutfile` on the slice and the numbers. Callers use the two at the end, whose parameters are plain. All but `open` are inner.
 #![tactic(auto)]
 
 ghost use Rattle.std.specs.Prelude.{◌≡◌, ◌+◌, ◌*◌, ◌^◌, ◌<◌};
@@ -48,7 +47,7 @@ pub fn amplitude<'a>(v: CutFile<'a>, i: usize, part: usize) -> u64
     cutfile::amplitude_at(v.bytes, v.n, v.k, i, part)
 }
 
-// The i-th entry of the list, through the view: who calls this needs no proof by hand.
+// The i-th entry of the list, through the view.
 pub fn list_entry(file: &[u8], n: usize, k: usize, i: usize) -> u32
     requires { LongEnough file.now n k × (i < k) }
     ensures { result ≡ file_entry file.now i }

@@ -46,22 +46,22 @@ take-first (suc d) i =
     let e : suc d + i ≡ suc (d + i) = omega arith in
     rw e (take-append-le i (first_qubits (d + i)) ((d + i) ∷ []) (omega (arith, length-first (d + i))) ∙ take-first d i)
 
-get_d-more : (l : List ℕ) (x i : ℕ) → i < length l → get_or (l ++ x ∷ []) i 0 ≡ get_or l i 0
-get_d-more [] x i h = absurd (omega (arith, h))
-get_d-more (y ∷ l) x zero h = refl
-get_d-more (y ∷ l) x (suc i) h = get_d-more l x i (omega (arith, h))
+get_or-more : (l : List ℕ) (x i : ℕ) → i < length l → get_or (l ++ x ∷ []) i 0 ≡ get_or l i 0
+get_or-more [] x i h = absurd (omega (arith, h))
+get_or-more (y ∷ l) x zero h = refl
+get_or-more (y ∷ l) x (suc i) h = get_or-more l x i (omega (arith, h))
 
-get_d-pick : (k i : ℕ) (b : Bool) → eqb i k ≡ b → i < suc k → (i < k → get_or (first_qubits k) i 0 ≡ i) → get_or (first_qubits k ++ k ∷ []) i 0 ≡ i
-get_d-pick k i true e h f = let z : i ≡ k = eqb-true i k e in get_or_at (first_qubits k) k [] 0 i (length-first k ∙ sym z) ∙ sym z
-get_d-pick k i false e h f =
+get_or-pick : (k i : ℕ) (b : Bool) → eqb i k ≡ b → i < suc k → (i < k → get_or (first_qubits k) i 0 ≡ i) → get_or (first_qubits k ++ k ∷ []) i 0 ≡ i
+get_or-pick k i true e h f = let z : i ≡ k = eqb-true i k e in get_or_at (first_qubits k) k [] 0 i (length-first k ∙ sym z) ∙ sym z
+get_or-pick k i false e h f =
     let z : i ≡ k → ⊥ = eqb-false i k e in
     let l : i < k = lt_of_le-ne (omega arith) z in
-    get_d-more (first_qubits k) k i (omega (arith, length-first k)) ∙ f l
+    get_or-more (first_qubits k) k i (omega (arith, length-first k)) ∙ f l
 
-get_d-first : (k i : ℕ) → i < k → get_or (first_qubits k) i 0 ≡ i
+get_or-first : (k i : ℕ) → i < k → get_or (first_qubits k) i 0 ≡ i
 unfolding first_qubits
-get_d-first zero i h = absurd (omega arith)
-get_d-first (suc k) i h = get_d-pick k i (eqb i k) refl h (λ l. get_d-first k i l)
+get_or-first zero i h = absurd (omega arith)
+get_or-first (suc k) i h = get_or-pick k i (eqb i k) refl h (λ l. get_or-first k i l)
 
 or-none : (a b c : Bool) → (a || b) ≡ false → (b ≡ false → c ≡ false) → (a || c) ≡ false
 or-none true b c e f = e
@@ -114,7 +114,7 @@ first-accepted n cap j s h =
     let b = refuse-done (ltb 12 n) 0 0 _ a.1 in
     let each : (k : ℕ) → k < length l → (get_or l k 0 < n) × (stands (get_or l k 0) (take (0 + k) l) ≡ false) = λ k g.
     let i : k < suc j = omega (arith, len, g) in
-    let e : get_or l k 0 ≡ k = get_d-first (suc j) k i in
+    let e : get_or l k 0 ≡ k = get_or-first (suc j) k i in
     let d : suc j - k + k ≡ suc j = omega arith in
     let t : take k l ≡ first_qubits k = rw d at (take-first (suc j - k) k) in
     let z : 0 + k ≡ k = omega arith in

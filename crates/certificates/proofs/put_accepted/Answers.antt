@@ -1,5 +1,4 @@
 -- `certificates::put_accepted` meets its contract: the list at hand, or the others that were written, is the smaller side's list. Assumes nothing.
-use mathlib.Core.Path.{sym}
 use Prim.Native.Nat.{◌-◌}
 use lib.ListN.{length}
 use native.Mathlib.Omega.{arith}

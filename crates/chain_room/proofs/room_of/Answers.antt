@@ -1,6 +1,5 @@
 use Prim.Native.Nat.{◌-◌}
 use native.Mathlib.Omega.{arith}
-use Rattle.chain_walk.specs.Chain.{most_of}
 use Rattle.chain_room.proofs.RoomLaws.{room-start, room-end, before-few, term_few, sum-few, room-more}
 use Rattle.chain_room.proofs.room_of.Goals as goal
 

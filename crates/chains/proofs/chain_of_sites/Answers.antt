@@ -7,7 +7,7 @@ use lib.Seq.{length-take-le}
 use borrow.Table.Elements.{same_len}
 use Rattle.answers.proofs.Stopped.{passed, was-done, stopped-number}
 use Rattle.chain_room.proofs.RoomLaws.{room-few}
-use Rattle.chain_checks.proofs.CheckLaws.{ChainAccepted, accepted, plane-few, side-few}
+use Rattle.chain_checks.proofs.CheckLaws.{accepted, plane-few, side-few}
 use Rattle.chains.proofs.ChainsLaws.{chain-worked, chain-refused}
 use Rattle.chains.proofs.chain_of_sites.Goals as goal
 

@@ -1,7 +1,6 @@
 use mathlib.Core.Path.{sym, ◌∙◌}
 use mathlib.Core.Bool.{true≢false}
 use Prim.Native.Nat.{◌-◌}
-use borrow.Author.Tests.{not-false}
 use Rattle.clean_numbers.proofs.CleanLaws.{below_none, below_more, below_all}
 use borrow.Author.Rules.{rules}
 use Rattle.clean_numbers.proofs.all_clean.Goals as goal

@@ -2,7 +2,7 @@ use borrow.Author.Rules.{rules}
 use mathlib.Core.Path.{refl}
 use Prim.Native.Nat.{ℕ, ◌-◌}
 use native.Mathlib.Omega.{arith}
-use lib.ListN.{length, length-set}
+use lib.ListN.{length-set}
 use Rattle.complex.proofs.Loops.{stop}
 use Rattle.complex.specs.Zeros.{zeroed}
 use Rattle.complex.proofs.ZerosLaws.{zeroed-none, zeroed-more}

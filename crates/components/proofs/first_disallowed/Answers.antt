@@ -1,7 +1,6 @@
 use mathlib.Core.Path.{refl, sym, ◌∙◌}
 use Prim.Native.Nat.{◌-◌}
 use native.Mathlib.Omega.{arith}
-use Rattle.complex.specs.Cells.{components}
 use Rattle.complex.proofs.CellLaws.{components-bad, components-good, components-end}
 use Rattle.components.proofs.first_disallowed.Goals as goal
 

@@ -1,23 +1,10 @@
 -- `countersign_grams::gap` meets its contract: both vectors are among the k. Assumes nothing.
-use native.Mathlib.Omega.{arith}
 use native.Mathlib.Nat.{mod-lt}
 use Rattle.countersign_grams.proofs.Bounds.{some, first-in, gap-fits, made-gap}
 use Rattle.countersign_grams.proofs.gap.Goals as goal
 
--- LEFT: no goal nonzero-div-inners
--- div-inners c = omega (arith, some _ _ c.requires.3)
-
--- LEFT: no goal nonzero-rem-inners
--- rem-inners c = omega (arith, some _ _ c.requires.3)
-
 pub inners-sum-requires : goal.inners-sum-requires
 inners-sum-requires c = (c.requires.0, c.requires.1, c.requires.2, first-in _ _ c.requires.3, mod-lt _ (some _ _ c.requires.3))
-
--- LEFT: no goal nonzero-div-identity
--- div-identity c = omega (arith, some _ _ c.requires.3)
-
--- LEFT: no goal nonzero-rem-identity
--- rem-identity c = omega (arith, some _ _ c.requires.3)
 
 pub minus-requires : goal.minus-requires
 minus-requires c = gap-fits _ _ _ _ c.inners-sum.ensures c.identity.ensures

@@ -1,6 +1,5 @@
 -- `grid::grid_bits` meets its contract: each way out is a case of `Units`. Assumes nothing.
-use native.Mathlib.Omega.{arith}
-use Rattle.countersign_grid.proofs.Units.{bits-zero, bits-large, bits-low, bits-off, bits-on, power-is, shifted-pos}
+use Rattle.countersign_grid.proofs.Units.{bits-zero, bits-large, bits-low, bits-off, bits-on, power-is}
 use Rattle.countersign_grid.proofs.grid_bits.Goals as goal
 
 pub returns-then-b-eq0 : goal.returns-then-b-eq0
@@ -12,14 +11,8 @@ returns-then-b-gt4607182418800017408 c = bits-large _ c.if-b-gt46071824188000174
 pub returns-then-e-lt1005 : goal.returns-then-e-lt1005
 returns-then-e-lt1005 c = bits-low _ c.if-b-eq0.false c.if-b-gt4607182418800017408.false c.if-e-lt1005.true
 
--- LEFT: no goal nonzero-rem-if4
--- rem-if4 c = shifted-pos _ (omega arith)
-
 pub returns-then-digits-power-ne0 : goal.returns-then-digits-power-ne0
 returns-then-digits-power-ne0 c = bits-off _ c.if-b-gt4607182418800017408.false c.if-e-lt1005.false _ (power-is _ c.if-b-gt4607182418800017408.false c.if-e-lt1005.false) c.if-digits-power-ne0.true
-
--- LEFT: no goal nonzero-div-t6
--- div-t6 c = shifted-pos _ (omega arith)
 
 pub returns : goal.returns
 returns c = bits-on _ c.if-b-gt4607182418800017408.false c.if-e-lt1005.false _ (power-is _ c.if-b-gt4607182418800017408.false c.if-e-lt1005.false) c.if-digits-power-ne0.false

@@ -1,14 +1,7 @@
 -- `countersign_products::gap` meets its contract: the cell is in the block of its column. Assumes nothing.
-use native.Mathlib.Omega.{arith}
 use native.Mathlib.Nat.{mod-lt}
 use Rattle.countersign_products.proofs.Bounds.{rows-some, column-in, one-fits, gap-fits, made-gap}
 use Rattle.countersign_products.proofs.gap.Goals as goal
-
--- LEFT: no goal nonzero-rem-entry
--- rem-entry c = omega (arith, rows-some _ _ _ c.requires.factors.2)
-
--- LEFT: no goal nonzero-div-entry
--- div-entry c = omega (arith, rows-some _ _ _ c.requires.factors.2)
 
 pub entry-sum-requires : goal.entry-sum-requires
 entry-sum-requires c = record { read = c.requires.read; factors = (c.requires.factors.0, mod-lt _ (rows-some _ _ _ c.requires.factors.2), column-in _ _ _ c.requires.factors.2) }

@@ -2,18 +2,11 @@ use mathlib.Core.Path.{sym, ◌∙◌}
 use Prim.Native.Nat.{◌-◌}
 use native.Mathlib.Omega.{arith}
 use Rattle.countersign_scans.proofs.ScanLaws.{scan-begin, scan_good, scan-bad, scan-end, mirrored-holds}
-use Rattle.countersign_grams.proofs.Bounds.{some}
 use Rattle.countersign_grams.proofs.Theorems.{gram-swap}
 use Rattle.countersign_scans.proofs.first_inner.Goals as goal
 
 pub loop-c-init : goal.loop-c-init
 loop-c-init c = (omega arith, scan-begin _ _)
-
--- LEFT: no goal nonzero-rem-if1
--- rem-if1 c = some _ _ c.loop-c-test.true
-
--- LEFT: no goal nonzero-div-if1
--- div-if1 c = some _ _ c.loop-c-test.true
 
 pub loop-c-preserved-then-c-k : goal.loop-c-preserved-then-c-k
 loop-c-preserved-then-c-k c = (omega arith, scan_good _ _ _ c.loop-c.invariant.1 c.loop-c-test.true (mirrored-holds _ _ (gram-swap _ _ _ _) _ _ c.loop-c.invariant.1 c.loop-c-test.true c.if-c-k.true))

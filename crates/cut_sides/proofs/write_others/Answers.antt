@@ -1,7 +1,6 @@
 use mathlib.Core.Path.{sym, ◌∙◌}
 use Prim.Native.Nat.{◌-◌, ◌<◌}
 use native.Mathlib.Omega.{arith}
-use borrow.Author.Tests.{not-true, not-false}
 use lib.ListN.{length}
 use Rattle.cut_sides.proofs.SideLaws.{risen-begin, risen-in, risen-one, risen-none, risen-end}
 use Rattle.cut_sides.proofs.write_others.Goals as goal

@@ -1,7 +1,6 @@
 use mathlib.Core.Path.{refl, sym, ◌∙◌}
 use Prim.Native.Nat.{◌-◌}
 use native.Mathlib.Omega.{arith}
-use Rattle.cutfile.specs.Bytes.{begins}
 use Rattle.cutfile.proofs.BytesLaws.{begins-end, begins-same, begins-other}
 use Rattle.cutfile.proofs.begins_with.Goals as goal
 

@@ -1,10 +1,8 @@
 -- `cuts::cut_over` meets its contract: at each way out the answers of the calls passed are 0, so the row of tests comes down to the last
 -- call's. Assumes nothing.
-use mathlib.Core.Path.{◌≡◌, refl, sym, ◌∙◌, ap}
-use lib.ListN.{length}
-use Rattle.answers.specs.Paper.{Reply, paper, and_then}
+use mathlib.Core.Path.{refl, sym, ◌∙◌, ap}
+use Rattle.answers.specs.Paper.{paper}
 use Rattle.answers.proofs.Stopped.{refused, passed, was-done, stopped-number}
-use Rattle.cuts.specs.Cut.{cut_lengths}
 use Rattle.cuts.proofs.CutLaws.{ready-sides, lengths-done, over-refused, over_done}
 use Rattle.cuts.proofs.cut_over.Goals as goal
 

@@ -1,15 +1,13 @@
 -- `density_trace::normalize_trace` meets its contract: refused as a square matrix, by its trace or by its result, or scaled. Assumes nothing.
-use mathlib.Core.Path.{◌≡◌, refl, sym, ap, ◌∙◌}
+use mathlib.Core.Path.{refl, sym, ap, ◌∙◌}
 use Prim.Native.Nat.{◌*◌}
 use native.Mathlib.Omega.{arith}
 use lib.Ieee as Ieee
 use lib.Ieee.{Float}
-use Rattle.answers.specs.Paper.{Reply, and_then}
 use Rattle.answers.proofs.Stopped.{refused, passed, was-done, stopped-number}
 use Rattle.complex.specs.Cells.{written}
 use Rattle.complex.specs.Zeros.{zero_float}
 use Rattle.density_entries.proofs.MirroredLaws.{square-small}
-use Rattle.densities.specs.Square.{square_answer}
 use Rattle.densities.proofs.SquareLaws.{square-done, place-refused, place-done}
 use Rattle.density_trace.specs.Trace.{scaled_cell, finite_cells, reciprocal}
 use Rattle.density_trace.proofs.TraceLaws.{scaling-none, scaling-wild, scaling-done}

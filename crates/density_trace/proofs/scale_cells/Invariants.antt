@@ -2,7 +2,6 @@
 use mathlib.Core.Path.{◌≡◌}
 use Prim.Native.Nat.{◌≤◌, ◌-◌}
 use lib.ListN.{length}
-use Rattle.complex.specs.Arithmetic.{scaled}
 use Rattle.complex.specs.Cells.{written}
 use Rattle.density_trace.specs.Trace.{scaled_cell}
 use Rattle.density_trace.proofs.scale_cells.Given as goal

@@ -2,7 +2,6 @@
 use mathlib.Core.Path.{◌≡◌}
 use mathlib.Core.Bool.{true}
 use Prim.Native.Nat.{◌≤◌, ◌-◌}
-use Rattle.complex.specs.Arithmetic.{scaled}
 use Rattle.density_trace.specs.Trace.{scaled_cell, finite_cells}
 use Rattle.density_trace.proofs.scaled_finite.Given as goal
 

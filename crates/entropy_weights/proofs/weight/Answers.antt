@@ -1,6 +1,5 @@
 -- `entropy_weights::weight` meets its contract: three ranges of exponents. Assumes nothing.
 use mathlib.Core.Path.{sym, subst, ◌∙◌}
-use borrow.Author.Tests.{not-true, not-false}
 use lib.Dec.{T}
 use lib.Ieee.{binary64, fits}
 use Rattle.modulus.proofs.Sizes.{no_nan, size-bits}

@@ -1,6 +1,5 @@
 -- `hermitian_eigen::finite_results` meets its contract: one list after the other. Assumes nothing.
 use mathlib.Core.Path.{sym, ◌∙◌}
-use borrow.Author.Tests.{not-true, not-false}
 use Rattle.hermitian_eigen.proofs.HermitianLaws.{finite-first, finite-second}
 use Rattle.hermitian_eigen.proofs.finite_results.Goals as goal
 

@@ -1,6 +1,6 @@
 use mathlib.Core.Path.{refl, ap, ◌∙◌}
 use Prim.Native.Nat.{◌-◌}
-use lib.ListN.{length, length-set}
+use lib.ListN.{length-set}
 use native.Mathlib.Omega.{arith}
 use Rattle.hermitian_eigen.proofs.BackwardLaws.{exchanges-none, exchanges-more, exchanges-all}
 use borrow.Author.Rules.{rules}

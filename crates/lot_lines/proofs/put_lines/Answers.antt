@@ -4,12 +4,8 @@ use Rattle.lot_lines.specs.SheetLines.{lot_word, answer_word, rank_word, answers
 use Rattle.texts.proofs.TextLaws.{length-line}
 use lib.ListN.{length}
 use native.Mathlib.Omega.{arith}
-use mathlib.Core.Path.{sym}
 use borrow.Author.Rules.{rules}
 use Rattle.lot_lines.proofs.put_lines.Goals as goal
-
--- LEFT: no goal slice-aggregate-put-counts-2
--- slice-aggregate-put-counts-2 c = sym (eleven c.args.sheet.now c.requires.1)
 
 pub put_counts-third-requires : goal.put_counts-third-requires
 put_counts-third-requires c = let a = c.args in let p = c.put_line-second in (omega (arith, p.ensures.next, p.auto.out, length-line lot_word a.count, eleven a.sheet.now c.requires.1, c.requires.0), search rules, search rules)

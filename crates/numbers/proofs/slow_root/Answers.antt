@@ -1,6 +1,5 @@
 use Prim.Native.Nat.{◌-◌}
 use native.Mathlib.Omega.{arith}
-use mathlib.Core.Logic.{⊎_elim}
 use Rattle.numbers.proofs.Digits.{start, root-small, one, zero, last, down, up}
 use Rattle.numbers.proofs.slow_root.Goals as goal
 use Rattle.numbers.proofs.slow_root.Goals.{then-t-d, else-t-d}

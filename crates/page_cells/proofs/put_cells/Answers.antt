@@ -15,12 +15,6 @@ loop-k-init c = (omega arith, cells-none _ _ _ _ _)
 pub read_cell-z-requires : goal.read_cell-z-requires
 read_cell-z-requires c = omega (arith, c.loop-k-test.true, c.requires.cells)
 
--- LEFT: no goal nonzero-div-put-cell
--- div-put-cell c = omega (arith, c.requires.some)
-
--- LEFT: no goal nonzero-rem-put-cell
--- rem-put-cell c = omega (arith, c.requires.some)
-
 pub put_cell-next-requires : goal.put_cell-next-requires
 put_cell-next-requires c = let r = cells-room _ _ _ _ _ c.requires _ _ _ c.loop-k.invariant.0 c.loop-k.invariant.1 in omega (arith, r, c.loop-k-test.true, c.requires.fits, c.requires.short)
 

@@ -1,7 +1,6 @@
 -- `plan_changes::plan_add` meets its contract. Assumes nothing.
 use mathlib.Core.Path.{refl, sym, ◌∙◌}
 use native.Mathlib.Omega.{arith}
-use borrow.Author.Tests.{not-true, not-false}
 use Rattle.plan_changes.specs.Changes.{adding}
 use Rattle.plan_changes.proofs.ChangeLaws.{place-left, room-added, part-added, list-added, change-unmade, change-made}
 use Rattle.plan_changes.proofs.plan_add.Goals as goal

@@ -1,6 +1,5 @@
 -- `plan_changes::plan_drop` meets its contract. Assumes nothing.
 use mathlib.Core.Path.{sym, ◌∙◌}
-use borrow.Author.Tests.{not-true, not-false}
 use Rattle.plan_lists.specs.Padded.{without}
 use Rattle.plans.specs.Plans.{list_of}
 use Rattle.plan_changes.specs.Changes.{dropping}

@@ -1,7 +1,6 @@
 -- `plan_changes::plan_switch` meets its contract. Assumes nothing.
 use mathlib.Core.Path.{refl, sym, ◌∙◌}
 use native.Mathlib.Omega.{arith}
-use borrow.Author.Tests.{not-true, not-false}
 use Rattle.qubits.specs.Spread.{other_qubits}
 use Rattle.plans.specs.Plans.{list_of}
 use Rattle.plans.proofs.PlanLaws.{made-count, made-parted}

@@ -1,6 +1,5 @@
 -- `plan_density::planned_reduced_density` meets its contract: no list makes the plan, it is too wide, or the work over the kept mask is the
 -- list's call. Assumes nothing.
-use borrow.Author.Tests.{not-true, not-false}
 use mathlib.Core.Bool.{true}
 use mathlib.Core.Path.{◌≡◌, sym, ◌∙◌}
 use native.Mathlib.Omega.{arith}

@@ -1,6 +1,5 @@
 -- `plan_matrix::planned_cut_matrix` meets its contract: no list makes the plan, or the work over the kept sides is the list's call. Assumes
 -- nothing.
-use borrow.Author.Tests.{not-true, not-false}
 use mathlib.Core.Bool.{true}
 use mathlib.Core.Path.{◌≡◌, sym, ◌∙◌}
 use Rattle.plans.specs.Plans.{made}

@@ -1,14 +1,10 @@
 -- `plans::is_made` meets its contract: the plan of its list is made anew and compared. Assumes nothing.
 use mathlib.Core.Path.{refl, sym, ap, ◌∙◌}
-use Prim.Native.Nat.{◌≤◌}
-use native.Mathlib.Omega.{arith}
-use lib.ListN.{length}
-use lib.Seq.{length-take-le}
 use Rattle.answers.specs.Paper.{Reply}
 use Rattle.answers.proofs.Stopped.{was-done, stopped-number}
 use Rattle.plans.specs.declared.Plan.{Plan}
 use Rattle.plans.specs.Plans.{same_plan}
-use Rattle.plans.proofs.PlanLaws.{twelve, made-long, made-refused, made-same, plan-given}
+use Rattle.plans.proofs.PlanLaws.{made-long, made-refused, made-same, plan-given}
 use Rattle.plans.proofs.is_made.Goals as goal
 
 pub returns-then-k-gt12 : goal.returns-then-k-gt12

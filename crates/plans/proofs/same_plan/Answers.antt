@@ -1,6 +1,6 @@
 -- `plans::same_plan` meets its contract: each number is compared. Assumes nothing.
 use mathlib.Core.Path.{sym, ◌∙◌}
-use borrow.Author.Tests.{eq-eqb, ne_eqb, not-true, not-false}
+use borrow.Author.Tests.{eq-eqb, ne_eqb}
 use Rattle.plans.specs.Plans.{same_plan}
 use Rattle.plans.proofs.same_plan.Goals as goal
 

@@ -3,7 +3,6 @@ use native.Mathlib.Omega.{arith}
 use Rattle.complex.proofs.Loops.{stop}
 use Rattle.complex.specs.Squares.{squares_to}
 use Rattle.complex.proofs.SquaresLaws.{squares-none}
-use Rattle.qr_column.specs.Woven.{woven}
 use Rattle.qr_column.proofs.WovenLaws.{squares-woven}
 use Rattle.qr_column.proofs.square.Goals as goal
 

@@ -4,7 +4,6 @@ use native.Mathlib.Omega.{arith}
 use Rattle.complex.proofs.Loops.{stop}
 use Rattle.qr_column.specs.Columns.{scaled_into}
 use Rattle.qr_column.proofs.ColumnLaws.{scaled-none}
-use Rattle.qr_column.specs.Woven.{woven}
 use Rattle.qr_column.proofs.WovenLaws.{scaled-woven}
 use borrow.Author.Rules.{rules}
 use Rattle.qr_column.proofs.store_scaled.Goals as goal

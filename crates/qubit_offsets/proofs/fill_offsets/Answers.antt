@@ -1,8 +1,7 @@
 use mathlib.Core.Path.{refl}
 use Prim.Native.Nat.{◌-◌}
 use native.Mathlib.Omega.{arith}
-use lib.ListN.{length, length-set}
-use Rattle.tables.specs.Tables.{filled}
+use lib.ListN.{length-set}
 use Rattle.tables.proofs.TablesLaws.{filled_none, filled_more}
 use Rattle.qubits.specs.Spread.{row_offset}
 use Rattle.qubit_offsets.proofs.CallLaws.{table-end}

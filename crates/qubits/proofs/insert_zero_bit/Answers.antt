@@ -2,15 +2,9 @@
 use Prim.Native.Nat.{◌≤◌, ◌^◌}
 use native.Mathlib.Nat.{div-mul-le_self, mod-le}
 use native.Mathlib.Omega.{arith}
-use lib.Pow.{pow_pos, pow_mono}
+use lib.Pow.{pow_mono}
 use Rattle.qubits.proofs.SpreadLaws.{insert-code}
 use Rattle.qubits.proofs.insert_zero_bit.Goals as goal
-
--- LEFT: no goal nonzero-div-quotient
--- div-quotient c = omega (arith, c.bit-power.ensures, pow_pos c.args.q)
-
--- LEFT: no goal nonzero-rem-remainder
--- rem-remainder c = omega (arith, c.bit-power.ensures, pow_pos c.args.q)
 
 pub overflow_mul-result : goal.overflow_mul-result
 overflow_mul-result c =

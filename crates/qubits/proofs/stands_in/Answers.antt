@@ -1,7 +1,6 @@
 use mathlib.Core.Path.{refl, sym, ◌∙◌}
 use Prim.Native.Nat.{◌-◌}
 use native.Mathlib.Omega.{arith}
-use Rattle.qubits.specs.Lists.{stands}
 use Rattle.qubits.proofs.ListLaws.{stands_here, stands-past, stands-end}
 use Rattle.qubits.proofs.stands_in.Goals as goal
 

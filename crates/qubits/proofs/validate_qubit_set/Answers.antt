@@ -2,8 +2,6 @@ use borrow.Author.Tests.{lt-ltb, le-ltb, eq-eqb, ne_eqb}
 use mathlib.Core.Path.{sym, ◌∙◌}
 use Prim.Native.Nat.{◌-◌}
 use native.Mathlib.Omega.{arith}
-use lib.Dec.{eqb}
-use lib.ListN.{length}
 use lib.Seq.{length-take-le}
 use Rattle.qubits.proofs.ListLaws.{places-out, places-twice, places-past, places-end}
 use Rattle.qubits.proofs.validate_qubit_set.Goals as goal

@@ -1,4 +1,4 @@
-use Rattle.std.proofs.Common.{length, sym, refl, arith, length-set}
+use Rattle.std.proofs.Common.{sym, refl, arith, length-set}
 use Rattle.replay.proofs.print_word.Goals as goal
 
 pub loop-i-init : goal.loop-i-init

@@ -1,4 +1,4 @@
-use Rattle.std.proofs.Common.{◌-◌, length, length-set}
+use Rattle.std.proofs.Common.{◌-◌, length-set}
 use Rattle.replay.proofs.read_counts.Goals as goal
 
 pub loop-i-preserved : goal.loop-i-preserved

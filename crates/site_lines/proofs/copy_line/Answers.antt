@@ -2,7 +2,7 @@ use mathlib.Core.Path.{refl}
 use Prim.Native.Nat.{◌-◌}
 use native.Mathlib.Omega.{arith}
 use Rattle.complex.proofs.Loops.{stop}
-use Rattle.site_lines.specs.Sources.{put_line, strided}
+use Rattle.site_lines.specs.Sources.{put_line}
 use Rattle.site_lines.proofs.SourceLaws.{put-none, put-more, strided-cell}
 use borrow.Author.Rules.{rules}
 use Rattle.site_lines.proofs.copy_line.Goals as goal

@@ -1,6 +1,5 @@
 -- `slab_tests::is_sound` meets its contract. Assumes nothing.
 use mathlib.Core.Path.{sym, ◌∙◌}
-use borrow.Author.Tests.{not-false}
 use Rattle.slab_tests.proofs.TestLaws.{too_many, not-apart, by-cells}
 use Rattle.slab_tests.proofs.is_sound.Goals as goal
 

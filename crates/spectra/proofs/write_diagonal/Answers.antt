@@ -1,12 +1,11 @@
 use mathlib.Core.Path.{◌≡◌, refl}
 use Prim.Native.Nat.{◌*◌, ◌+◌, ◌-◌, ◌<◌}
 use native.Mathlib.Omega.{arith}
-use lib.ListN.{length, length-set}
+use lib.ListN.{length-set}
 use Rattle.eigen_pair.specs.CellPlanes.{as_planes}
 use Rattle.eigen_pair.proofs.CellPlanesLaws.{plane-re}
 use lib.Arith.{digits_lt}
 use Rattle.eigen_sweeps.specs.Sweeping.{diagonal}
-use Rattle.tables.specs.Tables.{filled}
 use Rattle.tables.proofs.TablesLaws.{filled_none, filled_more}
 use Rattle.spectra.proofs.write_diagonal.Goals as goal
 

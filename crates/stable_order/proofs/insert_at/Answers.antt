@@ -3,7 +3,6 @@ use mathlib.Core.Path.{refl, sym, ◌∙◌}
 use Prim.Native.Nat.{◌-◌, ◌≤◌, ◌<◌}
 use lib.ListN.{length, length-set}
 use native.Mathlib.Omega.{arith}
-use Rattle.stable_order.specs.Push.{push_at}
 use Rattle.stable_order.proofs.PushLaws.{push_at-more, push_at-done}
 use Rattle.stable_order.proofs.insert_at.Goals as goal
 

@@ -1,6 +1,5 @@
 use Prim.Native.Nat.{◌-◌}
 use native.Mathlib.Omega.{arith}
-use lib.ListN.{length}
 use Rattle.stable_order.specs.Places.{places_in}
 use Rattle.stable_order.proofs.PlacesLaws.{length-places_in}
 use Rattle.stable_order.proofs.OrderLaws.{seat-end, seat-here, seat-past}

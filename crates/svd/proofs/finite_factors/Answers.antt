@@ -1,6 +1,5 @@
 -- `svd::finite_factors` meets its contract: one list after the other. Assumes nothing.
 use mathlib.Core.Path.{sym, ◌∙◌}
-use borrow.Author.Tests.{not-true, not-false}
 use Rattle.svd.proofs.SvdLaws.{finite-first, finite-second, finite-third}
 use Rattle.svd.proofs.finite_factors.Goals as goal
 

@@ -1,7 +1,7 @@
 use mathlib.Core.Path.{refl, ◌∙◌}
 use Prim.Native.Nat.{◌+◌, ◌*◌, ◌-◌, ◌≤◌}
 use native.Mathlib.Omega.{arith}
-use lib.ListN.{length, get_or, length-drop}
+use lib.ListN.{get_or, length-drop}
 use lib.Ieee.{nan}
 use Rattle.complex.proofs.Loops.{stop}
 use Rattle.complex.specs.Cells.{written}

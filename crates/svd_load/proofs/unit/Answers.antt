@@ -1,7 +1,7 @@
 use mathlib.Core.Path.{refl}
 use Prim.Native.Nat.{◌+◌, ◌*◌, ◌-◌, ◌≤◌}
 use native.Mathlib.Omega.{arith}
-use lib.ListN.{length, length-set}
+use lib.ListN.{length-set}
 use Rattle.complex.proofs.Loops.{stop}
 use Rattle.whole_numbers.proofs.WholeLaws.{column_fits}
 use Rattle.svd_load.specs.Loading.{unit_to}

@@ -1,5 +1,5 @@
 -- `svd_pair::tangent` meets its contract: a law for each branch, and the size of tau is the same however its sign is tested. Assumes nothing.
-use mathlib.Core.Logic.{◌⊎◌, inl, inr}
+use mathlib.Core.Logic.{inl, inr}
 use Rattle.svd_pair.proofs.DecisionsLaws.{Size, tangent-up, tangent-down}
 use Rattle.svd_pair.proofs.tangent.Goals as goal
 use Rattle.svd_pair.proofs.tangent.Goals.{then-tau, else-tau, then-tau-2, else-tau-2}

@@ -4,7 +4,7 @@ use native.Mathlib.Omega.{arith}
 use Rattle.sweeps.specs.Sweeping.{columns_to}
 use Rattle.sweeps.proofs.Counts.{pairs-few, pairs-after, turned_more}
 use Rattle.sweeps.proofs.SweepingLaws.{sweep-made, columns-none, columns-more}
-use Rattle.svd_sweeps.specs.Sweeping.{svd_pairing, svd_pairings}
+use Rattle.svd_sweeps.specs.Sweeping.{svd_pairings}
 use Rattle.svd_sweeps.proofs.SweepingLaws.{v-kept}
 use Rattle.svd_sweeps.specs.Marks.{look}
 use Rattle.svd_sweeps.specs.declared.Late.{Late}

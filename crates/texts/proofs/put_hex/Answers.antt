@@ -1,6 +1,5 @@
 use Prim.Native.Nat.{◌-◌}
 use native.Mathlib.Omega.{arith}
-use Rattle.texts.specs.Text.{hex}
 use Rattle.texts.proofs.TextLaws.{hex-none, hex-step, hex-length, hex-end}
 use Rattle.texts.proofs.put_hex.Goals as goal
 

@@ -1,7 +1,5 @@
 use Prim.Native.Nat.{◌-◌}
 use native.Mathlib.Omega.{arith}
-use lib.ListN.{length}
-use Rattle.texts.specs.Text.{put}
 use Rattle.texts.proofs.TextLaws.{put-none, text-step, text-length, text-end}
 use Rattle.texts.proofs.put_text.Goals as goal
 

@@ -1,6 +1,5 @@
 use mathlib.Core.Path.{refl, sym, ◌∙◌}
 use native.Mathlib.Omega.{arith}
-use borrow.Author.Tests.{not-true, not-false}
 use Prim.Native.Nat.{◌-◌}
 use Rattle.values.proofs.ListLaws.{allowed-bad, allowed-good, allowed-end}
 use Rattle.values.proofs.check_values.Goals as goal

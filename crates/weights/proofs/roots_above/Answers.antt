@@ -2,7 +2,7 @@ use mathlib.Core.Path.{ap}
 use mathlib.Core.Path.{refl, ◌∙◌}
 use Prim.Native.Nat.{◌-◌}
 use native.Mathlib.Omega.{arith}
-use lib.ListN.{length, take, length-set}
+use lib.ListN.{length, length-set}
 use Rattle.weights.proofs.WeightLaws.{roots-put, roots-pass, roots-all}
 use Rattle.weights.proofs.roots_above.Goals as goal
 use Rattle.weights.proofs.roots_above.Goals.{then-w-floor, else-w-floor}
