@@ -9,9 +9,6 @@ import re
 import subprocess
 import sys
 
-DEFINED = re.compile(r"^ *(?:(?:abbrev|unfoldable|private|pub) )*(?:(?:record|data|ruleset) )?([^\s:(){}.,;=λ]+)(?: [^:]*)? :(?: |$)")
-
-
 def text(commit, path):
     return subprocess.run(["git", "show", f"{commit}:{path}"], capture_output=True, text=True, check=True).stdout
 
@@ -40,12 +37,15 @@ def main(old, new):
             print(f"- {path}: gone")
             continue
         a, b = names(text(old, path)), names(now)
-        pairs = [(x, y) for x, y in zip(a, b) if x != y] if len(a) == len(b) else None
-        if pairs is None:
-            by_crate.setdefault(parts[1], []).append(f"({'/'.join(parts[2:])}: {len(a)} names for {len(b)})")
-            continue
+        if len(a) == len(b):
+            pairs = zip(a, b)
+        else:
+            bare = {re.sub("[-_]", "", y).lower(): y for y in b}
+            pairs = [(x, bare[re.sub("[-_]", "", x).lower()]) for x in a if re.sub("[-_]", "", x).lower() in bare]
         for x, y in pairs:
-            it = f"`{x}` {y}" if False else f"{x} → {y}"
+            if x == y:
+                continue
+            it = f"{x} → {y}"
             if it not in by_crate.setdefault(parts[1], []):
                 by_crate[parts[1]].append(it)
     for crate in sorted(by_crate):
