@@ -54,12 +54,12 @@ pub fn sqrt_bits(b: u64) -> u64
     0x7ff8_0000_0000_0000
 }
 
-// A NaN. Of the ways to write one, the remainder of two literals is compiled to 7FF8_0000_0000_0000
-// at -O0 and at -O3 (a quotient of two literals has the sign set at -O0).
+// A NaN. The quotient of two literals is compiled to 7FF8_0000_0000_0000 at -O2 and -O3. (A remainder of two literals is so at -O0
+// too, but a compiler that leaves it to run calls a function of the C library.)
 fn not_a_number() -> f64
     ensures { result ≡ nan }
 {
-    1.0 % 0.0
+    0.0 / 0.0
 }
 
 // The bits of the root of the positive finite float whose bits are b.
