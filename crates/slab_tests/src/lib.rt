@@ -44,7 +44,9 @@ fn is_bad(len: usize) -> bool
     len > 8192
 }
 
-// The lowest run that len numbers take, entry skip not counted.
+// The lowest run that len numbers take, entry skip not counted. It is called, so that its map of the cells and that of `is_sound` do not
+// stand on the stack at one time.
+#[inline(never)]
 fn room_for(index: &[u32; 193], skip: usize, len: usize) -> Run
     requires { (count index.now ≤ 64) × (each_apart index.now (count index.now) ≡ true) × (1 ≤ len / 2) }
     ensures { result ≡ room index.now skip len }
