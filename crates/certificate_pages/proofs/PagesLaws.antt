@@ -78,6 +78,9 @@ test-last x h = go (leb x 9) refl
     go true e = worked-new x true false (inr (h, leb-true x 9 e))
     go false e = worked-above x true false (leb-false x 9 e)
 
+-- the tests in a row
+pub ruleset begun = (test_zero, test-small, test-last)
+
 done-same : {A : Type 0} (x : ℕ) (p q rest : A) → (x ≡ 0 → p ≡ q) → if_done x p rest ≡ if_done x q rest
 done-same zero p q rest h = h refl
 done-same (suc x) p q rest h = refl

@@ -13,6 +13,7 @@ use answers::Answer;
 use certificates::Written;
 
 // Whether the work on a file was begun: its answer is 0, 8 or 9.
+#[tactic(auto, using(crate::proofs::PagesLaws::begun))]
 fn was_begun(number: usize) -> bool
     ensures { result ≡ if_worked number true false }
 {

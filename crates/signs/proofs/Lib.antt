@@ -1,3 +1,4 @@
 -- The laws, and what the functions' proofs share.
+pub mod Negated
 pub mod Signs
 pub mod Zeros

@@ -21,13 +21,7 @@ use Rattle.signs.proofs.Signs.{round-neg, mul-swap, add-swap}
 use Rattle.complex.specs.Zeros.{zero_float}
 use Rattle.scaled.proofs.ScaleLaws.{sum-finite}
 use Rattle.modulus.proofs.Sizes.{whole-size}
-
--- x, with +0.0 for -0.0
-unfoldable pub bare : Float → Float
-bare nan = nan
-bare (inf s) = inf s
-bare (fin s zero e) = fin false zero e
-bare (fin s (suc m) e) = fin s (suc m) e
+unfoldable pub use Rattle.zero_signs.proofs.Unsigned.{bare}
 
 -- a zero of either sign
 unfoldable pub is_zero : Float → Bool

@@ -1,3 +1,4 @@
 -- The laws: of floats, and of complex numbers.
+pub mod Unsigned
 pub mod Bare
 pub mod Cells
