@@ -4,8 +4,7 @@ use mathlib.Core.List.{List, ◌++◌}
 use Prim.Native.Nat.{ℕ, zero, suc, ◌*◌, ◌<◌}
 use lib.Ieee.{Float}
 use lib.ListN.{length, drop}
-use Rattle.answers.specs.declared.Answer.{Answer}
-use Rattle.answers.specs.Paper.{Reply, paper, if_done}
+use Rattle.answers.specs.Paper.{Answer, Reply, paper, if_done}
 use Rattle.answers.proofs.PaperLaws.{done-new}
 use Rattle.complex.specs.declared.Complex.{Complex}
 use Rattle.complex.specs.Cells.{written}

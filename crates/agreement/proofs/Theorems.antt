@@ -5,8 +5,7 @@ use Prim.Native.Nat.{ℕ, ◌*◌, ◌^◌, ◌+◌, ◌≤◌, ◌<◌}
 use lib.Ieee.{Float}
 use lib.ListN.{length}
 use lib.Seq.{take-length}
-use Rattle.answers.specs.declared.Answer.{Answer}
-use Rattle.answers.specs.Paper.{Reply, paper, and_then}
+use Rattle.answers.specs.Paper.{Answer, Reply, paper, and_then}
 use Rattle.answers.proofs.PaperLaws.{and_then-done, done-new}
 use Rattle.complex.specs.Cells.{written, components}
 use Rattle.cut_sides.specs.Sides.{cut_refusal, Parted}

@@ -22,10 +22,10 @@ pub fn put_back(
     requires { BackReady file.now n k list.now at (length out.old) }
     ensures { Puts at (back_text (state_of file.now n k) n list.now accepted) out.old result out.new }
 {
-    let mut state = [0.0f64; 1024];
-    decode::decode_state(file, n, k, &mut state);
-    let components = 2 * cutfile::bit(n);
-    let total = bits::bits_of(cut_totals::kept_total(&state[..components], n, list));
-    let next = page_two::put_two(out, at, &state[..components], n, list, accepted, total);
+    let mut cells = [0.0f64; 1024];
+    decode::decode_state(file, n, k, &mut cells);
+    let state = &cells[..2 * cutfile::bit(n)];
+    let total = bits::bits_of(cut_totals::kept_total(state, n, list));
+    let next = page_two::put_two(out, at, state, n, list, accepted, total);
     texts::put_text(out, next, b"end pages\n")
 }

@@ -1,6 +1,6 @@
 -- Laws of the first part of the pages: how long it is, and the ways out of page one. Assumes nothing.
 use mathlib.Core.Path.{◌≡◌, refl, sym, ap, ap₂, ◌∙◌}
-use mathlib.Core.Bool.{Bool}
+use mathlib.Core.Bool.{Bool, false}
 use mathlib.Core.List.{List, [], ◌++◌, append_assoc, append-nil}
 use Prim.Native.Nat.{ℕ, zero, suc, ◌+◌, ◌-◌, ◌≤◌}
 use native.Mathlib.Nat.{zero-add}
@@ -9,8 +9,13 @@ use lib.Ieee.{Float}
 use borrow.Rule.Slice.PartMut.{mid_of, post_of, put_mid}
 use lib.ListN.{length, take, drop, length-append, length-drop, drop_of_length-le}
 use lib.Seq.{drop-drop, take_all, length-take-le}
-use Rattle.answers.specs.Paper.{Reply, if_done}
-use Rattle.answers.proofs.PaperLaws.{done-new, done-old}
+use Rattle.std.specs.Prelude.{Result, Ok, Err}
+use Rattle.answers.specs.declared.Refusal.{Refusal}
+use Rattle.answers.specs.Paper.{Reply, paper, table, given, if_done}
+use Rattle.answers.proofs.PaperLaws.{done-old}
+use Rattle.answers.proofs.Stopped.{stopped-number}
+use Rattle.cut_values.specs.declared.CutCounted.{CutCounted}
+use Rattle.cut_values.specs.Schmidt.{no_cut}
 use Rattle.texts.specs.Text.{put, Puts}
 use Rattle.texts.proofs.TextLaws.{puts_then, puts-as}
 use Rattle.lines.specs.Lines.{refused_word}
@@ -18,7 +23,7 @@ use Rattle.certificates.specs.Accepted.{Printable, accepted_text}
 use Rattle.certificates.proofs.AcceptedLaws.{accepted-short}
 use Rattle.page_lines.specs.PageLines.{bits_line, said_line, list_line, reply_line}
 use Rattle.page_lines.proofs.PageLineLaws.{length-bits, length-said, length-list, length-reply}
-use Rattle.certificate_front.specs.Front.{page_one_line, page_two_line, digest_word, exact_word, head_text, one_text, front_text}
+use Rattle.certificate_front.specs.Front.{page_one_line, page_two_line, digest_word, exact_word, head_text, one_text, front_text, one_of, front_of, Kept}
 
 pub length-head : (page : List ℕ) (digest : ℕ) → length (head_text page digest) ≡ length page + 24
 unfolding head_text
@@ -69,18 +74,40 @@ puts-past at k r t old mid h e p =
 pub mid-long : (at : ℕ) (old : List ℕ) → at ≤ length old → length (mid_of at (length old - at) old) ≡ length old - at
 mid-long at old h = length-take-le (length old - at) (drop at old) (omega (arith, length-drop at old))
 
--- the cut is refused
-pub one-refused : (a : Reply) (n : ℕ) (l : List ℕ) (values : List Float) (begun : ℕ) (quiet exact : Bool) (at r : ℕ) (old new : List ℕ) → (a.0 ≡ 0 → ⊥)
-    → Puts at (reply_line refused_word a) old r new → Puts at (one_text a n l values begun quiet exact) old r new
-unfolding one_text
-one-refused a n l values begun quiet exact at r old new h p =
-    puts-as at r _ _ old new (done-old a.0 (accepted_text n l values begun quiet ++ said_line exact_word exact) (reply_line refused_word a) h) p
+-- ---- page one of what a cut gave
 
--- it is accepted
-pub one-done : (a : Reply) (n : ℕ) (l : List ℕ) (values : List Float) (begun : ℕ) (quiet exact : Bool) (at r t : ℕ) (old mid new : List ℕ) → a.0 ≡ 0
-    → at + length (accepted_text n l values begun quiet) ≤ length old
-    → Puts at (accepted_text n l values begun quiet) old r mid → Puts r (said_line exact_word exact) mid t new → Puts at (one_text a n l values begun quiet exact) old t new
-unfolding one_text
-one-done a n l values begun quiet exact at r t old mid new e room p q =
-    puts-as at t _ _ old new (done-new a.0 (accepted_text n l values begun quiet ++ said_line exact_word exact) (reply_line refused_word a) e)
-    (puts_then at r t _ _ old mid new room p q)
+module _ (cut : Result CutCounted Refusal) (n : ℕ) (l : List ℕ) (values : List Float) where
+  -- what its lines ask, of the answer's number
+  kept-printable : Kept cut l n values → (paper cut).0 ≡ 0 → Printable l n (take (given no_cut cut).count values)
+  kept-printable is = go cut refl
+    where
+      go : (c : Result CutCounted Refusal) → cut ≡ c → (paper c).0 ≡ 0 → Printable l n (take (given no_cut c).count values)
+      go (Ok kept) h z = is.printable kept h
+      go (Err e) h z = absurd (stopped-number e z)
+
+  pub length-one_of : Kept cut l n values → length (one_of cut n l values) ≤ 2058
+  length-one_of is =
+      let k = given no_cut cut in
+      length-one (paper cut) n l (take k.count values) k.sweeps.begun k.sweeps.quiet k.exact (kept-printable is)
+
+  pub length-front_of : (digest : ℕ) → Kept cut l n values → length l ≤ 9 → length (front_of digest cut n l values) ≤ 2314
+  length-front_of digest is few =
+      let k = given no_cut cut in
+      length_front digest (paper cut) n l (take k.count values) k.sweeps.begun k.sweeps.quiet k.exact (kept-printable is) few
+
+  -- the cut is refused
+  pub one-refused : (e : Refusal) (at r : ℕ) (old new : List ℕ) → cut ≡ Err e → Puts at (reply_line refused_word (table e)) old r new → Puts at (one_of cut n l values) old r new
+  unfolding one_text
+  one-refused e at r old new h p =
+      puts-as at r _ _ old new
+      (done-old (table e).0 (accepted_text n l (take 0 values) 0 false ++ said_line exact_word false) (reply_line refused_word (table e)) (stopped-number e)
+      ∙ ap (λ (c : Result CutCounted Refusal). one_of c n l values) (sym h)) p
+
+  -- it is accepted
+  pub one-done : (kept : CutCounted) (at r t : ℕ) (old mid new : List ℕ) → cut ≡ Ok kept
+      → at + length (accepted_text n l (take kept.count values) kept.sweeps.begun kept.sweeps.quiet) ≤ length old
+      → Puts at (accepted_text n l (take kept.count values) kept.sweeps.begun kept.sweeps.quiet) old r mid → Puts r (said_line exact_word kept.exact) mid t new
+      → Puts at (one_of cut n l values) old t new
+  unfolding one_text
+  one-done kept at r t old mid new h room p q =
+      puts-as at t _ _ old new (ap (λ (c : Result CutCounted Refusal). one_of c n l values) (sym h)) (puts_then at r t _ _ old mid new room p q)

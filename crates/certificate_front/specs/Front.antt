@@ -1,6 +1,9 @@
 -- Page one, and page two up to its list, as lists of bytes. Definitions only.
-use Rattle.std.specs.Prelude.{◌≡◌, Bool, List, [], ◌∷◌, ◌++◌, ℕ, ◌+◌, ◌≤◌, Float, length}
-use Rattle.answers.specs.Paper.{Reply, if_done}
+use Rattle.std.specs.Prelude.{◌≡◌, Bool, List, [], ◌∷◌, ◌++◌, ℕ, ◌+◌, ◌≤◌, Float, length, take, Result, Ok}
+use Rattle.answers.specs.declared.Refusal.{Refusal}
+use Rattle.answers.specs.Paper.{Reply, paper, given, if_done}
+use Rattle.cut_values.specs.declared.CutCounted.{CutCounted}
+use Rattle.cut_values.specs.Schmidt.{no_cut}
 use Rattle.lines.specs.Lines.{refused_word}
 use Rattle.certificates.specs.Accepted.{Printable, accepted_text}
 use Rattle.page_lines.specs.PageLines.{bits_line, said_line, list_line, reply_line}
@@ -34,12 +37,26 @@ unfolding head_text one_text list_line
 front_text digest a n l values begun quiet exact =
     head_text page_one_line digest ++ one_text a n l values begun quiet exact ++ head_text page_two_line digest ++ list_line l
 
--- what they ask: of an accepted cut what its lines ask, at most 9 qubits listed, and room
-pub record OneReady (a : Reply) (l : List ℕ) (n : ℕ) (values : List Float) (at room : ℕ) : Type 0 where
-  pub printable : a.0 ≡ 0 → Printable l n values
+-- the same of what a cut gave, whose values stand at the front of a list
+abbrev pub one_of : Result CutCounted Refusal → ℕ → List ℕ → List Float → List ℕ
+one_of cut n l values =
+    one_text (paper cut) n l (take (given no_cut cut).count values) (given no_cut cut).sweeps.begun (given no_cut cut).sweeps.quiet (given no_cut cut).exact
+
+abbrev pub front_of : ℕ → Result CutCounted Refusal → ℕ → List ℕ → List Float → List ℕ
+front_of digest cut n l values =
+    front_text digest (paper cut) n l (take (given no_cut cut).count values) (given no_cut cut).sweeps.begun (given no_cut cut).sweeps.quiet (given no_cut cut).exact
+
+-- what is asked of an accepted cut: its values are there, and what its lines ask
+pub record Kept (cut : Result CutCounted Refusal) (l : List ℕ) (n : ℕ) (values : List Float) : Type 0 where
+  pub held : (kept : CutCounted) → cut ≡ Ok kept → kept.count ≤ length values
+  pub printable : (kept : CutCounted) → cut ≡ Ok kept → Printable l n (take kept.count values)
+
+-- what the lines ask: that, at most 9 qubits listed, and room
+pub record OneReady (cut : Result CutCounted Refusal) (l : List ℕ) (n : ℕ) (values : List Float) (at room : ℕ) : Type 0 where
+  pub kept : Kept cut l n values
   pub fits : at + 2100 ≤ room
 
-pub record FrontReady (a : Reply) (l : List ℕ) (n : ℕ) (values : List Float) (room : ℕ) : Type 0 where
-  pub printable : a.0 ≡ 0 → Printable l n values
+pub record FrontReady (cut : Result CutCounted Refusal) (l : List ℕ) (n : ℕ) (values : List Float) (room : ℕ) : Type 0 where
+  pub kept : Kept cut l n values
   pub few : length l ≤ 9
   pub fits : 2400 ≤ room

@@ -3,18 +3,22 @@ use mathlib.Core.Path.{◌≡◌, refl, sym, ap, ap₂, subst, ◌∙◌}
 use mathlib.Core.Bool.{Bool, true, false, true≢false}
 use mathlib.Core.List.{List, ◌++◌}
 use mathlib.Core.Logic.{inl, inr}
-use Prim.Native.Nat.{ℕ, zero, suc, ◌+◌, ◌≤◌, ◌<◌}
+use Prim.Native.Nat.{ℕ, zero, suc, ◌≤◌, ◌<◌}
 use native.Mathlib.Omega.{arith}
 use native.Mathlib.Nat.{zero-add}
-use borrow.Author.Tests.{lt-ltb, le-ltb, ltb-true, ltb-false, leb-true, leb-false}
-use lib.Dec.{ltb, leb, eqb}
+use borrow.Author.Tests.{lt-ltb, le-ltb, ltb-true, ltb-false, ne_eqb}
+use lib.Dec.{ltb, eqb}
 use lib.Ieee.{Float}
 use lib.ListN.{length, take, length-append}
 use lib.Seq.{length-take-le}
-use Rattle.answers.specs.declared.Answer.TheVariants.{Length}
-use Rattle.answers.specs.Paper.{Reply, paper, done, refuse, and_then, if_done, if_worked, room}
-use Rattle.answers.proofs.PaperLaws.{Ended, done-new, done-old, worked-new, worked-old, worked-above}
+use Rattle.std.specs.Prelude.{Result, Ok, Err, is_ok}
+use Rattle.answers.specs.declared.Refusal.{Refusal}
+use Rattle.answers.specs.declared.Refusal.TheVariants.{Length}
+use Rattle.answers.specs.Paper.{Reply, paper, table, given, done, refuse, and_then, if_done, if_worked, room}
+use Rattle.answers.proofs.Stopped.{stopped-number}
+use Rattle.answers.proofs.PaperLaws.{Ended, done-new, worked-new, worked-old, worked-above}
 use Rattle.sweeps.specs.declared.Sweeps.{Sweeps}
+use Rattle.cut_values.specs.Schmidt.{no_cut}
 use Rattle.io.specs.Counts.{IsPrefixLen}
 use Rattle.cutfile.specs.Bytes.{word32}
 use Rattle.cutfile.specs.Layout.{header_answer, LongEnough, file_entry}
@@ -23,8 +27,9 @@ use Rattle.tables.specs.Tables.{filled}
 use Rattle.tables.proofs.TablesLaws.{take-filled}
 use Rattle.cut_sides.proofs.SideLaws.{is-parted}
 use Rattle.cutfile_result.specs.declared.CutResult.{CutResult}
-use Rattle.cutfile_result.specs.Result.{state_of, file_reply, file_list, file_values, file_sweeps, file_exact, Result}
-use Rattle.cutfile_result.proofs.Few.{sweeps-is, exact-file, count-few, values-front}
+use Rattle.cutfile_result.specs.Result.{state_of, file_reply, file_list, file_values, file_sweeps, file_exact}
+use Rattle.cutfile_result.specs.Result as Given
+use Rattle.cutfile_result.proofs.Few.{sweeps-is, exact-file, values-front}
 use Rattle.texts.specs.Text.{put, Puts}
 use Rattle.texts.proofs.TextLaws.{puts_then, puts-as, length-puts}
 use Rattle.lines.specs.Lines.{refused_word, refused_line}
@@ -32,28 +37,28 @@ use Rattle.lines.proofs.LineLaws.{length-refused}
 use Rattle.digests.specs.Digest.{digest_of}
 use Rattle.certificates.specs.declared.Written.{Written}
 use Rattle.certificates.specs.Accepted.{accepted_text}
-use Rattle.certificates.proofs.CertificateLaws.{file-printable}
+use Rattle.certificates.proofs.CertificateLaws.{cut-printable, few-kept}
 use Rattle.page_lines.specs.PageLines.{said_line, list_line, reply_line}
-use Rattle.certificate_front.specs.Front.{page_one_line, page_two_line, exact_word, head_text, one_text, front_text, FrontReady}
-use Rattle.certificate_front.proofs.FrontLaws.{length_front}
+use Rattle.certificate_front.specs.Front.{page_one_line, page_two_line, exact_word, head_text, one_text, front_text, front_of, Kept, FrontReady}
+use Rattle.certificate_front.proofs.FrontLaws.{length-front_of}
 use Rattle.certificate_back.specs.Back.{back_text, BackReady}
 use Rattle.certificate_back.proofs.BackLaws.{length_back}
-use Rattle.certificate_pages.specs.Pages.{pages_text, pages_of, Called, PagesPut}
+use Rattle.certificate_pages.specs.Pages.{pages_text, pages_of, Called, PagesThere}
 use Rattle.certificate_pages.proofs.BegunLaws.{begun-header, begun-taken}
 
 -- ---- whether the work was begun
 
-begun-yes : (x : ℕ) (b : Bool) → b ≡ if_worked x true false → b ≡ true → Ended x
-begun-yes zero b e f = inl refl
-begun-yes (suc x) b e f = go (ltb (suc x) 8) refl (ltb 9 (suc x)) refl
+begun-yes : (x : ℕ) → if_worked x true false ≡ true → Ended x
+begun-yes zero f = inl refl
+begun-yes (suc x) f = go (ltb (suc x) 8) refl (ltb 9 (suc x)) refl
   where
     go : (t : Bool) → ltb (suc x) 8 ≡ t → (u : Bool) → ltb 9 (suc x) ≡ u → Ended (suc x)
-    go true p u q = absurd (true≢false (sym f ∙ e ∙ sym (worked-old (suc x) true false (λ z. omega (arith, z)) (ltb-true (suc x) 8 p))))
-    go false p true q = absurd (true≢false (sym f ∙ e ∙ sym (worked-above (suc x) true false (ltb-true 9 (suc x) q))))
+    go true p u q = absurd (true≢false (sym f ∙ sym (worked-old (suc x) true false (λ z. omega (arith, z)) (ltb-true (suc x) 8 p))))
+    go false p true q = absurd (true≢false (sym f ∙ sym (worked-above (suc x) true false (ltb-true 9 (suc x) q))))
     go false p false q = inr (ltb-false (suc x) 8 p, ltb-false 9 (suc x) q)
 
-begun-no : (x : ℕ) (b : Bool) → b ≡ if_worked x true false → b ≡ false → Ended x → ⊥
-begun-no x b e f h = true≢false (worked-new x true false h ∙ sym e ∙ f)
+begun-no : (x : ℕ) → if_worked x true false ≡ false → Ended x → ⊥
+begun-no x f h = true≢false (worked-new x true false h ∙ f)
 
 none-begun : {A : Type 0} (x : ℕ) (new old : A) → (Ended x → ⊥) → old ≡ if_worked x new old
 none-begun zero new old h = absurd (h (inl refl))
@@ -64,60 +69,35 @@ none-begun {A} (suc x) new old h = go (ltb (suc x) 8) refl (ltb 9 (suc x)) refl
     go false p true q = worked-above (suc x) new old (ltb-true 9 (suc x) q)
     go false p false q = absurd (h (inr (ltb-false (suc x) 8 p, ltb-false 9 (suc x) q)))
 
--- the three ways out of the test
-pub test_zero : (x : ℕ) → x ≡ 0 → true ≡ if_worked x true false
-test_zero x e = worked-new x true false (inl e)
-
-pub test-small : (x : ℕ) → (x ≡ 0 → ⊥) → x < 8 → false ≡ if_worked x true false
-test-small x h g = worked-old x true false h g
-
-pub test-last : (x : ℕ) → 8 ≤ x → leb x 9 ≡ if_worked x true false
-test-last x h = go (leb x 9) refl
-  where
-    go : (t : Bool) → leb x 9 ≡ t → t ≡ if_worked x true false
-    go true e = worked-new x true false (inr (h, leb-true x 9 e))
-    go false e = worked-above x true false (leb-false x 9 e)
-
--- the tests in a row
-pub ruleset begun = (test_zero, test-small, test-last)
-
 done-same : {A : Type 0} (x : ℕ) (p q rest : A) → (x ≡ 0 → p ≡ q) → if_done x p rest ≡ if_done x q rest
 done-same zero p q rest h = h refl
 done-same (suc x) p q rest h = refl
 
 -- ---- a file's result
 
-module _ (file list : List ℕ) (values : List Float) (r : CutResult) (list' : List ℕ) (values' : List Float) (is : Result file list values r list' values') where
-  number_is : (paper r.answer).0 ≡ (file_reply file).0
+ok-number : {A : Type 0} (r : Result A Refusal) → is_ok r ≡ eqb (paper r).0 0
+ok-number (Ok x) = refl
+ok-number (Err e) = sym (ne_eqb (table e).0 0 (stopped-number e))
+
+module _ (file list : List ℕ) (values : List Float) (r : CutResult) (list' : List ℕ) (values' : List Float) (is : Given.Result file list values r list' values') where
+  number_is : (paper r.cut).0 ≡ (file_reply file).0
   number_is = ap (λ (a : Reply). a.0) is.answer
 
-  pub count-any : r.count ≤ 16
-  count-any = go (file_reply file).0 refl
-    where
-      go : (x : ℕ) → (file_reply file).0 ≡ x → r.count ≤ 16
-      go zero e = count-few file list values r list' values' is e
-      go (suc x) e = omega (arith, is.count ∙ sym (done-old (file_reply file).0 (length (file_values file)) 0 (λ z. omega (arith, e, z))))
+  -- the work was not begun
+  pub pages-refused : (e : Refusal) (old : List ℕ) (len : ℕ) (new : List ℕ) → r.cut ≡ Err e → if_worked (table e).0 true false ≡ false → Puts 0 (refused_line (table e)) old len new
+      → PagesThere file old len new
+  unfolding pages_of
+  pages-refused e old len new h f p =
+      let said : table e ≡ file_reply file = ap paper (sym h) ∙ is.answer in
+      let same : refused_line (table e) ≡ pages_of file =
+      ap refused_line said
+      ∙ none-begun (file_reply file).0 (pages_text file) (refused_line (file_reply file)) (λ g. begun-no (table e).0 f (subst Ended (sym (ap (λ (a : Reply). a.0) said)) g)) in
+      record { puts = puts-as 0 len _ _ old new same p; short = omega (arith, ap length same, length-refused (table e)) }
 
-  -- the test said no
-  module _ (x : ℕ) (b : Bool) (ex : x ≡ (paper r.answer).0) (eb : b ≡ if_worked x true false) where
-    pub is-ended : b ≡ true → Ended (paper r.answer).0
-    is-ended f = subst Ended ex (begun-yes x b eb f)
-
-    pub pages-refused : (old : List ℕ) (len : ℕ) (new : List ℕ) → b ≡ false → Puts 0 (refused_line (paper r.answer)) old len new
-        → PagesPut file old (record { answer = r.answer; length = len }) new
-    unfolding pages_of
-    pages-refused old len new f p =
-        let e : refused_line (paper r.answer) ≡ pages_of file =
-        ap refused_line is.answer ∙ none-begun (file_reply file).0 (pages_text file) (refused_line (file_reply file)) (λ h. begun-no x b eb f (subst Ended (sym (ex ∙ number_is)) h)) in
-        record {
-          answered = is.answer;
-          puts = puts-as 0 len _ _ old new e p;
-          short = omega (arith, ap length e, length-refused (paper r.answer));
-        }
-
-  module _ (h : Ended (paper r.answer).0) where
+  -- it was
+  module _ (w : if_worked (paper r.cut).0 true false ≡ true) where
     ended : Ended (file_reply file).0
-    ended = subst Ended number_is h
+    ended = subst Ended number_is (begun-yes (paper r.cut).0 w)
 
     header : (header_answer file).0 ≡ 0
     header = begun-header file ended
@@ -136,83 +116,79 @@ module _ (file list : List ℕ) (values : List Float) (r : CutResult) (list' : L
     fits : LongEnough file (word32 file 4) (word32 file 8)
     fits = (accepted file header).0
 
-    pub few-listed : r.k ≤ 64
-    few-listed = omega (arith, k-is, fits.k-small)
+    pub few-named : r.k ≤ 64
+    few-named = omega (arith, k-is, fits.k-small)
 
-    short : length (file_list file) ≤ 9
-    short = let p = is-parted (file_list file) (word32 file 4) 10 (begun-taken file ended) in omega (arith, p.listed.short, fits.n-small)
+    short : length (take r.k list') ≤ 9
+    short = let p = is-parted (file_list file) (word32 file 4) 10 (begun-taken file ended) in omega (arith, ap length list-is, p.listed.short, fits.n-small)
 
-    pub front-asked : (long : ℕ) → 102400 ≤ long → FrontReady (paper r.answer) (take r.k list') r.n (take r.count values') long
-    front-asked long room = record {
-      printable = λ e. file-printable file list values r list' values' is e;
-      few = omega (arith, ap length list-is, short);
-      fits = omega (arith, room);
+    kept-is : 16 ≤ length values' → Kept r.cut (take r.k list') r.n values'
+    kept-is long = record {
+      held = λ c h. omega (arith, long, few-kept file list values r list' values' is c h);
+      printable = λ c h. cut-printable file list values r list' values' is c h;
     }
 
-    pub back-asked : (at long : ℕ) → 102400 ≤ long → at ≤ 2314 → BackReady file r.n r.k (take r.k list') at long
-    back-asked at long room le = record {
+    pub front-asked : (room : ℕ) → 16 ≤ length values' → 102400 ≤ room → FrontReady r.cut (take r.k list') r.n values' room
+    front-asked room long h = record { kept = kept-is long; few = short; fits = omega (arith, h) }
+
+    pub back-asked : (at room : ℕ) → 102400 ≤ room → at ≤ 2314 → BackReady file r.n r.k (take r.k list') at room
+    back-asked at room h le = record {
       fits = rw (n-is, k-is) fits;
       taken = rw (n-is, list-is) (begun-taken file ended);
-      room-left = omega (arith, room, le);
+      room-left = omega (arith, h, le);
     }
 
     -- page one's lines are the file's: where it is refused by 8 or 9 the values do not stand in them
-    one_same : one_text (file_reply file) (word32 file 4) (file_list file) (take r.count values') r.sweeps.begun r.sweeps.quiet r.exact
+    one_same : one_text (file_reply file) (word32 file 4) (file_list file) (take (given no_cut r.cut).count values') (given no_cut r.cut).sweeps.begun (given no_cut r.cut).sweeps.quiet (given no_cut r.cut).exact
         ≡ one_text (file_reply file) (word32 file 4) (file_list file) (file_values file) (file_sweeps file).begun (file_sweeps file).quiet (file_exact file)
     unfolding one_text
     one_same =
         done-same (file_reply file).0 _ _ (reply_line refused_word (file_reply file))
-        (λ e. ap₂ (λ (v : List Float) (w : Sweeps). accepted_text (word32 file 4) (file_list file) v w.begun w.quiet ++ said_line exact_word r.exact)
+        (λ e. ap₂ (λ (v : List Float) (w : Sweeps). accepted_text (word32 file 4) (file_list file) v w.begun w.quiet ++ said_line exact_word (given no_cut r.cut).exact)
         (values-front file list values r list' values' is e) (sweeps-is file list values r list' values' is e)
         ∙ ap (λ (b : Bool). accepted_text (word32 file 4) (file_list file) (file_values file) (file_sweeps file).begun (file_sweeps file).quiet ++ said_line exact_word b)
         (exact-file file list values r list' values' is e))
 
     front_same : (digest : ℕ) → digest ≡ digest_of file
-        → front_text digest (paper r.answer) r.n (take r.k list') (take r.count values') r.sweeps.begun r.sweeps.quiet r.exact
+        → front_of digest r.cut r.n (take r.k list') values'
         ≡ front_text (digest_of file) (file_reply file) (word32 file 4) (file_list file) (file_values file) (file_sweeps file).begun (file_sweeps file).quiet (file_exact file)
     unfolding front_text
     front_same digest e =
-        ap₂ (λ (d : ℕ) (a : Reply). front_text d a r.n (take r.k list') (take r.count values') r.sweeps.begun r.sweeps.quiet r.exact) e is.answer
-        ∙ ap₂ (λ (n : ℕ) (l : List ℕ). front_text (digest_of file) (file_reply file) n l (take r.count values') r.sweeps.begun r.sweeps.quiet r.exact) n-is list-is
+        let c = given no_cut r.cut in
+        ap₂ (λ (d : ℕ) (a : Reply). front_text d a r.n (take r.k list') (take c.count values') c.sweeps.begun c.sweeps.quiet c.exact) e is.answer
+        ∙ ap₂ (λ (n : ℕ) (l : List ℕ). front_text (digest_of file) (file_reply file) n l (take c.count values') c.sweeps.begun c.sweeps.quiet c.exact) n-is list-is
         ∙ ap (λ (t : List ℕ). head_text page_one_line (digest_of file) ++ t ++ head_text page_two_line (digest_of file) ++ list_line (file_list file)) one_same
 
-    back-same : (x : ℕ) → x ≡ (paper r.answer).0
-        → back_text (state_of file r.n r.k) r.n (take r.k list') (eqb x 0)
+    back-same : (b : Bool) → b ≡ is_ok r.cut
+        → back_text (state_of file r.n r.k) r.n (take r.k list') b
         ≡ back_text (state_of file (word32 file 4) (word32 file 8)) (word32 file 4) (file_list file) (eqb (file_reply file).0 0)
-    back-same x e =
-        ap₂ (λ (n k : ℕ). back_text (state_of file n k) n (take r.k list') (eqb x 0)) n-is k-is
-        ∙ ap₂ (λ (l : List ℕ) (y : ℕ). back_text (state_of file (word32 file 4) (word32 file 8)) (word32 file 4) l (eqb y 0)) list-is (e ∙ number_is)
+    back-same b e =
+        ap₂ (λ (n k : ℕ). back_text (state_of file n k) n (take r.k list') b) n-is k-is
+        ∙ ap₂ (λ (l : List ℕ) (x : Bool). back_text (state_of file (word32 file 4) (word32 file 8)) (word32 file 4) l x) list-is
+        (e ∙ ok-number r.cut ∙ ap (λ (y : ℕ). eqb y 0) number_is)
 
-    pub next-few : (digest next : ℕ) (old mid : List ℕ)
-        → Puts 0 (front_text digest (paper r.answer) r.n (take r.k list') (take r.count values') r.sweeps.begun r.sweeps.quiet r.exact) old next mid → next ≤ 2314
-    next-few digest next old mid p =
-        omega (
-          arith,
-          p.next,
-          length_front digest (paper r.answer) r.n (take r.k list') (take r.count values') r.sweeps.begun r.sweeps.quiet r.exact
-              (λ e. file-printable file list values r list' values' is e) (omega (arith, ap length list-is, short)),
-        )
+    pub next-few : (digest next : ℕ) (old mid : List ℕ) → 16 ≤ length values' → Puts 0 (front_of digest r.cut r.n (take r.k list') values') old next mid → next ≤ 2314
+    next-few digest next old mid long p = omega (arith, p.next, length-front_of r.cut r.n (take r.k list') values' digest (kept-is long) short)
 
-    pub pages-done : (digest next len x : ℕ) (old mid new : List ℕ) → digest ≡ digest_of file → x ≡ (paper r.answer).0 → 102400 ≤ length old
-        → Puts 0 (front_text digest (paper r.answer) r.n (take r.k list') (take r.count values') r.sweeps.begun r.sweeps.quiet r.exact) old next mid
-        → Puts next (back_text (state_of file r.n r.k) r.n (take r.k list') (eqb x 0)) mid len new
-        → PagesPut file old (record { answer = r.answer; length = len }) new
+    pub pages-done : (digest next len : ℕ) (b : Bool) (old mid new : List ℕ) → 16 ≤ length values' → digest ≡ digest_of file → b ≡ is_ok r.cut → 102400 ≤ length old
+        → Puts 0 (front_of digest r.cut r.n (take r.k list') values') old next mid
+        → Puts next (back_text (state_of file r.n r.k) r.n (take r.k list') b) mid len new
+        → PagesThere file old len new
     unfolding pages_of pages_text
-    pages-done digest next len x old mid new ed ex room p q =
-        let few = next-few digest next old mid p in
-        let F = front_text digest (paper r.answer) r.n (take r.k list') (take r.count values') r.sweeps.begun r.sweeps.quiet r.exact in
-        let B = back_text (state_of file r.n r.k) r.n (take r.k list') (eqb x 0) in
+    pages-done digest next len b old mid new long ed eb room p q =
+        let few = next-few digest next old mid long p in
+        let F = front_of digest r.cut r.n (take r.k list') values' in
+        let B = back_text (state_of file r.n r.k) r.n (take r.k list') b in
         let e : F ++ B ≡ pages_of file =
-        ap₂ (λ (a b : List ℕ). a ++ b) (front_same digest ed) (back-same x ex) ∙ worked-new (file_reply file).0 (pages_text file) (refused_line (file_reply file)) ended in
+        ap₂ (λ (x y : List ℕ). x ++ y) (front_same digest ed) (back-same b eb) ∙ worked-new (file_reply file).0 (pages_text file) (refused_line (file_reply file)) ended in
         record {
-          answered = is.answer;
           puts = puts-as 0 len _ _ old new e (puts_then 0 next len F B old mid new (omega (arith, p.next, few, room)) p q);
-          short = omega (arith, ap length e, length-append F B, p.next, few, length_back (state_of file r.n r.k) r.n (take r.k list') (eqb x 0));
+          short = omega (arith, ap length e, length-append F B, p.next, few, length_back (state_of file r.n r.k) r.n (take r.k list') b);
         }
 
 -- ---- the calls
 
-pub called-short : (need : ℕ) (reply : Reply) (print old : List ℕ) → length old < need → Called need reply print old (record { answer = Length 1; length = 0 }) old
+pub called-short : (need : ℕ) (reply : Reply) (print old : List ℕ) → length old < need → Called need reply print old (record { answer = Err (Length 1); length = 0 }) old
 called-short need reply print old h =
     let e : room 1 (length old) need ≡ (6, 1) = ap (λ (t : Bool). refuse t (6, 1) done) (lt-ltb (length old) need h) in
     record {

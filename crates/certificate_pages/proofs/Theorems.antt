@@ -5,8 +5,7 @@ use mathlib.Core.List.{List, [], ◌++◌}
 use Prim.Native.Nat.{ℕ, zero, suc, ◌*◌, ◌^◌}
 use native.Mathlib.Omega.{arith}
 use lib.ListN.{length}
-use Rattle.answers.specs.declared.Answer.{Answer}
-use Rattle.answers.specs.Paper.{Reply, after}
+use Rattle.answers.specs.Paper.{Answer, Reply, after}
 use Rattle.answers.proofs.PaperLaws.{Ended}
 use Rattle.answers.proofs.Theorems.{paper-one}
 use Rattle.complex.specs.Cells.{written}

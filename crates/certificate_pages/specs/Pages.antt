@@ -1,8 +1,9 @@
 -- Both pages of a cut file, for every list of bytes. Definitions only.
-use Rattle.std.specs.Prelude.{◌≡◌, List, ◌++◌, ℕ, ◌≤◌, eqb, length}
+use Rattle.std.specs.Prelude.{◌≡◌, true, false, List, ◌++◌, ℕ, ◌≤◌, eqb, Float, length}
 use Rattle.answers.specs.Paper.{Reply, paper, and_then, if_done, if_worked, room}
 use Rattle.cutfile.specs.Bytes.{word32}
-use Rattle.cutfile_result.specs.Result.{state_of, file_reply, file_list, file_values, file_sweeps, file_exact}
+use Rattle.cutfile_result.specs.declared.CutResult.{CutResult}
+use Rattle.cutfile_result.specs.Result.{state_of, file_reply, file_list, file_values, file_sweeps, file_exact, Result}
 use Rattle.texts.specs.Text.{put, Puts}
 use Rattle.lines.specs.Lines.{refused_line}
 use Rattle.digests.specs.Digest.{digest_from, digest_of}
@@ -28,8 +29,18 @@ pub record Called (need : ℕ) (reply : Reply) (print old : List ℕ) (r : Writt
   pub length-is : r.length ≡ if_done (room 1 (length old) need).0 (length print) 0
   pub text-is : new ≡ if_done (room 1 (length old) need).0 (put 0 print old) old
 
--- the same where there is room
+-- the same where there is room: what is put at the front, and the answer
+pub record PagesThere (file old : List ℕ) (r : ℕ) (new : List ℕ) : Type 0 where
+  pub puts : Puts 0 (pages_of file) old r new
+  pub short : length (pages_of file) ≤ 102400
+
 pub record PagesPut (file old : List ℕ) (r : Written) (new : List ℕ) : Type 0 where
   pub answered : paper r.answer ≡ file_reply file
-  pub puts : Puts 0 (pages_of file) old r.length new
-  pub short : length (pages_of file) ≤ 102400
+  pub there : PagesThere file old r.length new
+
+-- what both pages ask: what `cut_result` gave of a file, over two lists, where the work on it was begun
+pub record Begun (file : List ℕ) (r : CutResult) (list : List ℕ) (values : List Float) : Type 0 where
+  pub old-list : List ℕ
+  pub old-values : List Float
+  pub is : Result file old-list old-values r list values
+  pub worked : if_worked (paper r.cut).0 true false ≡ true

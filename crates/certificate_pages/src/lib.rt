@@ -2,28 +2,32 @@
 // another answer than 8 or 9 gives one line. Buffers are filled arrays, and no file is refused by 6.
 #![tactic(auto)]
 
-ghost use Rattle.std.specs.Prelude.{◌≡◌, true, false, ◌≤◌, length};
-ghost use Rattle.answers.specs.Paper.{if_worked};
+ghost use Rattle.std.specs.Prelude.{◌≤◌, length};
 ghost use Rattle.io.specs.Counts.{IsPrefixLen};
 ghost use Rattle.cutfile_result.specs.Result.{file_reply};
 ghost use Rattle.certificates.specs.Certificate.{certificate_of};
-ghost use Rattle.certificate_pages.specs.Pages.{pages_of, PagesPut, Called};
+ghost use Rattle.certificate_pages.specs.Pages.{pages_of, Begun, PagesThere, PagesPut, Called};
 
-use answers::Answer;
+use answers::Refusal;
 use certificates::Written;
+use cutfile_result::CutResult;
 
-// Whether the work on a file was begun: its answer is 0, 8 or 9.
-#[tactic(auto, using(crate::proofs::PagesLaws::begun))]
-fn was_begun(number: usize) -> bool
-    ensures { result ≡ if_worked number true false }
+// Puts both pages of a file whose work was begun at the front of text, and answers their length.
+fn put_both(
+    file: &[u8],
+    given: CutResult,
+    list: &[usize; 64],
+    values: &[f64; 16],
+    text: &mut [u8],
+) -> usize
+    requires begun { Begun file.now given list.now values.now }
+    requires room { 102400 ≤ length text.old }
+    ensures { PagesThere file.now text.old result text.new }
 {
-    if number == 0 {
-        return true;
-    }
-    if number < 8 {
-        return false;
-    }
-    number <= 9
+    let named = &list[..given.k];
+    let digest = digests::digest(file);
+    let next = certificate_front::put_front(text, digest, given.n, named, values, given.cut);
+    certificate_back::put_back(text, next, file, given.n, given.k, named, given.cut.is_ok())
 }
 
 // Both pages of a file, or `refused N P`, at the front of text.
@@ -33,32 +37,18 @@ fn put_pages(file: &[u8], text: &mut [u8]) -> Written
 {
     let mut list = [0usize; 64];
     let mut values = [0.0f64; 16];
-    let result = cutfile_result::cut_result(file, &mut list, &mut values);
-    let answer = result.answer;
-    let reply = answers::number_of(answer);
-    let number = reply.number;
-    if was_begun(number) {
-        let n = result.n;
-        let k = result.k;
-        let count = result.count;
-        let sweeps = result.sweeps;
-        let digest = digests::digest(file);
-        let next = certificate_front::put_front(
-            text,
-            digest,
-            answer,
-            &list[..k],
-            n,
-            &values[..count],
-            sweeps.begun,
-            sweeps.quiet,
-            result.exact,
-        );
-        let length = certificate_back::put_back(text, next, file, n, k, &list[..k], number == 0);
-        return Written { answer, length };
+    let given = cutfile_result::cut_result(file, &mut list, &mut values);
+    let answer = given.cut.map(|_| ());
+    match given.cut {
+        Ok(_) | Err(Refusal::NoWeight | Refusal::NotFinite) => {
+            let length = put_both(file, given, &list, &values, text);
+            Written { answer, length }
+        }
+        Err(refusal) => {
+            let length = lines::put_refused(text, Err(refusal));
+            Written { answer, length }
+        }
     }
-    let length = lines::put_refused(text, answer);
-    Written { answer, length }
 }
 
 // Both pages: answered as the file is, or 6 where the text has less room than the need of any, 102,400.
@@ -68,7 +58,7 @@ pub fn print_pages(file: &[u8], text: &mut [u8]) -> Written
 {
     if text.len() < 102400 {
         return Written {
-            answer: Answer::Length(1),
+            answer: Err(Refusal::Length(1)),
             length: 0,
         };
     }
@@ -82,7 +72,7 @@ pub fn print_certificate(file: &[u8], text: &mut [u8]) -> Written
 {
     if text.len() < 2048 {
         return Written {
-            answer: Answer::Length(1),
+            answer: Err(Refusal::Length(1)),
             length: 0,
         };
     }

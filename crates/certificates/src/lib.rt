@@ -9,7 +9,7 @@ ghost use Rattle.texts.specs.Text.{Puts};
 ghost use Rattle.certificates.specs.Accepted.{Printable, sided_text, accepted_text, Printed};
 ghost use Rattle.certificates.specs.Certificate.{certificate_of};
 
-use answers::Answer;
+use answers::Refusal;
 
 // The lines, with the smaller side's list at hand: rows and columns are its size and that of the others.
 fn put_sided(
@@ -69,7 +69,7 @@ pub fn put_accepted(
 // Inner. The file's answer, and how long its text is.
 #[derive(Clone, Copy)]
 pub struct Written {
-    pub answer: Answer,
+    pub answer: Result<(), Refusal>,
     pub length: usize,
 }
 
@@ -84,24 +84,29 @@ pub fn answered(file: &[u8], out: &mut [u8]) -> Written
     let mut list = [0usize; 64];
     let mut values = [0.0f64; 16];
     let result = cutfile_result::cut_result(file, &mut list, &mut values);
-    let answer = result.answer;
-    let n = result.n;
-    let k = result.k;
-    let count = result.count;
-    let sweeps = result.sweeps;
-    let Answer::Done = answer else {
-        let length = lines::put_refused(out, answer);
-        return Written { answer, length };
-    };
-    let length = put_accepted(
-        &list[..k],
-        n,
-        &values[..count],
-        sweeps.begun,
-        sweeps.quiet,
-        out,
-    );
-    Written { answer, length }
+    match result.cut {
+        Ok(cut) => {
+            let length = put_accepted(
+                &list[..result.k],
+                result.n,
+                &values[..cut.count],
+                cut.sweeps.begun,
+                cut.sweeps.quiet,
+                out,
+            );
+            Written {
+                answer: Ok(()),
+                length,
+            }
+        }
+        Err(refusal) => {
+            let length = lines::put_refused(out, Err(refusal));
+            Written {
+                answer: Err(refusal),
+                length,
+            }
+        }
+    }
 }
 
 // Inner: the same; answers the text's length alone, as the program wants it.
@@ -110,6 +115,5 @@ pub fn certificate(file: &[u8], out: &mut [u8]) -> usize
     ensures printed { Printed (certificate_of file.now) out.old result out.new }
     ensures prefix_len { IsPrefixLen result out.new }
 {
-    let all = answered(file, out);
-    all.length
+    answered(file, out).length
 }

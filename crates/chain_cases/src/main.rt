@@ -10,34 +10,21 @@
 // scratch 32,904, the others 64.
 #![tactic(auto)]
 
-use chain_fill::Chained;
-use std::io::Result;
-
-// The changes of a state, of which the text has the count at `at`; where the text goes on.
-fn changed(text: &[u8], at: usize, s: &mut [f64]) -> usize {
-    replay::change(text, replay::past(text, at), s, replay::size_at(text, at))
-}
-
-// The same over numbers that count up from the first.
-fn counted(text: &[u8], at: usize, first: u64, s: &mut [f64]) -> usize {
-    replay::count_up(s, first);
-    changed(text, at, s)
-}
+use std::io;
 
 // The numbers of a state as the text has them, from the word after its length on; where the text goes on.
 fn read_state(text: &[u8], at: usize, s: &mut [f64]) -> usize {
-    let first = replay::next_word(text, at).value;
+    let first = replay::word_at(text, at);
     if first > 0 {
-        return counted(text, replay::past(text, at), first, s);
+        replay::count_up(s, first);
     }
-    changed(text, replay::past(text, at), s)
-}
-
-fn print_chained(rt: &impl Print, r: Chained) -> Result<()> {
-    let answer = r.answer;
-    let dropped = r.dropped;
-    replay::print_answer(rt, answer)?;
-    replay::print_word(rt, replay::word_of(dropped))
+    let count = replay::past(text, at);
+    replay::change(
+        text,
+        replay::past(text, count),
+        s,
+        replay::size_at(text, count),
+    )
 }
 
 // The call, its answer and the lent slices as it leaves them.
@@ -55,17 +42,17 @@ fn take_apart(
     u: &mut [f64],
     vt: &mut [f64],
     scratch: &mut [f64],
-) -> Result<()> {
-    print_chained(
+) -> io::Result<()> {
+    replay::print_count(
         rt,
         chains::chain_of_sites(
             state, n, epsilon, limit, sites, bonds, starts, marks, matrix, u, vt, scratch,
         ),
     )?;
     replay::print_or_digest(rt, sites)?;
-    replay::print_counts(rt, bonds)?;
-    replay::print_counts(rt, starts)?;
-    replay::print_counts(rt, marks)?;
+    replay::print_numbers(rt, bonds)?;
+    replay::print_numbers(rt, starts)?;
+    replay::print_numbers(rt, marks)?;
     replay::print_or_digest(rt, matrix)?;
     replay::print_or_digest(rt, u)?;
     replay::print_or_digest(rt, vt)?;
@@ -83,18 +70,18 @@ fn page(
     ranks: &mut [usize],
     marks: &mut [usize],
     scratch: &mut [f64],
-) -> Result<()> {
+) -> io::Result<()> {
     replay::print_answer(
         rt,
-        profiles::cut_profile(
+        &profiles::cut_profile(
             state, n, cap, header, values, largest, ranks, marks, scratch,
         ),
     )?;
-    replay::print_counts(rt, header)?;
+    replay::print_numbers(rt, header)?;
     replay::print_or_digest(rt, values)?;
     replay::print_or_digest(rt, largest)?;
-    replay::print_counts(rt, ranks)?;
-    replay::print_counts(rt, marks)?;
+    replay::print_numbers(rt, ranks)?;
+    replay::print_numbers(rt, marks)?;
     replay::print_or_digest(rt, scratch)
 }
 
@@ -115,13 +102,13 @@ fn call(
     u: &mut [f64],
     vt: &mut [f64],
     scratch: &mut [f64],
-) -> Result<()> {
-    if kind == 1 {
-        return take_apart(
+) -> io::Result<()> {
+    match kind {
+        1 => take_apart(
             rt, state, n, epsilon, limit, sites, bonds, starts, marks, matrix, u, vt, scratch,
-        );
+        ),
+        _ => page(rt, state, n, limit, bonds, u, vt, starts, marks, scratch),
     }
-    page(rt, state, n, limit, bonds, u, vt, starts, marks, scratch)
 }
 
 fn pick(kind: u64, of_chain: usize, of_page: usize) -> usize {
@@ -138,7 +125,7 @@ fn lend(
     n: usize,
     epsilon: f64,
     limit: usize,
-) -> Result<usize> {
+) -> io::Result<usize> {
     let mut sites = [3.0; 21840];
     let mut bonds = [4613937818241073152usize; 64];
     let mut starts = [4613937818241073152usize; 64];
@@ -174,7 +161,7 @@ fn lend(
     Ok(replay::skip(text, at, pick(kind, 8, 6)))
 }
 
-fn case(rt: &impl Print, text: &[u8], at: usize, kind: u64) -> Result<usize> {
+fn case(rt: &impl Print, text: &[u8], kind: u64, at: usize) -> io::Result<usize> {
     let mut numbers = [0.0; 8200];
     let count = replay::size_at(text, at);
     let next = read_state(text, replay::past(text, at), &mut numbers);
@@ -185,28 +172,16 @@ fn case(rt: &impl Print, text: &[u8], at: usize, kind: u64) -> Result<usize> {
         text,
         replay::past(text, last),
         kind,
-        replay::front_floats(&numbers, count),
+        replay::front(&numbers, count),
         replay::size_at(text, next),
-        replay::float_of(replay::next_word(text, second).value),
+        replay::float_at(text, second),
         replay::size_at(text, last),
     )
 }
 
-fn run(rt: &impl Print, text: &[u8]) -> Result<()> {
-    let mut at = 0;
-    for _ in 0..10000usize {
-        let kind = replay::next_word(text, at);
-        if !kind.found {
-            return Ok(());
-        }
-        at = case(rt, text, kind.next, kind.value)?;
-        replay::end_line(rt)?;
-    }
-    Ok(())
-}
-
-fn main(rt: HostRuntime) -> Result<()> {
+fn main(rt: HostRuntime) -> io::Result<()> {
     let mut text = [0u8; 98304];
     let n = inputs::read_full(&mut rt.reader(), &mut text);
-    run(&rt, &text[..n])
+    let text = &text[..n];
+    replay::run(&rt, text, |kind, at| case(&rt, text, kind, at))
 }

@@ -1,43 +1,27 @@
 -- The refusals before the work: which test says what, and what an accepted call has passed. Assumes nothing.
-use mathlib.Core.Path.{◌≡◌, refl, ap, ap₂, ◌∙◌}
+use mathlib.Core.Path.{◌≡◌, refl, sym, ap}
 use mathlib.Core.Bool.{not}
 use mathlib.Core.List.{List, [], ◌∷◌}
-use Prim.Native.Nat.{ℕ, zero, suc, ◌+◌, ◌-◌, ◌*◌, ◌/◌, ◌^◌, ◌≤◌, ◌<◌}
+use Prim.Native.Nat.{ℕ, zero, suc, ◌+◌, ◌/◌, ◌^◌, ◌≤◌, ◌<◌}
 use native.Mathlib.Omega.{arith}
 use lib.Dec.{eqb, ltb}
 use lib.ListN.{length}
 use lib.Pow.{pow_mono}
 use lib.Ieee.{Float}
-use borrow.Author.Tests.{eq-eqb, ne_eqb, lt-ltb, le-ltb, eqb-false, ltb-false}
-use Rattle.answers.specs.Paper.{Reply, done, refuse, and_then, exactly, room}
-use Rattle.answers.proofs.PaperLaws.{both, refuse-done, and_then-done, exactly-done, room-done, refuse-small, then-small, exactly-small, room_small}
+use borrow.Author.Tests.{eqb-false, ltb-false}
+use Rattle.std.specs.Prelude.{Ok, Err, IfOk}
+use Rattle.answers.specs.Paper.{Answer, Reply, paper, done, refuse, exactly, room}
+use Rattle.answers.proofs.PaperLaws.{refuse-done, and_then-done, exactly-done, room-done, refuse-small, then-small, exactly-small, room_small}
 use Rattle.numbers.specs.Numbers.{allowed_for}
 use Rattle.chain_start.specs.Start.{components_for}
-use Rattle.chain_walk.specs.Chain.{room_to}
-use Rattle.chain_checks.specs.Checks.{need_sites, need_marks, need_plane, need_scratch, chain_sizes, result_lengths, scratch_lengths, chain_tests}
+use Rattle.chain_checks.specs.Checks.{need_sites, need_marks, need_plane, need_scratch, chain_sizes, result_lengths, scratch_lengths, chain_tests, ChainAccepted}
 
 -- ---- 1
 
 module _ (n limit : ℕ) where
-  pub sizes-limit : limit ≡ 0 → (1, 0) ≡ chain_sizes n limit
+  pub sizes_done : (chain_sizes n limit).0 ≡ 0 → (1 ≤ limit) × (1 ≤ n) × (n ≤ 12)
   unfolding chain_sizes
-  sizes-limit h = rw (eq-eqb limit 0 h)
-
-  pub sizes-low : (limit ≡ 0 → ⊥) → n < 1 → (1, 0) ≡ chain_sizes n limit
-  unfolding chain_sizes
-  sizes-low h l = rw (ne_eqb limit 0 h, lt-ltb n 1 l)
-
-  pub sizes-high : (limit ≡ 0 → ⊥) → 1 ≤ n → 12 < n → (1, 0) ≡ chain_sizes n limit
-  unfolding chain_sizes
-  sizes-high h l m = rw (ne_eqb limit 0 h, le-ltb n 1 l, lt-ltb 12 n m)
-
-  pub sizes-good : (limit ≡ 0 → ⊥) → 1 ≤ n → n ≤ 12 → done ≡ chain_sizes n limit
-  unfolding chain_sizes
-  sizes-good h l m = rw (ne_eqb limit 0 h, le-ltb n 1 l, le-ltb 12 n m)
-
-  pub sizes-done : (chain_sizes n limit).0 ≡ 0 → (1 ≤ limit) × (1 ≤ n) × (n ≤ 12)
-  unfolding chain_sizes
-  sizes-done e =
+  sizes_done e =
       let a = refuse-done (eqb limit 0) 0 0 _ e in
       let b = refuse-done (ltb n 1) 0 0 _ a.1 in
       let c = refuse-done (ltb 12 n) 0 0 done b.1 in
@@ -50,49 +34,18 @@ module _ (n limit : ℕ) where
 
 -- ---- the lengths
 
-pub plane-few : (n : ℕ) → n ≤ 12 → 2 ^ n ≤ 4096
-plane-few n h = let m : 2 ^ n ≤ 2 ^ 12 = pow_mono h in omega arith
+pub plane_few : (n : ℕ) → n ≤ 12 → 2 ^ n ≤ 4096
+plane_few n h = let m : 2 ^ n ≤ 2 ^ 12 = pow_mono h in omega arith
 
-pub side-few : (n : ℕ) → n ≤ 12 → 2 ^ (n / 2) ≤ 4096
-side-few n h = plane-few (n / 2) (omega arith)
-
-pub results-are : (n limit state sites bonds starts marks : ℕ) {cells most : ℕ} {r0 r1 r2 r3 r4 q1 q2 q3 q4 : Reply} → cells ≡ 2 ^ n → most ≡ room_to n limit n
-    → r0 ≡ exactly 0 state (2 * cells) → r1 ≡ room 1 sites (2 * most) → r2 ≡ room 2 bonds (n + 1) → r3 ≡ room 3 starts (n + 1) → r4 ≡ room 4 marks (3 * (n - 1))
-    → q1 ≡ and_then r3 r4 → q2 ≡ and_then r2 q1 → q3 ≡ and_then r1 q2 → q4 ≡ and_then r0 q3 → q4 ≡ result_lengths n limit state sites bonds starts marks
-unfolding result_lengths
-results-are n limit state sites bonds starts marks e f a0 a1 a2 a3 a4 b1 b2 b3 b4 =
-    both b4 (a0 ∙ ap (λ (x : ℕ). exactly 0 state (2 * x)) e) (both b3 (a1 ∙ ap (λ (x : ℕ). room 1 sites (2 * x)) f) (both b2 a2 (both b1 a3 a4)))
-
-pub scratch-are : (n matrix u vt scratch : ℕ) {cells side : ℕ} {r5 r6 r7 r8 q1 q2 q3 : Reply} → cells ≡ 2 ^ n → side ≡ 2 ^ (n / 2)
-    → r5 ≡ room 5 matrix (2 * cells) → r6 ≡ room 6 u (2 * cells) → r7 ≡ room 7 vt (2 * cells) → r8 ≡ room 8 scratch (6 * cells + 2 * side)
-    → q1 ≡ and_then r7 r8 → q2 ≡ and_then r6 q1 → q3 ≡ and_then r5 q2 → q3 ≡ scratch_lengths n matrix u vt scratch
-unfolding scratch_lengths
-scratch-are n matrix u vt scratch e f a5 a6 a7 a8 b1 b2 b3 =
-    both b3 (a5 ∙ ap (λ (x : ℕ). room 5 matrix (2 * x)) e)
-    (both b2 (a6 ∙ ap (λ (x : ℕ). room 6 u (2 * x)) e)
-    (both b1 (a7 ∙ ap (λ (x : ℕ). room 7 vt (2 * x)) e) (a8 ∙ ap₂ (λ (x y : ℕ). room 8 scratch (6 * x + 2 * y)) e f)))
-
--- what an accepted call has passed
-pub record ChainAccepted (n limit state sites bonds starts marks matrix u vt scratch : ℕ) : Type 0 where
-  pub limit-some : 1 ≤ limit
-  pub some : 1 ≤ n
-  pub small : n ≤ 12
-  pub state-is : state ≡ need_plane n
-  pub sites-fit : need_sites n limit ≤ sites
-  pub bonds-fit : n + 1 ≤ bonds
-  pub starts_fit : n + 1 ≤ starts
-  pub marks-fit : need_marks n ≤ marks
-  pub matrix-fits : need_plane n ≤ matrix
-  pub u-fits : need_plane n ≤ u
-  pub vt-fits : need_plane n ≤ vt
-  pub scratch-fits : need_scratch n ≤ scratch
+pub side_few : (n : ℕ) → n ≤ 12 → 2 ^ (n / 2) ≤ 4096
+side_few n h = plane_few (n / 2) (omega arith)
 
 pub accepted : (s : List Float) (n limit sites bonds starts marks matrix u vt scratch : ℕ) → (chain_tests s n limit sites bonds starts marks matrix u vt scratch).0 ≡ 0
     → ChainAccepted n limit (length s) sites bonds starts marks matrix u vt scratch
 unfolding chain_tests result_lengths scratch_lengths
 accepted s n limit sites bonds starts marks matrix u vt scratch e =
     let first = and_then-done (chain_sizes n limit) _ e in
-    let z = sizes-done n limit first.0 in
+    let z = sizes_done n limit first.0 in
     let second = and_then-done (result_lengths n limit (length s) sites bonds starts marks) _ first.1 in
     let third = and_then-done (scratch_lengths n matrix u vt scratch) (components_for 190 0 s) second.1 in
     let a0 = and_then-done (exactly 0 (length s) (need_plane n)) _ second.0 in
@@ -116,6 +69,11 @@ accepted s n limit sites bonds starts marks matrix u vt scratch e =
       vt-fits = room-done 7 vt (need_plane n) a7.0;
       scratch-fits = room-done 8 scratch (need_scratch n) a7.1;
     }
+
+pub accepts : (s : List Float) (n limit sites bonds starts marks matrix u vt scratch : ℕ) (r : Answer) → paper r ≡ chain_tests s n limit sites bonds starts marks matrix u vt scratch
+    → IfOk r (λ _. ChainAccepted n limit (length s) sites bonds starts marks matrix u vt scratch)
+accepts s n limit sites bonds starts marks matrix u vt scratch (Ok x) e = accepted s n limit sites bonds starts marks matrix u vt scratch (ap (λ (y : Reply). y.0) (sym e))
+accepts s n limit sites bonds starts marks matrix u vt scratch (Err x) e = tt
 
 -- ---- no refusal before the work has a number from 8 on
 

@@ -1,5 +1,5 @@
 -- The lengths that the chain of sites asks, and its refusals before the work. Definitions only.
-use Rattle.std.specs.Prelude.{List, ℕ, ◌+◌, ◌-◌, ◌*◌, ◌/◌, ◌^◌, eqb, ltb, length, Float}
+use Rattle.std.specs.Prelude.{◌≡◌, List, ℕ, ◌+◌, ◌-◌, ◌*◌, ◌/◌, ◌^◌, ◌≤◌, eqb, ltb, length, Float}
 use Rattle.answers.specs.Paper.{Reply, done, refuse, and_then, exactly, room}
 use Rattle.chain_start.specs.Start.{components_for}
 use Rattle.chain_walk.specs.Chain.{room_to}
@@ -46,3 +46,18 @@ chain_tests s n limit sites bonds starts marks matrix u vt scratch =
     and_then (chain_sizes n limit)
     (and_then (result_lengths n limit (length s) sites bonds starts marks)
     (and_then (scratch_lengths n matrix u vt scratch) (components_for 190 0 s)))
+
+-- what an accepted call has passed
+pub record ChainAccepted (n limit state sites bonds starts marks matrix u vt scratch : ℕ) : Type 0 where
+  pub limit-some : 1 ≤ limit
+  pub some : 1 ≤ n
+  pub small : n ≤ 12
+  pub state-is : state ≡ need_plane n
+  pub sites-fit : need_sites n limit ≤ sites
+  pub bonds-fit : n + 1 ≤ bonds
+  pub starts_fit : n + 1 ≤ starts
+  pub marks-fit : need_marks n ≤ marks
+  pub matrix-fits : need_plane n ≤ matrix
+  pub u-fits : need_plane n ≤ u
+  pub vt-fits : need_plane n ≤ vt
+  pub scratch-fits : need_scratch n ≤ scratch

@@ -1,15 +1,10 @@
 -- What a chain of sites is, and the contracts of its work. Definitions only.
-use Rattle.std.specs.Prelude.{◌≡◌, cond, List, [], ◌∷◌, ◌++◌, ℕ, ◌+◌, ◌-◌, ◌*◌, ◌/◌, ◌^◌, ◌≤◌, ltb, length, take, set, get_or, Float}
-use Rattle.std.specs.Float.{nan}
-use Rattle.answers.specs.Paper.{Reply, paper, refuse, if_done}
-use Rattle.complex.specs.Zeros.{zero_float, zeros}
+use Rattle.std.specs.Prelude.{◌≡◌, List, [], ◌∷◌, ◌++◌, ℕ, ◌+◌, ◌-◌, ◌*◌, ◌/◌, ◌^◌, ◌≤◌, length, take, set, Float, Result, IfOk}
+use Rattle.answers.specs.Paper.{Reply, paper, refuse}
+use Rattle.complex.specs.Zeros.{zeros}
 use Rattle.chain_start.specs.Start.{state_zero, carried_first}
 use Rattle.chain_walk.specs.Chain.{Links, links_to, reply_to, room_to}
-use Rattle.chain_fill.specs.declared.Chained.{Chained}
-
--- number i of the first count, and +0.0 past them
-abbrev pub number_at : List Float → ℕ → ℕ → Float
-number_at s count i = cond (ltb i count) (get_or s i nan) zero_float
+use Rattle.answers.specs.declared.Refusal.{Refusal}
 
 -- ---- the chain of a state
 
@@ -77,11 +72,15 @@ pub record FillRoom (n limit state sites bonds starts marks u vt scratch : ℕ) 
   pub vt_is : vt ≡ 2 * 2 ^ n
   pub scratch-is : scratch ≡ 6 * 2 ^ n + 2 * 2 ^ (n / 2)
 
+-- the chain, and how many cuts dropped a value above the resolution
+pub record ChainMade (s : List Float) (n : ℕ) (epsilon : Float) (limit dropped : ℕ) (sites : List Float) (bonds starts marks : List ℕ) : Type 0 where
+  pub dropped-is : dropped ≡ dropped_of s n epsilon limit
+  pub sites-is : sites ≡ chain_of s n epsilon limit ++ zeros (2 * room_to n limit n - length (chain_of s n epsilon limit))
+  pub bonds-is : bonds ≡ bonds_of s n epsilon limit
+  pub starts_is : starts ≡ starts_of s n epsilon limit
+  pub marks-is : marks ≡ marks_of s n epsilon limit
+
 -- the answer, and where it is 0 the chain
-pub record ChainFilled (s : List Float) (n : ℕ) (epsilon : Float) (limit : ℕ) (r : Chained) (sites : List Float) (bonds starts marks : List ℕ) : Type 0 where
-  pub answer : paper r.answer ≡ work_reply s n epsilon limit
-  pub dropped-is : r.dropped ≡ if_done (paper r.answer).0 (dropped_of s n epsilon limit) 0
-  pub sites-is : (paper r.answer).0 ≡ 0 → sites ≡ chain_of s n epsilon limit ++ zeros (2 * room_to n limit n - length (chain_of s n epsilon limit))
-  pub bonds-is : (paper r.answer).0 ≡ 0 → bonds ≡ bonds_of s n epsilon limit
-  pub starts_is : (paper r.answer).0 ≡ 0 → starts ≡ starts_of s n epsilon limit
-  pub marks-is : (paper r.answer).0 ≡ 0 → marks ≡ marks_of s n epsilon limit
+pub record ChainFilled (s : List Float) (n : ℕ) (epsilon : Float) (limit : ℕ) (r : Result ℕ Refusal) (sites : List Float) (bonds starts marks : List ℕ) : Type 0 where
+  pub answer : paper r ≡ work_reply s n epsilon limit
+  pub made : IfOk r (λ dropped. ChainMade s n epsilon limit dropped sites bonds starts marks)

@@ -1,39 +1,18 @@
-// Inner: the work of an accepted call, over slices of exactly the needed lengths.
+// Inner: the ends of a chain of sites: its last site, and both ends of its bonds and starts.
 #![tactic(auto)]
 
-ghost use Rattle.std.specs.Prelude.{◌≡◌, ◌+◌, ◌-◌, ◌*◌, ◌≤◌, ◌++◌, length, take, set};
+ghost use Rattle.std.specs.Prelude.{◌≡◌, ◌-◌, ◌≤◌, ◌++◌, length, take};
 ghost use Rattle.complex.specs.Zeros.{zeros};
-ghost use Rattle.chain_fill.specs.Fill.{number_at, LastRoom, Last, FillRoom, ChainFilled};
-
-use answers::Answer;
-
-// The answer, and how many cuts dropped a value above the resolution.
-#[derive(Clone, Copy)]
-pub struct Chained {
-    pub answer: Answer,
-    pub dropped: usize,
-}
-
-// Number i of the first count numbers of s, and +0.0 past them.
-fn number_at(s: &[f64], count: usize, i: usize) -> f64
-    requires { count ≤ length s.now }
-    ensures { result ≡ number_at s.now count i }
-{
-    if i < count {
-        return s[i];
-    }
-    0.0
-}
+ghost use Rattle.chain_fill.specs.Fill.{LastRoom, Last};
 
 // The first count numbers of s, and +0.0 to the end.
 fn fill_tail(s: &[f64], count: usize, out: &mut [f64])
     requires { (count ≤ length s.now) × (count ≤ length out.old) }
     ensures { out.new ≡ take count s.now ++ zeros (length out.old - count) }
 {
-    let end = out.len();
-    for i in 0..end {
-        out[i] = number_at(s, count, i);
-    }
+    let (front, rest) = out.split_at_mut(count);
+    copies::copy_over(front, &s[..count]);
+    complex::zero_first(rest, rest.len());
 }
 
 // The last site, +0.0 past it, and both ends of bonds and starts.

@@ -5,14 +5,14 @@ use mathlib.Core.List.{List, [], ◌∷◌, ◌++◌}
 use Prim.Native.Nat.{ℕ, zero, suc, ◌+◌, ◌-◌, ◌*◌, ◌≤◌, ◌<◌}
 use native.Mathlib.Numerals.{add-one}
 use native.Mathlib.Omega.{arith}
-use borrow.Author.Tests.{ltb-true, lt-ltb, le-ltb, eq-eqb, ne_eqb}
+use borrow.Author.Tests.{ltb-true}
 use lib.Dec.{eqb, ltb}
 use lib.Ieee.{Float, nan, binary64, to_bits}
 use lib.ListN.{length, get_or, length-append}
 use Rattle.complex.specs.declared.Complex.{Complex}
 use Rattle.complex.specs.Cells.{cell_at}
 use Rattle.texts.specs.Text.{Puts, item_text, line, pair_line}
-use Rattle.texts.proofs.TextLaws.{puts_then, puts-as, puts_none, length-puts, length-item, length-line, length-pair}
+use Rattle.texts.proofs.TextLaws.{puts_then, puts-as, puts_none, length-item, length-line, length-pair}
 use Rattle.lines.specs.Lines.{cut_word, blank}
 use Rattle.page_lines.specs.PageLines.{hex_item, bits_line}
 use Rattle.page_lines.proofs.PageLineLaws.{length-hex-item, length-bits}
@@ -84,11 +84,6 @@ unfolding site_cell_lines
 cells-none s from at d = puts_none at d
 
 module _ (s : List Float) (from count at : ℕ) (old : List ℕ) (fits : at + 60 * count ≤ length old) where
-  pub cells-room : (m r : ℕ) (out : List ℕ) → m ≤ count → Puts at (site_cell_lines s from m) old r out → (length out ≡ length old) × (r ≤ at + 60 * m)
-  cells-room m r out h p =
-      let l = length-cells s from m in
-      (length-puts at r (site_cell_lines s from m) old out (omega arith) p, omega (arith, p.next))
-
   pub cells-step : (m r t a b : ℕ) (z : Complex) (mid new : List ℕ) → m < count → z ≡ cell_at s (from + m) → a ≡ to_bits binary64 z.re → b ≡ to_bits binary64 z.im
       → Puts at (site_cell_lines s from m) old r mid → Puts r (site_cell_line m a b) mid t new → Puts at (site_cell_lines s from (m + 1)) old t new
   unfolding site_cell_lines
@@ -98,9 +93,6 @@ module _ (s : List Float) (from count at : ℕ) (old : List ℕ) (fits : at + 60
       (puts_then at r t (site_cell_lines s from m) _ old mid new (omega arith) p
       (puts-as r t _ _ mid new
       (ap₂ (site_cell_line m) (f ∙ ap (λ (y : Complex). to_bits binary64 y.re) e) (g ∙ ap (λ (y : Complex). to_bits binary64 y.im) e)) q))
-
-  pub cells-end : (m r : ℕ) (out : List ℕ) → m ≤ count → count ≤ m → Puts at (site_cell_lines s from m) old r out → Puts at (site_cell_lines s from count) old r out
-  cells-end m r out h k p = let e : m ≡ count = omega arith in subst (λ (x : ℕ). Puts at (site_cell_lines s from x) old r out) e p
 
 -- ---- the texts, one after the other
 
@@ -112,27 +104,6 @@ pub four-texts : (at r s t u : ℕ) (w x y z old a b c d : List ℕ) → at + le
     → Puts at w old r a → Puts r x a s b → Puts s y b t c → Puts t z c u d → Puts at (w ++ x ++ y ++ z) old u d
 four-texts at r s t u w x y z old a b c d room p q v i =
     puts_then at t u (w ++ x ++ y) z old c d (omega (arith, length-append (w ++ x) y, length-append w x)) (three-texts at r s t w x y old a b c (omega arith) p q v) i
-
--- ---- the two words, and the cut behind a site
-
-pub quiet-yes : (q : ℕ) → q ≡ 1 → 32 ∷ 121 ∷ 101 ∷ 115 ∷ 32 ∷ [] ≡ quiet_word q
-quiet-yes q e = ap (λ (t : Bool). cond t (32 ∷ 121 ∷ 101 ∷ 115 ∷ 32 ∷ []) (32 ∷ 110 ∷ 111 ∷ 32 ∷ [])) (sym (eq-eqb q 1 e))
-
-pub quiet-no : (q : ℕ) → (q ≡ 1 → ⊥) → 32 ∷ 110 ∷ 111 ∷ 32 ∷ [] ≡ quiet_word q
-quiet-no q e = ap (λ (t : Bool). cond t (32 ∷ 121 ∷ 101 ∷ 115 ∷ 32 ∷ []) (32 ∷ 110 ∷ 111 ∷ 32 ∷ [])) (sym (ne_eqb q 1 e))
-
-pub behind-some : (n : ℕ) (bonds marks : List ℕ) (j : ℕ) → j + 1 < n
-    → rank_line j (get_or bonds (j + 1) 0) (get_or marks (3 * j) 0) (get_or marks (3 * j + 1) 0) (get_or marks (3 * j + 2) 0) ≡ cut_behind n bonds marks j
-unfolding cut_behind
-behind-some n bonds marks j h =
-    ap (λ (t : Bool). cond t (rank_line j (get_or bonds (j + 1) 0) (get_or marks (3 * j) 0) (get_or marks (3 * j + 1) 0) (get_or marks (3 * j + 2) 0)) []) (sym (lt-ltb (j + 1) n h))
-
-pub behind-none : (n : ℕ) (bonds marks : List ℕ) (j at : ℕ) (d : List ℕ) → n ≤ j + 1 → Puts at (cut_behind n bonds marks j) d at d
-unfolding cut_behind
-behind-none n bonds marks j at d h =
-    puts-as at at [] _ d d
-    (ap (λ (t : Bool). cond t (rank_line j (get_or bonds (j + 1) 0) (get_or marks (3 * j) 0) (get_or marks (3 * j + 1) 0) (get_or marks (3 * j + 2) 0)) []) (sym (le-ltb (j + 1) n h)))
-    (puts_none at d)
 
 -- ---- a chain
 
@@ -186,23 +157,12 @@ module _ (n : ℕ) (sites : List Float) (bonds starts marks : List ℕ) (room : 
   unfolding site_texts
   sites-none at d = puts_none at d
 
-  module _ (at : ℕ) (old : List ℕ) (front : at ≤ 27) (fits : length old ≡ room) where
-    pub sites-room : (j r : ℕ) (out : List ℕ) → j ≤ n → Puts at (site_texts n sites bonds starts marks j) old r out
-        → (length out ≡ length old) × (r ≤ 60 * get_or starts j 0 + 160 * j + 27)
-    sites-room j r out h p =
-        let l = length-sites j h in
-        (length-puts at r (site_texts n sites bonds starts marks j) old out (omega (arith, starts-most j h, is.fits)) p, omega (arith, p.next))
-
-    pub sites-step : (j r t : ℕ) (mid new : List ℕ) → j < n → Puts at (site_texts n sites bonds starts marks j) old r mid
-        → Puts r (site_text n sites bonds starts marks j) mid t new → Puts at (site_texts n sites bonds starts marks (j + 1)) old t new
-    unfolding site_texts
-    sites-step j r t mid new h p q =
-        let l = length-sites j (omega arith) in
-        rw add-one (puts_then at r t (site_texts n sites bonds starts marks j) _ old mid new (omega (arith, starts-most j (omega arith), is.fits)) p q)
-
-    pub sites-end : (j r : ℕ) (out : List ℕ) → j ≤ n → n ≤ j → Puts at (site_texts n sites bonds starts marks j) old r out
-        → Puts at (site_texts n sites bonds starts marks n) old r out
-    sites-end j r out h k p = let e : j ≡ n = omega arith in subst (λ (x : ℕ). Puts at (site_texts n sites bonds starts marks x) old r out) e p
+  pub sites-step : (at : ℕ) (old : List ℕ) → at ≤ 27 → length old ≡ room → (j r t : ℕ) (mid new : List ℕ) → j < n
+      → Puts at (site_texts n sites bonds starts marks j) old r mid → Puts r (site_text n sites bonds starts marks j) mid t new → Puts at (site_texts n sites bonds starts marks (j + 1)) old t new
+  unfolding site_texts
+  sites-step at old front e j r t mid new h p q =
+      let l = length-sites j (omega arith) in
+      rw add-one (puts_then at r t (site_texts n sites bonds starts marks j) _ old mid new (omega (arith, starts-most j (omega arith), is.fits)) p q)
 
   -- the three texts of a site, and of the whole
   pub site-texts : (j at r s t : ℕ) (old a b c : List ℕ) → j < n → at ≤ 60 * get_or starts j 0 + 160 * j + 27 → length old ≡ room

@@ -31,13 +31,11 @@ fn put_cells(out: &mut [u8], at: usize, sites: &[f64], from: usize, count: usize
     ensures { Puts at (site_cell_lines sites.now from count) out.old result out.new }
 {
     let mut next = at;
-    let mut k = 0;
-    while k < count {
+    for k in 0..count {
         let z = complex::read_cell(sites, from + k);
         let re = bits::bits_of(z.re);
         let im = bits::bits_of(z.im);
         next = put_cell(out, next, k, re, im);
-        k += 1;
     }
     next
 }
@@ -48,9 +46,10 @@ fn put_turned(out: &mut [u8], at: usize, quiet: usize, turned: usize) -> usize
     ensures { Puts at (line (quiet_word quiet) turned) out.old result out.new }
 {
     if quiet == 1 {
-        return texts::put_line(out, at, b" yes ", turned);
+        texts::put_line(out, at, b" yes ", turned)
+    } else {
+        texts::put_line(out, at, b" no ", turned)
     }
-    texts::put_line(out, at, b" no ", turned)
 }
 
 // Puts the line of a cut.
@@ -73,6 +72,7 @@ fn put_rank(
 }
 
 // Puts the line of the cut behind site j, where there is one.
+#[tactic(auto, using(texts::proofs::TextLaws::puts_none), unfolding(crate::specs::ChainLines::cut_behind))]
 fn put_behind(
     out: &mut [u8],
     at: usize,
@@ -86,18 +86,18 @@ fn put_behind(
 {
     let after = j + 1;
     if after < n {
-        let from = 3 * j;
-        return put_rank(
+        put_rank(
             out,
             at,
             j,
             bonds[after],
-            marks[from],
-            marks[from + 1],
-            marks[from + 2],
-        );
+            marks[3 * j],
+            marks[3 * j + 1],
+            marks[3 * j + 2],
+        )
+    } else {
+        at
     }
-    at
 }
 
 // Puts the lines of site j.
@@ -140,10 +140,8 @@ fn put_sites(
         out.old result out.new }
 {
     let mut next = at;
-    let mut j = 0;
-    while j < n {
+    for j in 0..n {
         next = put_site(out, next, n, sites, bonds, starts, marks, j);
-        j += 1;
     }
     next
 }

@@ -12,6 +12,8 @@ use lib.Seq.{take_all}
 use lib.Ieee.{Float}
 use borrow.Rule.Slice.PartMut.{mid_of, put_mid}
 use borrow.Author.Tests.{leb-true, leb-false}
+use Rattle.std.specs.Prelude.{Result}
+use Rattle.answers.specs.declared.Refusal.{Refusal}
 use Rattle.svd.specs.Svd.{side_of}
 use Rattle.svd.proofs.SvdLaws.{side-low}
 use Rattle.chain_step.specs.declared.Link.{Link}
@@ -36,9 +38,9 @@ half-few a b m k p q h = pick (leb a m) refl
         let l : 2 ^ b ≤ 2 ^ m = pow_mono g in
         omega arith
 
-pub link-sizes : (n j bond at limit sites u vt scratch : ℕ) {columns k : ℕ} → LinkRoom n j bond at limit sites u vt scratch
+pub link_sizes : (n j bond at limit sites u vt scratch : ℕ) {columns k : ℕ} → LinkRoom n j bond at limit sites u vt scratch
     → columns ≡ 2 ^ (n - 1 - j) → k ≡ side_of (2 * bond) columns → LinkSizes n bond columns k
-link-sizes n j bond at limit sites u vt scratch {columns} {k} r e f =
+link_sizes n j bond at limit sites u vt scratch {columns} {k} r e f =
     let d : suc j + (n - 1 - j) ≡ n = omega (arith, r.inside) in
     let p : 2 ^ suc j * 2 ^ (n - 1 - j) ≡ 2 ^ n = sym (pow-add 2 (suc j) (n - 1 - j)) ∙ ap (λ (x : ℕ). 2 ^ x) d in
     let s : 2 ^ suc j ≡ 2 ^ j * 2 = pow-suc 2 j in
@@ -65,7 +67,7 @@ pub step-sizes : (n j bond at limit sites u vt scratch : ℕ) {columns k : ℕ} 
     → scratch' ≡ 6 * (2 * bond * columns) + 2 * k
     → StepSizes (2 * bond) columns carried' vt' scratch'
 step-sizes n j bond at limit sites u vt scratch {columns} {k} carried' vt' scratch' r e f a c d =
-    let z = link-sizes n j bond at limit sites u vt scratch r e f in
+    let z = link_sizes n j bond at limit sites u vt scratch r e f in
     record {
       rows-some = omega (arith, r.bond-some);
       columns-some = z.columns-some;
@@ -77,9 +79,6 @@ step-sizes n j bond at limit sites u vt scratch {columns} {k} carried' vt' scrat
 
 -- ---- the parts of the lent slices
 
-pub prefix-fits : (n cells l : ℕ) → cells ≤ 2 ^ n → l ≡ 2 * 2 ^ n → 2 * cells ≤ l
-prefix-fits n cells l h e = omega arith
-
 rest-length : (a : ℕ) (xs : List Float) → length (drop a xs) ≤ length xs - a
 rest-length a xs = omega (arith, length-drop a xs)
 
@@ -87,7 +86,7 @@ rest-length a xs = omega (arith, length-drop a xs)
 pub tail-length : (a m : ℕ) (xs : List Float) → a + m ≤ length xs → m ≤ length (take (length xs - a) (drop a xs))
 tail-length a m xs h = rw (take_all (length xs - a) (drop a xs) (rest-length a xs)) (omega (arith, length-drop a xs))
 
-pub one-linked : (n j bond at : ℕ) (epsilon : Float) (limit : ℕ) (sites u : List Float) (r : Link) (tail front : List Float) {columns : ℕ} → columns ≡ 2 ^ (n - 1 - j)
+pub one-linked : (n j bond at : ℕ) (epsilon : Float) (limit : ℕ) (sites u : List Float) (r : Result Link Refusal) (tail front : List Float) {columns : ℕ} → columns ≡ 2 ^ (n - 1 - j)
     → length front ≡ 2 * (2 * bond * columns)
     → Stepped (columnwise (take (2 * (2 * bond * columns)) u) (2 * bond) columns) (2 * bond) columns epsilon limit (mid_of (2 * at) (length sites - 2 * at) sites) r tail front
     → OneLink n j bond at epsilon limit sites u r (put_mid (2 * at) (length sites - 2 * at) sites tail) (front ++ drop (2 * (2 * bond * columns)) u)
@@ -102,16 +101,6 @@ one-linked n j bond at epsilon limit sites u r tail front e l s =
       sites-is = rw (z, append-nil);
       u-is = rw e;
     }
-
-module _ (n j bond at limit sites u vt scratch : ℕ) (r : LinkRoom n j bond at limit sites u vt scratch) where
-  pub bond-few : bond ≤ 2048
-  bond-few = (link-sizes n j bond at limit sites u vt scratch r refl refl).bond-few
-
-  pub cells-few : {columns : ℕ} → columns ≡ 2 ^ (n - 1 - j) → 2 * bond * columns ≤ 4096
-  cells-few e = let z = link-sizes n j bond at limit sites u vt scratch r e refl in omega (arith, z.few, z.most)
-
-  pub side-few : {columns k : ℕ} → columns ≡ 2 ^ (n - 1 - j) → k ≡ side_of (2 * bond) columns → k ≤ 4096
-  side-few {columns} e f = omega (arith, (side-low (2 * bond) columns).0, f, bond-few)
 
 pub site-fits : (n j bond at limit : ℕ) (sites : List Float) (u vt scratch : ℕ) {columns : ℕ} → LinkRoom n j bond at limit (length sites) u vt scratch
     → columns ≡ 2 ^ (n - 1 - j) → 2 * (2 * bond * min (side_of (2 * bond) columns) limit) ≤ length (take (length sites - 2 * at) (drop (2 * at) sites))

@@ -1,5 +1,6 @@
 -- One step of the chain over the lent slices. Definitions only.
-use Rattle.std.specs.Prelude.{◌≡◌, List, ◌++◌, ℕ, ◌+◌, ◌-◌, ◌*◌, ◌/◌, ◌^◌, ◌≤◌, ◌<◌, min, length, take, drop, Float}
+use Rattle.std.specs.Prelude.{◌≡◌, List, ◌++◌, ℕ, ◌+◌, ◌-◌, ◌*◌, ◌/◌, ◌^◌, ◌≤◌, ◌<◌, min, length, take, drop, Float, Result}
+use Rattle.answers.specs.declared.Refusal.{Refusal}
 use Rattle.svd.specs.Svd.{side_of}
 use Rattle.chain_step.specs.declared.Link.{Link}
 use Rattle.chain_step.specs.Step.{columnwise, Stepped}
@@ -28,7 +29,7 @@ pub record LinkRoom (n j bond at limit sites u vt scratch : ℕ) : Type 0 where
   pub scratch-is : scratch ≡ 6 * 2 ^ n + 2 * 2 ^ (n / 2)
 
 -- the step that was taken: `tail` is what sites holds from cell `at` on, `front` what u holds where the rows were carried
-pub record OneLink (n j bond at : ℕ) (epsilon : Float) (limit : ℕ) (sites u : List Float) (r : Link) (sites' u' : List Float) : Type 0 where
+pub record OneLink (n j bond at : ℕ) (epsilon : Float) (limit : ℕ) (sites u : List Float) (r : Result Link Refusal) (sites' u' : List Float) : Type 0 where
   pub tail : List Float
   pub front : List Float
   pub front_long : length front ≡ 2 * cells_at n j bond

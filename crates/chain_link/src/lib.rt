@@ -5,9 +5,11 @@
 ghost use Rattle.std.specs.Prelude.{◌≡◌, length};
 ghost use Rattle.chain_link.specs.OneLink.{LinkRoom, OneLink};
 
+use answers::Refusal;
 use chain_step::Link;
 
 // Step j of n.
+#[tactic(auto, using(crate::proofs::LinkSizes::link_sizes))]
 pub fn one_link(
     n: usize,
     j: usize,
@@ -19,7 +21,7 @@ pub fn one_link(
     u: &mut [f64],
     vt: &mut [f64],
     scratch: &mut [f64],
-) -> Link
+) -> Result<Link, Refusal>
     requires { LinkRoom n j bond at limit (length sites.old) (length u.old) (length vt.old)
         (length scratch.old) }
     ensures { OneLink n j bond at epsilon limit sites.old u.old result sites.new u.new }

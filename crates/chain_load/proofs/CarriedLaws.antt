@@ -1,16 +1,14 @@
 -- The cells of the work matrix of a step. Assumes nothing.
 use mathlib.Core.Path.{◌≡◌, ◌∙◌}
 use mathlib.Core.List.{List}
-use Prim.Native.Nat.{ℕ, ◌+◌, ◌*◌, ◌/◌, ◌%◌, ◌≤◌, ◌<◌}
+use Prim.Native.Nat.{ℕ, ◌+◌, ◌*◌, ◌/◌, ◌%◌, ◌<◌}
 use native.Mathlib.Nat.{add-zero, mul-add-div_right, mul-add-mod_self_right, div-eq_of_lt, mod-eq_of_lt}
 use native.Mathlib.Omega.{arith}
-use borrow.Author.Tests.{lt-ltb, le-ltb}
 use lib.Ieee.{Float}
 use Rattle.complex.specs.declared.Complex.{Complex}
 use Rattle.complex.specs.Arithmetic.{conjugate}
 use Rattle.complex.specs.Cells.{cell_at}
-use Rattle.svd_load.specs.Loading.{planes_of}
-use Rattle.chain_load.specs.Carried.{conjugated_at, across_at, carried_work}
+use Rattle.chain_load.specs.Carried.{conjugated_at, across_at}
 
 pub conjugated-is : (carried : List Float) (i : ℕ) {z y : Complex} → z ≡ cell_at carried i → y ≡ conjugate z → y ≡ conjugated_at carried i
 unfolding conjugated_at
@@ -25,13 +23,3 @@ across-is carried columns rows col r h g =
     let d : (col * rows + r) / rows ≡ col = mul-add-div_right pos col r ∙ rw (div-eq_of_lt h) (add-zero col) in
     let e : (col * rows + r) % rows ≡ r = mul-add-mod_self_right col rows r ∙ mod-eq_of_lt h in
     rw (d, e) g
-
-pub work-rows : (carried : List Float) (rows columns : ℕ) {work : List Float} → rows < columns → work ≡ planes_of (rows * columns) (conjugated_at carried)
-    → work ≡ carried_work carried rows columns
-unfolding carried_work
-work-rows carried rows columns h e = rw (lt-ltb rows columns h) e
-
-pub work-columns : (carried : List Float) (rows columns : ℕ) {work : List Float} → columns ≤ rows → work ≡ planes_of (columns * rows) (across_at carried columns rows)
-    → work ≡ carried_work carried rows columns
-unfolding carried_work
-work-columns carried rows columns h e = rw (le-ltb rows columns h) e

@@ -41,13 +41,14 @@ fn load_columns(carried: &[f64], rows: usize, columns: usize, work: &mut [f64])
 }
 
 // The work matrix of the matrix whose rows are carried.
+#[tactic(auto, unfolding(crate::specs::Carried::carried_work))]
 pub fn load(carried: &[f64], rows: usize, columns: usize, work: &mut [f64])
     requires { (rows * columns ≤ 4096) × (length carried.now ≡ 2 * (rows * columns)) × (length work.old ≡ 2 * (rows * columns)) }
     ensures { work.new ≡ carried_work carried.now rows columns }
 {
     if rows < columns {
         load_rows(carried, rows * columns, work);
-        return;
+    } else {
+        load_columns(carried, rows, columns, work);
     }
-    load_columns(carried, rows, columns, work);
 }

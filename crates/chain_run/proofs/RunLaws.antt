@@ -1,61 +1,34 @@
 -- The work of an accepted call from its parts. Assumes nothing.
-use mathlib.Core.Path.{◌≡◌, refl, sym, ap, ap₂, ◌∙◌}
+use mathlib.Core.Path.{◌≡◌, sym, ap, ap₂, ◌∙◌}
 use mathlib.Core.Bool.{true, false}
 use mathlib.Core.List.{List, [], ◌∷◌, ◌++◌, append-nil, append_assoc}
 use Prim.Native.Nat.{ℕ, suc, ◌+◌, ◌-◌, ◌*◌, ◌^◌, ◌≤◌, ◌<◌}
 use native.Mathlib.Nat.{pow-suc}
 use native.Mathlib.Omega.{arith}
-use lib.ListN.{length, take, drop, set, get_or, length-append, length-drop, drop_of_length-le}
+use lib.ListN.{length, take, drop, set, get_or, length-append, drop_of_length-le}
 use lib.Seq.{set_at, drop-cons, take_at, take_all, length-take-le}
-use lib.Pow.{pow_pos}
+use lib.Pow.{pow_pos, pow_mono}
 use lib.Ieee.{Float}
 use borrow.Rule.Slice.PartMut.{mid_of, put_mid}
-use Rattle.answers.specs.declared.Answer.{Answer}
-use Rattle.answers.specs.declared.Answer.TheVariants.{Done, NoWeight}
-use Rattle.answers.specs.Paper.{paper}
-use Rattle.answers.proofs.PaperLaws.{done-old}
+use Rattle.std.specs.Prelude.{Ok, Err}
+use Rattle.answers.specs.declared.Refusal.{Refusal}
+use Rattle.answers.specs.declared.Refusal.TheVariants.{NoWeight}
 use Rattle.complex.specs.Zeros.{zeros}
 use Rattle.chain_start.specs.Start.{state_zero, carried_first}
 use Rattle.chain_walk.specs.declared.Walked.{Walked}
 use Rattle.chain_walk.specs.Chain.{links_to, reply_to, most_of, room_to}
-use Rattle.chain_walk.specs.Walk.{WalkRoom, Walking, WalkEnd}
+use Rattle.chain_walk.specs.Walk.{Walking, WalkEnd}
 use Rattle.chain_walk.proofs.ChainLaws.{Bounds, bounds, room_next}
-use Rattle.chain_fill.specs.Fill.{last_of, chain_of, bonds_of, starts_of, marks_of, dropped_of, work_reply, LastRoom, Last, FillRoom, ChainFilled}
-
--- the part of n + 1 numbers from 1 on
-pub part-long : (l : List ℕ) (n : ℕ) → length l ≡ n + 1 → length (mid_of 1 (length l - 1) l) ≡ n
-part-long l n e =
-    let d : length (drop 1 l) ≡ length l - 1 = length-drop 1 l in
-    length-take-le (length l - 1) (drop 1 l) (omega arith) ∙ omega arith
-
-pub walk-room : (n limit : ℕ) {state sites bonds starts marks u vt scratch bonds' starts' u' : ℕ} → FillRoom n limit state sites bonds starts marks u vt scratch
-    → bonds' ≡ n → starts' ≡ n → u' ≡ u → WalkRoom n limit sites bonds' starts' marks u' vt scratch
-walk-room n limit f b s e =
-    record {
-      some = f.some;
-      small = f.small;
-      limit-some = f.limit-some;
-      sites-fit = omega (arith, f.sites-is);
-      bonds-fit = omega arith;
-      starts_fit = omega arith;
-      marks-fit = omega (arith, f.marks-is);
-      u-is = e ∙ f.u-is;
-      vt_is = f.vt_is;
-      scratch-is = f.scratch-is;
-    }
+use Rattle.chain_fill.specs.Fill.{last_of, chain_of, bonds_of, starts_of, marks_of, dropped_of, work_reply, LastRoom, Last, ChainFilled}
 
 -- 8
 pub run-zero : (s : List Float) (n : ℕ) (epsilon : Float) (limit : ℕ) {sites : List Float} {bonds starts marks : List ℕ} → state_zero s ≡ true
-    → ChainFilled s n epsilon limit (record { answer = NoWeight; dropped = 0 }) sites bonds starts marks
+    → ChainFilled s n epsilon limit (Err NoWeight) sites bonds starts marks
 unfolding work_reply
 run-zero s n epsilon limit e =
     record {
       answer = rw e;
-      dropped-is = refl;
-      sites-is = λ z. absurd (omega arith);
-      bonds-is = λ z. absurd (omega arith);
-      starts_is = λ z. absurd (omega arith);
-      marks-is = λ z. absurd (omega arith);
+      made = tt;
     }
 
 reply-is : (s : List Float) (n : ℕ) (epsilon : Float) (limit : ℕ) {first : List Float} → state_zero s ≡ false → first ≡ carried_first s n
@@ -64,19 +37,11 @@ unfolding work_reply
 reply-is s n epsilon limit z e = rw (z, e)
 
 -- 9
-pub run-refused : (s : List Float) (n : ℕ) (epsilon : Float) (limit : ℕ) {first : List Float} (sites : List Float) (bonds starts marks : List ℕ) (r : Walked)
+pub run-refused : (s : List Float) (n : ℕ) (epsilon : Float) (limit : ℕ) {first : List Float} (sites : List Float) (bonds starts marks : List ℕ) (r : Refusal)
     {sites' : List Float} {bonds' starts' marks' : List ℕ} {u' : List Float} {sites'' : List Float} {bonds'' starts'' marks'' : List ℕ} → state_zero s ≡ false → first ≡ carried_first s n
-    → WalkEnd first n epsilon limit sites bonds starts marks r sites' bonds' starts' marks' u' → ((paper r.answer).0 ≡ 0 → ⊥)
-    → ChainFilled s n epsilon limit (record { answer = r.answer; dropped = 0 }) sites'' bonds'' starts'' marks''
-run-refused s n epsilon limit sites bonds starts marks r z e w h =
-    record {
-      answer = w.answer ∙ reply-is s n epsilon limit z e;
-      dropped-is = done-old (paper r.answer).0 (dropped_of s n epsilon limit) 0 h;
-      sites-is = λ k. absurd (h k);
-      bonds-is = λ k. absurd (h k);
-      starts_is = λ k. absurd (h k);
-      marks-is = λ k. absurd (h k);
-    }
+    → WalkEnd first n epsilon limit sites bonds starts marks (Err r) sites' bonds' starts' marks' u'
+    → ChainFilled s n epsilon limit (Err r) sites'' bonds'' starts'' marks''
+run-refused s n epsilon limit sites bonds starts marks r z e w = record { answer = w.answer ∙ reply-is s n epsilon limit z e; made = tt }
 
 -- ---- the last site
 
@@ -117,7 +82,7 @@ module _ (first : List Float) (n : ℕ) (epsilon : Float) (limit : ℕ) (sites :
   pub last-room : {u'' sites'' bonds'' starts'' : ℕ} → n ≤ 12 → u'' ≡ 2 * 2 ^ n → sites'' ≡ 2 * room_to n limit n → bonds'' ≡ n + 1 → starts'' ≡ n + 1
       → LastRoom n bond at u'' sites'' bonds'' starts''
   last-room small eu es eb et =
-      let p : 2 ^ n ≤ 2 ^ 12 = lib.Pow.pow_mono small in
+      let p : 2 ^ n ≤ 2 ^ 12 = pow_mono small in
       record {
         some = some;
         bond-few = omega (arith, four);
@@ -179,25 +144,28 @@ ends (x ∷ rest) part ranks n a b h e l i =
 pub run-done : (s : List Float) (n : ℕ) (epsilon : Float) (limit : ℕ) {first : List Float} (sites : List Float) (bonds starts marks : List ℕ) (r : Walked)
     {sites' : List Float} {part part' marks' : List ℕ} {u' : List Float} {sites'' : List Float} {bonds'' starts'' : List ℕ} → state_zero s ≡ false → first ≡ carried_first s n
     → 1 ≤ n → 1 ≤ limit
-    → WalkEnd first n epsilon limit sites (mid_of 1 (length bonds - 1) bonds) (mid_of 1 (length starts - 1) starts) marks r sites' part part' marks' u' → r.answer ≡ Done
+    → WalkEnd first n epsilon limit sites (mid_of 1 (length bonds - 1) bonds) (mid_of 1 (length starts - 1) starts) marks (Ok r) sites' part part' marks' u'
     → length bonds ≡ n + 1 → length starts ≡ n + 1 → length marks ≡ 3 * (n - 1) → length u' ≡ 2 * 2 ^ n → length sites' ≡ 2 * room_to n limit n
     → Last n r.bond r.at u' sites' (put_mid 1 (length bonds - 1) bonds part) (put_mid 1 (length starts - 1) starts part') sites'' bonds'' starts''
-    → ChainFilled s n epsilon limit (record { answer = Done; dropped = r.dropped }) sites'' bonds'' starts'' marks'
+    → ChainFilled s n epsilon limit (Ok r.dropped) sites'' bonds'' starts'' marks'
 unfolding last_of chain_of bonds_of starts_of marks_of dropped_of
-run-done s n epsilon limit sites bonds starts marks r z e some limit-some w d eb et em eu es last =
+run-done s n epsilon limit sites bonds starts marks r z e some limit-some w eb et em eu es last =
     let v = rw e at w in
-    let k = v.walked (ap (λ (x : Answer). (paper x).0) d) in
+    let k = v.walked in
     let l = links_to (carried_first s n) n epsilon limit (n - 1) in
     let b : Bounds n limit (n - 1) l = bounds (carried_first s n) n epsilon limit (n - 1) (omega arith) limit-some in
     let m : length marks ≤ 3 * (n - 1) = omega (arith, em) in
     let a : r.at + 2 * r.bond ≡ l.at + 2 * l.bond = ap₂ (λ (x y : ℕ). x + 2 * y) k.at-is k.bond-is in
     record {
-      answer = sym (ap paper d) ∙ w.answer ∙ reply-is s n epsilon limit z e;
-      dropped-is = k.dropped-is;
-      sites-is = λ _. last.sites-is ∙ sites-whole (carried_first s n) n epsilon limit sites _ _ marks r.bond r.at r.dropped some limit-some k eu es;
-      bonds-is = λ _. last.bonds-is ∙ ends bonds _ l.ranks n 1 1 some eb b.ranks-long k.bonds-is;
-      starts_is = λ _.
-          last.starts_is ∙ ends starts _ l.ends n 0 (r.at + 2 * r.bond) some et b.ends-long k.starts_is
-          ∙ ap (λ (x : ℕ). 0 ∷ (l.ends ++ x ∷ [])) a;
-      marks-is = λ _. k.marks-is ∙ ap (λ (x : List ℕ). l.marks ++ x) (drop_of_length-le marks m) ∙ append-nil l.marks;
+      answer = w.answer ∙ reply-is s n epsilon limit z e;
+      made =
+          record {
+            dropped-is = k.dropped-is;
+            sites-is = last.sites-is ∙ sites-whole (carried_first s n) n epsilon limit sites _ _ marks r.bond r.at r.dropped some limit-some k eu es;
+            bonds-is = last.bonds-is ∙ ends bonds _ l.ranks n 1 1 some eb b.ranks-long k.bonds-is;
+            starts_is =
+                last.starts_is ∙ ends starts _ l.ends n 0 (r.at + 2 * r.bond) some et b.ends-long k.starts_is
+                ∙ ap (λ (x : ℕ). 0 ∷ (l.ends ++ x ∷ [])) a;
+            marks-is = k.marks-is ∙ ap (λ (x : List ℕ). l.marks ++ x) (drop_of_length-le marks m) ∙ append-nil l.marks;
+          };
     }

@@ -4,10 +4,9 @@
 ghost use Rattle.std.specs.Prelude.{◌≡◌, length};
 ghost use Rattle.chain_fill.specs.Fill.{FillRoom, ChainFilled};
 
-use answers::Answer;
-use chain_fill::Chained;
+use answers::Refusal;
 
-// The sites, the bonds, the cells where the sites start, and the marks. 8 where every component is zero, 9 where a step is refused.
+// The sites, the bonds, the cells where the sites start, and the marks; how many cuts dropped a value above the resolution. 8 where every component is zero, 9 where a step is refused.
 pub fn run(
     state: &[f64],
     n: usize,
@@ -20,17 +19,14 @@ pub fn run(
     u: &mut [f64],
     vt: &mut [f64],
     scratch: &mut [f64],
-) -> Chained
+) -> Result<usize, Refusal>
     requires { FillRoom n limit (length state.now) (length sites.old) (length bonds.old) (length starts.old)
         (length marks.old) (length u.old) (length vt.old) (length scratch.old) }
     ensures { ChainFilled state.now n epsilon limit result sites.new bonds.new starts.new
         marks.new }
 {
     if chain_start::all_zero(state) {
-        return Chained {
-            answer: Answer::NoWeight,
-            dropped: 0,
-        };
+        return Err(Refusal::NoWeight);
     }
     chain_start::lay_state(state, n, u);
     let end = chain_walk::walk(
@@ -44,14 +40,7 @@ pub fn run(
         u,
         vt,
         scratch,
-    );
-    let answer = end.answer;
-    let Answer::Done = answer else {
-        return Chained { answer, dropped: 0 };
-    };
+    )?;
     chain_fill::put_last(n, end.bond, end.at, u, sites, bonds, starts);
-    Chained {
-        answer: Answer::Done,
-        dropped: end.dropped,
-    }
+    Ok(end.dropped)
 }

@@ -7,49 +7,33 @@ ghost use Rattle.numbers.specs.Numbers.{allowed_for};
 ghost use Rattle.complex.specs.Cells.{written};
 ghost use Rattle.chain_start.specs.Start.{components_for, state_zero, reversed, cell_reversed, carried_first, TurnedTo, BlockRoom};
 
-use answers::Answer;
+use answers::Refusal;
 
 // Finite, and of magnitude at most 2^190.
 fn state_allowed(x: f64) -> bool
     ensures { result ≡ allowed_for 190 x }
 {
-    if x <= 1569275433846670190958947355801916604025588861116008628224.0 {
-        -1569275433846670190958947355801916604025588861116008628224.0 <= x
-    } else {
-        false
-    }
+    let bound = 1569275433846670190958947355801916604025588861116008628224.0;
+    x <= bound && -bound <= x
 }
 
 // The first cell of s with a component that is not: 7.
-pub fn check_state(s: &[f64]) -> Answer
+pub fn check_state(s: &[f64]) -> Result<(), Refusal>
     ensures { paper result ≡ components_for 190 0 s.now }
 {
-    let mut i = 0;
-    while i < s.len() {
-        let x = s[i];
-        if state_allowed(x) {
-            i += 1;
-        } else {
-            return Answer::Component(i / 2);
+    for (i, x) in s.iter().enumerate() {
+        if !state_allowed(*x) {
+            return Err(Refusal::Component(i / 2));
         }
     }
-    Answer::Done
+    Ok(())
 }
 
 // Whether every number of s is 0.0 or -0.0.
 pub fn all_zero(s: &[f64]) -> bool
     ensures { result ≡ state_zero s.now }
 {
-    let mut k = 0;
-    while k < s.len() {
-        let x = s[k];
-        if x == 0.0 {
-            k += 1;
-        } else {
-            return false;
-        }
-    }
-    true
+    s.iter().all(|x| *x == 0.0)
 }
 
 // The n bits of x in the other order.
@@ -61,7 +45,7 @@ fn other_way(n: usize, x: usize) -> usize
     let mut v = x;
     for i in 0..n {
         r = 2 * r + v % 2;
-        v = v / 2;
+        v /= 2;
     }
     r
 }

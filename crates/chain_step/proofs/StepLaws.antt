@@ -12,29 +12,28 @@ use lib.Dec.{ltb, leb}
 use borrow.Author.Tests.{leb-true, leb-false}
 use lib.Ieee as Ieee
 use lib.Ieee.{Float}
-use Rattle.answers.specs.declared.Answer.{Answer}
-use Rattle.answers.specs.Paper.{Reply, paper, done, refuse, after, and_then}
-use Rattle.answers.proofs.PaperLaws.{done-new, stays}
+use Rattle.answers.specs.Paper.{Answer, Reply, paper, done, refuse, and_then}
+use Rattle.answers.proofs.Stopped.{refused, stopped-number}
 use Rattle.complex.specs.declared.Complex.{Complex}
 use Rattle.complex.specs.Arithmetic.{conjugate}
 use Rattle.complex.specs.Cells.{cell_at, cells_of, written, components}
 use Rattle.complex.proofs.CellLaws.{length-cells, cell-of}
 use Rattle.svd_load.specs.Loading.{conjugate_transposed}
-use Rattle.cut_planes.proofs.CutPlanesLaws.{all-same}
+use Rattle.svd_load.proofs.LoadingLaws.{planes-alike}
 use Rattle.chain_load.specs.Carried.{conjugated_at, across_at, carried_work}
 use Rattle.site_lines.specs.Sources.{line_cell, site_cell, isometry_cell, scaled_vt_cell, LineReady}
-use Rattle.svd.specs.Svd.{side_of, need_u, need_vt, work_of, u_of, s_of, vt_of, svd_sweeps, svd_end, SvdExact}
+use Rattle.svd.specs.Svd.{side_of, need_u, need_vt, work_of, u_of, s_of, vt_of, svd_sweeps, SvdExact}
 use Rattle.svd_loaded.specs.Loaded.{SvdLoaded}
 use Rattle.svd.proofs.SvdLaws.{side-low, side-cells}
 use Rattle.components.specs.Every.{every_allowed}
 use Rattle.components.proofs.EveryLaws.{every-done, every-from-done}
 use Rattle.site_ranks.specs.Ranks.{above_count, rank_of, discards_of}
 use Rattle.sweeps.specs.declared.Sweeps.{Sweeps}
-use Rattle.sweeps.specs.Sweeping.{no_sweeps}
-use Rattle.factored.specs.declared.Factored.{Factored}
+use Rattle.answers.specs.declared.Refusal.{Refusal}
+use Rattle.std.specs.Prelude.{Result, Ok, Err, IfOk, is_err}
 use Rattle.chain_step.specs.declared.Link.{Link}
-use Rattle.answers.specs.declared.Answer.TheVariants.{Done, NotFinite}
-use Rattle.chain_step.specs.Step.{columnwise, carried_by, carried_reply, carried_on, step_reply, StepSizes, StepFactors, StepWritten, StepKeeping, StepKept, Stepped}
+use Rattle.answers.specs.declared.Refusal.TheVariants.{NotFinite}
+use Rattle.chain_step.specs.Step.{columnwise, carried_by, carried_reply, carried_on, step_reply, StepSizes, StepFactors, StepWritten, StepKeeping, StepKept, StepTaken, Stepped}
 
 -- a list of exactly the cells that are written
 written_all : (m : ℕ) (f : ℕ → Complex) (old : List Float) → length old ≡ 2 * m → written m f old ≡ cells_of m f
@@ -71,8 +70,8 @@ pub carried-work : (carried : List Float) (rows columns : ℕ) → carried_work 
 unfolding carried_work work_of
 carried-work carried rows columns =
     rw (
-      all-same (rows * columns) (conjugated_at carried) (conjugate_transposed (columnwise carried rows columns) rows columns) (wide-cell carried rows columns),
-      all-same (columns * rows) (across_at carried columns rows) (cell_at (columnwise carried rows columns)) (tall-cell carried rows columns),
+      planes-alike (rows * columns) (conjugated_at carried) (conjugate_transposed (columnwise carried rows columns) rows columns) (wide-cell carried rows columns),
+      planes-alike (columns * rows) (across_at carried columns rows) (cell_at (columnwise carried rows columns)) (tall-cell carried rows columns),
     )
 
 -- ---- the factors
@@ -99,22 +98,26 @@ exact rows columns carried vt scratch u' s vt' scratch' e z es eu ev ec =
       scratch-is = ec ∙ z.scratch-is;
     }
 
-pub factored : (carried planes : List Float) (rows columns : ℕ) (r : Factored) {u s vt : List Float} (rest rest' : List Float) {k : ℕ} → k ≡ side_of rows columns
+pub factored : (carried planes : List Float) (rows columns : ℕ) (r : Result Sweeps Refusal) {u s vt : List Float} (rest rest' : List Float) {k : ℕ} → k ≡ side_of rows columns
     → planes ≡ carried_work carried rows columns
     → length u ≡ 2 * (rows * k) → length vt ≡ 2 * (k * columns) → ((a : List Float) → planes ≡ work_of a rows columns → SvdLoaded a rows columns r u s vt)
     → StepFactors (columnwise carried rows columns) rows columns r (u ++ rest) s (vt ++ rest')
-factored carried planes rows columns r {u} {s} {vt} rest rest' {k} e i lu lv made =
-    let a = columnwise carried rows columns in
-    let w = made a (i ∙ carried-work carried rows columns) in
+factored carried planes rows columns (Ok sweeps) {u} {s} {vt} rest rest' {k} e i lu lv made =
+    let w = made (columnwise carried rows columns) (i ∙ carried-work carried rows columns) in
     let mu : length u ≡ need_u rows columns = rw e at lu in
     let mv : length vt ≡ need_vt rows columns = rw e at lv in
     record {
       answer = w.answer;
-      u-is = λ d. take_at u rest (need_u rows columns) mu ∙ w.u-is ∙ sym (done-new (paper r.answer).0 (u_of a rows columns) _ d);
-      s-is = λ d. w.s-is ∙ sym (done-new (paper r.answer).0 (s_of a rows columns) _ d);
-      vt_is = λ d. take_at vt rest' (need_vt rows columns) mv ∙ w.vt_is ∙ sym (done-new (paper r.answer).0 (vt_of a rows columns) _ d);
-      sweeps-are = λ d. w.sweeps-are ∙ sym (done-new (paper r.answer).0 (svd_sweeps a rows columns) no_sweeps d);
+      made =
+          record {
+            u-is = take_at u rest (need_u rows columns) mu ∙ w.u-is;
+            s-is = w.s-is;
+            vt_is = take_at vt rest' (need_vt rows columns) mv ∙ w.vt_is;
+            sweeps-are = w.sweeps-are;
+          };
     }
+factored carried planes rows columns (Err e) rest rest' k i lu lv made =
+    record { answer = (made (columnwise carried rows columns) (i ∙ carried-work carried rows columns)).answer; made = tt }
 
 -- ---- the two fills
 
@@ -232,11 +235,10 @@ carried-bad carried n = pick (every_allowed carried) refl
     pick true e = absurd (n (ap (λ (r : Reply). r.0) (every-done carried 0 e)))
     pick false e = refl
 
-module _ (s u vt : List Float) (rows columns : ℕ) (epsilon : Float) (limit : ℕ) (sweeps : Sweeps) (old site u' : List Float) (chi : ℕ) (a : Answer)
+module _ (s u vt : List Float) (rows columns : ℕ) (epsilon : Float) (limit : ℕ) (sweeps : Sweeps) (old site u' : List Float) (chi : ℕ)
     (e : chi ≡ rank_of s epsilon limit)
     (w : site ≡ written (rows * chi) (site_cell chi (isometry_cell u rows)) old)
-    (f : take (2 * (columns * chi)) u' ≡ cells_of (columns * chi) (site_cell columns (scaled_vt_cell s vt columns)))
-    (p : paper a ≡ components 0 (take (2 * (columns * chi)) u')) where
+    (f : take (2 * (columns * chi)) u' ≡ cells_of (columns * chi) (site_cell columns (scaled_vt_cell s vt columns))) where
   same-carried : take (2 * (columns * chi)) u' ≡ carried_by s vt columns (rank_of s epsilon limit)
   unfolding carried_by
   same-carried = f ∙ ap (λ (x : ℕ). cells_of (columns * x) (site_cell columns (scaled_vt_cell s vt columns))) e
@@ -247,24 +249,24 @@ module _ (s u vt : List Float) (rows columns : ℕ) (epsilon : Float) (limit : �
   same-front : take (2 * (columns * rank_of s epsilon limit)) u' ≡ carried_by s vt columns (rank_of s epsilon limit)
   same-front = ap (λ (x : ℕ). take (2 * (columns * x)) u') (sym e) ∙ same-carried
 
-  pub kept-bad : ((paper a).0 ≡ 0 → ⊥) → StepKept s u vt rows columns epsilon limit sweeps old (record { answer = NotFinite; chi = 0; drops = false; sweeps = sweeps }) site u'
-  kept-bad n =
+  pub kept-bad : (a : Answer) → paper a ≡ components 0 (take (2 * (columns * chi)) u') → is_err a ≡ true
+      → StepKept s u vt rows columns epsilon limit sweeps old (Err NotFinite) site u'
+  kept-bad (Ok x) p h = absurd (cc)
+  kept-bad (Err x) p h =
       record {
-        answer = carried-bad (take (2 * (columns * chi)) u') (λ z. n (ap (λ (r : Reply). r.0) p ∙ z)) ∙ ap carried_reply same-carried;
-        chi-is = λ z. absurd (omega arith);
-        drops-is = λ z. absurd (omega arith);
-        sweeps-are = refl;
+        answer = carried-bad (take (2 * (columns * chi)) u') (λ z. stopped-number x (ap (λ (r : Reply). r.0) p ∙ z)) ∙ ap carried_reply same-carried;
+        link-is = tt;
         site-is = same-site;
         carried-is = same-front;
       }
 
-  pub kept-good : (drops : Bool) → (paper a).0 ≡ 0 → drops ≡ discards_of s chi → StepKept s u vt rows columns epsilon limit sweeps old (record { answer = Done; chi = chi; drops = drops; sweeps = sweeps }) site u'
-  kept-good drops z d =
+  pub kept-good : (a : Answer) {drops : Bool} → paper a ≡ components 0 (take (2 * (columns * chi)) u') → is_err a ≡ false → drops ≡ discards_of s chi
+      → StepKept s u vt rows columns epsilon limit sweeps old (Ok (record { chi = chi; drops = drops; sweeps = sweeps })) site u'
+  kept-good (Err x) p h d = absurd (cc)
+  kept-good (Ok x) {drops} p h d =
       record {
-        answer = carried-good (take (2 * (columns * chi)) u') (ap (λ (r : Reply). r.0) (sym p) ∙ z) ∙ ap carried_reply same-carried;
-        chi-is = λ _. e;
-        drops-is = λ _. d ∙ ap (discards_of s) e;
-        sweeps-are = refl;
+        answer = carried-good (take (2 * (columns * chi)) u') (ap (λ (r : Reply). r.0) (sym p)) ∙ ap carried_reply same-carried;
+        link-is = ap₂ (λ (x : ℕ) (y : Bool). record { chi = x; drops = y; sweeps = sweeps }) e (d ∙ ap (discards_of s) e);
         site-is = same-site;
         carried-is = same-front;
       }
@@ -300,41 +302,36 @@ keepable rows columns carried vt scratch limit s vt' site u e z f es ev eu =
       u-is = eu ∙ z.carried-is;
     }
 
-pub stepped-refused : (a : List Float) (rows columns : ℕ) (epsilon : Float) (limit : ℕ) (old : List Float) (r : Factored) {u s vt : List Float} → StepFactors a rows columns r u s vt
-    → ((paper r.answer).0 ≡ 0 → ⊥) → Stepped a rows columns epsilon limit old (record { answer = r.answer; chi = 0; drops = false; sweeps = r.sweeps }) old u
+pub stepped-refused : (a : List Float) (rows columns : ℕ) (epsilon : Float) (limit : ℕ) (old : List Float) (e : Refusal) {u s vt : List Float}
+    → StepFactors a rows columns (Err e) u s vt → Stepped a rows columns epsilon limit old (Err e) old u
 unfolding step_reply
-stepped-refused a rows columns epsilon limit old r f n =
-    let t = svd_end (u_of a rows columns) (s_of a rows columns) (vt_of a rows columns) in
-    let m : t.0 ≡ 0 → ⊥ = λ z. n (ap (λ (x : Reply). x.0) f.answer ∙ z) in
-    record {
-      answer = f.answer ∙ stays t (carried_reply (carried_on a rows columns (rank_of (s_of a rows columns) epsilon limit))) m;
-      chi-is = λ z. absurd (n z);
-      drops-is = λ z. absurd (n z);
-      sweeps-are = λ z. absurd (n z);
-      site-is = λ z. absurd (n z);
-      carried-is = λ z. absurd (n z);
-    }
+stepped-refused a rows columns epsilon limit old e f = record { answer = refused e _ _ f.answer; taken = tt }
 
-pub stepped : (a : List Float) (rows columns : ℕ) (epsilon : Float) (limit : ℕ) (old : List Float) (q : Factored) (r : Link) (u s vt : List Float) {s' u'' vt'' site : List Float} (u' : List Float)
-    → StepFactors a rows columns q u s vt → (paper q.answer).0 ≡ 0 → s' ≡ s → u'' ≡ take (need_u rows columns) u → vt'' ≡ take (need_vt rows columns) vt
-    → StepKept s' u'' vt'' rows columns epsilon limit q.sweeps old r site u' → Stepped a rows columns epsilon limit old r site u'
+pub stepped : (a : List Float) (rows columns : ℕ) (epsilon : Float) (limit : ℕ) (old : List Float) (sweeps : Sweeps) (r : Result Link Refusal) (u s vt : List Float)
+    {s' u'' vt'' site : List Float} (u' : List Float) → StepFactors a rows columns (Ok sweeps) u s vt
+    → s' ≡ s → u'' ≡ take (need_u rows columns) u → vt'' ≡ take (need_vt rows columns) vt
+    → StepKept s' u'' vt'' rows columns epsilon limit sweeps old r site u' → Stepped a rows columns epsilon limit old r site u'
 unfolding step_reply carried_on
-stepped a rows columns epsilon limit old q r u s vt u' f z es eu ev k =
-    let t = svd_end (u_of a rows columns) (s_of a rows columns) (vt_of a rows columns) in
-    let chi = rank_of (s_of a rows columns) epsilon limit in
-    let b = carried_reply (carried_by (s_of a rows columns) (vt_of a rows columns) columns chi) in
-    let is = es ∙ f.s-is z in
-    let iu = eu ∙ f.u-is z in
-    let iv = ev ∙ f.vt_is z in
-    let passes : b ≡ and_then t b = sym (ap (λ (x : ℕ). after x t b) (ap (λ (x : Reply). x.0) (sym f.answer) ∙ z)) in
-    record {
-      answer = k.answer ∙ ap₂ (λ (x y : List Float). carried_reply (carried_by x y columns (rank_of x epsilon limit))) is iv ∙ passes;
-      chi-is = λ d. k.chi-is d ∙ ap (λ (x : List Float). rank_of x epsilon limit) is;
-      drops-is = λ d. k.drops-is d ∙ ap (λ (x : List Float). discards_of x (rank_of x epsilon limit)) is;
-      sweeps-are = λ d. k.sweeps-are ∙ f.sweeps-are z;
-      site-is = λ d. k.site-is ∙ ap₂ (λ (x y : List Float). written (rows * rank_of x epsilon limit) (site_cell (rank_of x epsilon limit) (isometry_cell y rows)) old) is iu;
-      carried-is = λ d. ap (λ (x : List Float). take (2 * (columns * rank_of x epsilon limit)) u') (sym is) ∙ k.carried-is ∙ ap₂ (λ (x y : List Float). carried_by x y columns (rank_of x epsilon limit)) is iv;
-    }
+stepped a rows columns epsilon limit old sweeps r u s vt {s'} {u''} {vt''} {site} u' f es eu ev k =
+    let is = es ∙ f.made.s-is in
+    let iu = eu ∙ f.made.u-is in
+    let iv = ev ∙ f.made.vt_is in
+    let kept : StepKept (s_of a rows columns) (u_of a rows columns) (vt_of a rows columns) rows columns epsilon limit (svd_sweeps a rows columns) old r site u' =
+    rw (is, iu, iv, f.made.sweeps-are) at k in
+    let b = carried_reply (carried_by (s_of a rows columns) (vt_of a rows columns) columns (rank_of (s_of a rows columns) epsilon limit)) in
+    record { answer = kept.answer ∙ ap (λ (x : Reply). and_then x b) f.answer; taken = link r kept }
+  where
+    link : (r : Result Link Refusal) → StepKept (s_of a rows columns) (u_of a rows columns) (vt_of a rows columns) rows columns epsilon limit (svd_sweeps a rows columns) old r site u'
+        → IfOk r (λ l. StepTaken a rows columns epsilon limit old l site u')
+    link (Err e) kept = tt
+    link (Ok l) kept =
+        record {
+          chi-is = ap (λ (x : Link). x.chi) kept.link-is;
+          drops-is = ap (λ (x : Link). x.drops) kept.link-is;
+          sweeps-are = ap (λ (x : Link). x.sweeps) kept.link-is;
+          site-is = kept.site-is;
+          carried-is = kept.carried-is;
+        }
 
 -- the front of an array that a call filled
 pub front_length : (rest front : List Float) (m : ℕ) → length front ≡ m → length (take m (front ++ rest)) ≡ m

@@ -8,14 +8,12 @@ ghost use Rattle.site_lines.specs.Sources.{site_cell, isometry_cell, scaled_vt_c
 ghost use Rattle.svd.specs.Svd.{side_of, need_u, need_vt};
 ghost use Rattle.chain_step.specs.Step.{columnwise, StepSizes, StepFactors, StepWritten, StepKeeping, StepKept, Stepped};
 
-use answers::Answer;
-use factored::Factored;
+use answers::Refusal;
 use sweeps::Sweeps;
 
-// The answer of a step, the rank that it keeps, whether it drops a value above the resolution, and how its sweeps went.
+// The rank that a step keeps, whether it drops a value above the resolution, and how its sweeps went.
 #[derive(Clone, Copy)]
 pub struct Link {
-    pub answer: Answer,
     pub chi: usize,
     pub drops: bool,
     pub sweeps: Sweeps,
@@ -29,7 +27,7 @@ fn factor(
     s: &mut [f64],
     vt: &mut [f64],
     scratch: &mut [f64],
-) -> Factored
+) -> Result<Sweeps, Refusal>
     requires { StepSizes rows columns (length u.old) (length vt.old) (length scratch.old)
         × (length s.old ≡ side_of rows columns) }
     ensures { StepFactors (columnwise u.old rows columns) rows columns result u.new s.new
@@ -51,6 +49,7 @@ fn factor(
 }
 
 // The site out of U at the front of u, and then in its place what is carried on.
+#[tactic(auto, using(crate::proofs::StepLaws::rooms))]
 fn write_both(
     rows: usize,
     columns: usize,
@@ -83,7 +82,7 @@ fn keep(
     vt: &[f64],
     site: &mut [f64],
     u: &mut [f64],
-) -> Link
+) -> Result<Link, Refusal>
     requires { StepKeeping rows columns limit (length s.now) (length vt.now) (length site.old) (length u.old) }
     ensures { StepKept s.now (take (need_u rows columns) u.old)
         vt.now rows columns epsilon limit sweeps site.old result site.new u.new }
@@ -92,21 +91,10 @@ fn keep(
     let drops = site_ranks::discards_resolvable_weight(s, chi);
     write_both(rows, columns, chi, s, vt, site, u);
     let carried = 2 * (columns * chi);
-    let answer = components::check_components(&u[..carried]);
-    let Answer::Done = answer else {
-        return Link {
-            answer: Answer::NotFinite,
-            chi: 0,
-            drops: false,
-            sweeps,
-        };
-    };
-    Link {
-        answer: Answer::Done,
-        chi,
-        drops,
-        sweeps,
+    if components::check_components(&u[..carried]).is_err() {
+        return Err(Refusal::NotFinite);
     }
+    Ok(Link { chi, drops, sweeps })
 }
 
 // One step: the factors of what is carried in u, the site, and in u what is carried on. 9 where a factor is not finite or a component that is
@@ -120,7 +108,7 @@ pub fn step(
     u: &mut [f64],
     vt: &mut [f64],
     scratch: &mut [f64],
-) -> Link
+) -> Result<Link, Refusal>
     requires { StepSizes rows columns (length u.old) (length vt.old) (length scratch.old)
         × (2 * (rows * min (side_of rows columns) limit) ≤ length site.old) }
     ensures { Stepped (columnwise u.old rows columns) rows columns epsilon limit site.old result
@@ -128,17 +116,7 @@ pub fn step(
 {
     let k = svd::smaller_size(rows, columns);
     let mut s = [0.0f64; 64];
-    let factors = factor(rows, columns, u, &mut s[..k], vt, scratch);
-    let answer = factors.answer;
-    let sweeps = factors.sweeps;
-    let Answer::Done = answer else {
-        return Link {
-            answer,
-            chi: 0,
-            drops: false,
-            sweeps,
-        };
-    };
+    let sweeps = factor(rows, columns, u, &mut s[..k], vt, scratch)?;
     let for_vt = 2 * (k * columns);
     keep(
         rows,

@@ -8,9 +8,10 @@ use native.Mathlib.Omega.{arith}
 use lib.ListN.{length, take, drop, set}
 use lib.Seq.{take_at, drop_at, drop-drop, take_all, set_split}
 use lib.Ieee.{Float}
-use Rattle.answers.specs.declared.Answer.{Answer}
-use Rattle.answers.specs.declared.Answer.TheVariants.{Done}
+use Rattle.std.specs.Prelude.{Result, Ok, Err}
+use Rattle.answers.specs.declared.Refusal.{Refusal}
 use Rattle.answers.specs.Paper.{Reply, paper, and_then}
+use Rattle.answers.proofs.Stopped.{stopped-number}
 use Rattle.answers.proofs.PaperLaws.{stays}
 use Rattle.site_ranks.specs.Ranks.{discards_of}
 use Rattle.svd.specs.Svd.{side_of, s_of, svd_sweeps}
@@ -124,9 +125,6 @@ reply-stays first n epsilon limit i (suc d) b =
 module _ (first : List Float) (n : ℕ) (epsilon : Float) (limit j : ℕ) (sites : List Float) (bonds starts marks : List ℕ) (bond at dropped : ℕ)
     (sites' : List Float) (bonds' starts' marks' : List ℕ) (u' : List Float) (h : suc j < n) (some : 1 ≤ limit)
     (w : Walking first n epsilon limit j sites bonds starts marks bond at dropped sites' bonds' starts' marks' u') where
-  links : Links
-  links = links_to first n epsilon limit j
-
   within : Bounds n limit j (links_to first n epsilon limit j)
   within = bounds first n epsilon limit j (omega arith) some
 
@@ -147,23 +145,26 @@ module _ (first : List Float) (n : ℕ) (epsilon : Float) (limit j : ℕ) (sites
       ap (λ (x : ℕ). columnwise (take x u') (rows_at bond) (columns_at n j)) cells_are
       ∙ ap₂ (λ (x : List Float) (y : ℕ). columnwise x (2 * y) (columns_at n j)) w.carried-is w.bond-is
 
-  module _ {r : Walked} {sites'' : List Float} {bonds'' starts'' marks'' : List ℕ} {u'' : List Float}
+  module _ (r : Result Walked Refusal) {sites'' : List Float} {bonds'' starts'' marks'' : List ℕ} {u'' : List Float}
       (t : Next (columnwise (take (2 * cells_at n j bond) u') (rows_at bond) (columns_at n j)) (rows_at bond) (columns_at n j) j at dropped epsilon limit sites' bonds' starts' marks' r sites'' bonds'' starts'' marks'' u'') where
     next-is : Next (next_matrix (links_to first n epsilon limit j) (2 ^ (n - 1 - j))) (2 * (links_to first n epsilon limit j).bond) (2 ^ (n - 1 - j)) j at dropped epsilon limit sites' bonds' starts' marks' r sites'' bonds'' starts'' marks'' u''
     next-is = rw (same-matrix, w.bond-is) at t
 
-    answer-is : paper r.answer ≡ reply_to first n epsilon limit (suc j)
+    answer-is : paper r ≡ reply_to first n epsilon limit (suc j)
     unfolding reply_to
     answer-is = next-is.answer ∙ sym (ap (λ (x : Reply). and_then x (step_reply (next_matrix (links_to first n epsilon limit j) (2 ^ (n - 1 - j))) (2 * (links_to first n epsilon limit j).bond) (2 ^ (n - 1 - j)) (next_rank (links_to first n epsilon limit j) (2 ^ (n - 1 - j)) epsilon limit))) w.reply-is)
 
-    walk_more : r.answer ≡ Done → j < length bonds' → j < length starts'
+  -- a step that was taken
+  module _ {r : Walked} {sites'' : List Float} {bonds'' starts'' marks'' : List ℕ} {u'' : List Float}
+      (t : Next (columnwise (take (2 * cells_at n j bond) u') (rows_at bond) (columns_at n j)) (rows_at bond) (columns_at n j) j at dropped epsilon limit sites' bonds' starts' marks' (Ok r) sites'' bonds'' starts'' marks'' u'') where
+    walk_more : j < length bonds' → j < length starts'
         → Walking first n epsilon limit (suc j) sites bonds starts marks r.bond r.at r.dropped sites'' bonds'' starts'' marks'' u''
     unfolding links_to
-    walk_more d hb hs =
+    walk_more hb hs =
         let l = links_to first n epsilon limit j in
         let columns = 2 ^ (n - 1 - j) in
         let rows = 2 * l.bond in
-        let k = next-is.taken (ap (λ (x : Answer). (paper x).0) d) in
+        let k = (next-is (Ok r) t).taken in
         let b : r.bond ≡ next_rank l columns epsilon limit = k.bond-is in
         let e : 2 ^ (n - suc j) ≡ columns = ap (λ (x : ℕ). 2 ^ x) (omega arith) in
         let long : length l.sites ≡ 2 * at = omega (arith, within.sites_long, w.at-is) in
@@ -182,29 +183,31 @@ module _ (first : List Float) (n : ℕ) (epsilon : Float) (limit j : ℕ) (sites
               k.marks-is ∙ joined l.marks (cut_marks (svd_sweeps (next_matrix l columns) rows columns)) marks marks' (3 * j) 3 within.marks-long w.marks-is
               ∙ ap (λ (x : ℕ). (l.marks ++ cut_marks (svd_sweeps (next_matrix l columns) rows columns)) ++ drop x marks) three;
           carried-is = ap (λ (x : ℕ). take (2 * (x * r.bond)) u'') e ∙ k.carried-is ∙ ap (carried_on (next_matrix l columns) rows columns) b;
-          reply-is = sym answer-is ∙ ap paper d;
+          reply-is = sym (answer-is (Ok r) t);
         }
 
-    pub walk-next : r.answer ≡ Done → j < length bonds' → j < length starts'
+    pub walk-next : j < length bonds' → j < length starts'
         → Walking first n epsilon limit (j + 1) sites bonds starts marks r.bond r.at r.dropped sites'' bonds'' starts'' marks'' u''
-    walk-next d hb hs = rw add-one (walk_more d hb hs)
+    walk-next hb hs = rw add-one (walk_more hb hs)
 
-    -- a refusal stays to the end
-    pub walk_refused : ((paper r.answer).0 ≡ 0 → ⊥)
-        → WalkEnd first n epsilon limit sites bonds starts marks (record { answer = r.answer; bond = 0; at = 0; dropped = 0 }) sites'' bonds'' starts'' marks'' u''
-    walk_refused b =
-        let m : (reply_to first n epsilon limit (suc j)).0 ≡ 0 → ⊥ = λ z. b (ap (λ (x : Reply). x.0) answer-is ∙ z) in
-        let e : n - 1 - suc j + suc j ≡ n - 1 = omega arith in
-        record {
-          answer = answer-is ∙ reply-stays first n epsilon limit (suc j) (n - 1 - suc j) m ∙ ap (reply_to first n epsilon limit) e;
-          walked = λ z. absurd (b z);
-        }
+  -- a refusal stays to the end
+  pub walk_refused : (e : Refusal) {sites'' : List Float} {bonds'' starts'' marks'' : List ℕ} {u'' : List Float}
+      → Next (columnwise (take (2 * cells_at n j bond) u') (rows_at bond) (columns_at n j)) (rows_at bond) (columns_at n j) j at dropped epsilon limit sites' bonds' starts' marks' (Err e) sites'' bonds'' starts'' marks'' u''
+      → WalkEnd first n epsilon limit sites bonds starts marks (Err e) sites'' bonds'' starts'' marks'' u''
+  walk_refused e t =
+      let a = answer-is (Err e) t in
+      let m : (reply_to first n epsilon limit (suc j)).0 ≡ 0 → ⊥ = λ z. stopped-number e (ap (λ (x : Reply). x.0) a ∙ z) in
+      let i : n - 1 - suc j + suc j ≡ n - 1 = omega arith in
+      record {
+        answer = a ∙ reply-stays first n epsilon limit (suc j) (n - 1 - suc j) m ∙ ap (reply_to first n epsilon limit) i;
+        walked = tt;
+      }
 
 -- every step was answered 0
 pub walk_end : (first : List Float) (n : ℕ) (epsilon : Float) (limit j : ℕ) (sites : List Float) (bonds starts marks : List ℕ) (bond at dropped : ℕ)
     {sites' : List Float} {bonds' starts' marks' : List ℕ} {u' : List Float} → j ≡ n - 1
     → Walking first n epsilon limit j sites bonds starts marks bond at dropped sites' bonds' starts' marks' u'
-    → WalkEnd first n epsilon limit sites bonds starts marks (record { answer = Done; bond = bond; at = at; dropped = dropped }) sites' bonds' starts' marks' u'
+    → WalkEnd first n epsilon limit sites bonds starts marks (Ok (record { bond = bond; at = at; dropped = dropped })) sites' bonds' starts' marks' u'
 walk_end first n epsilon limit j sites bonds starts marks bond at dropped e w =
     let v = rw e at w in
-    record { answer = sym v.reply-is; walked = λ z. v }
+    record { answer = sym v.reply-is; walked = v }

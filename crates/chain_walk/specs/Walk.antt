@@ -1,6 +1,7 @@
 -- The contracts of the walk along the chain. Definitions only.
-use Rattle.std.specs.Prelude.{◌≡◌, List, ◌++◌, ℕ, ◌+◌, ◌-◌, ◌*◌, ◌/◌, ◌^◌, ◌≤◌, ◌<◌, take, drop, set, Float}
+use Rattle.std.specs.Prelude.{◌≡◌, List, ◌++◌, ℕ, ◌+◌, ◌-◌, ◌*◌, ◌/◌, ◌^◌, ◌≤◌, ◌<◌, take, drop, set, Float, Result, IfOk}
 use Rattle.answers.specs.Paper.{paper, done}
+use Rattle.answers.specs.declared.Refusal.{Refusal}
 use Rattle.site_ranks.specs.Ranks.{rank_of, discards_of}
 use Rattle.svd.specs.Svd.{s_of, svd_sweeps}
 use Rattle.chain_step.specs.Step.{step_site, carried_on, step_reply}
@@ -33,9 +34,9 @@ pub record Taken (a : List Float) (rows columns j at dropped : ℕ) (epsilon : F
 
 -- the answer of a step, and where it is 0 what it leaves
 pub record Next (a : List Float) (rows columns j at dropped : ℕ) (epsilon : Float) (limit : ℕ) (sites : List Float) (bonds starts marks : List ℕ)
-    (r : Walked) (sites' : List Float) (bonds' starts' marks' : List ℕ) (u' : List Float) : Type 0 where
-  pub answer : paper r.answer ≡ step_reply a rows columns (rank_of (s_of a rows columns) epsilon limit)
-  pub taken : (paper r.answer).0 ≡ 0 → Taken a rows columns j at dropped epsilon limit sites bonds starts marks r sites' bonds' starts' marks' u'
+    (r : Result Walked Refusal) (sites' : List Float) (bonds' starts' marks' : List ℕ) (u' : List Float) : Type 0 where
+  pub answer : paper r ≡ step_reply a rows columns (rank_of (s_of a rows columns) epsilon limit)
+  pub taken : IfOk r (λ w. Taken a rows columns j at dropped epsilon limit sites bonds starts marks w sites' bonds' starts' marks' u')
 
 -- ---- the walk
 
@@ -67,7 +68,6 @@ pub record Walking (first : List Float) (n : ℕ) (epsilon : Float) (limit j : �
 
 -- the answer of every step, and where it is 0 what they leave
 pub record WalkEnd (first : List Float) (n : ℕ) (epsilon : Float) (limit : ℕ) (sites : List Float) (bonds starts marks : List ℕ)
-    (r : Walked) (sites' : List Float) (bonds' starts' marks' : List ℕ) (u' : List Float) : Type 0 where
-  pub answer : paper r.answer ≡ reply_to first n epsilon limit (n - 1)
-  pub walked : (paper r.answer).0 ≡ 0
-      → Walking first n epsilon limit (n - 1) sites bonds starts marks r.bond r.at r.dropped sites' bonds' starts' marks' u'
+    (r : Result Walked Refusal) (sites' : List Float) (bonds' starts' marks' : List ℕ) (u' : List Float) : Type 0 where
+  pub answer : paper r ≡ reply_to first n epsilon limit (n - 1)
+  pub walked : IfOk r (λ w. Walking first n epsilon limit (n - 1) sites bonds starts marks w.bond w.at w.dropped sites' bonds' starts' marks' u')

@@ -1,13 +1,13 @@
 -- What the program writes of the bytes of `state.bin`. Definitions only.
-use Rattle.std.specs.Prelude.{List, ℕ, Float}
+use Rattle.std.specs.Prelude.{List, ℕ, Float, Result}
 use Rattle.std.specs.Float.{binary64}
 use Rattle.std.specs.Float.Ieee.{of_bits}
-use Rattle.answers.specs.Paper.{Reply, paper, if_done}
+use Rattle.answers.specs.Paper.{Reply, paper, given, if_done}
 use Rattle.cutfile.specs.Bytes.{word32}
 use Rattle.cutfile.specs.Layout.{header_answer}
 use Rattle.cutfile_result.specs.Result.{state_of}
 use Rattle.lines.specs.Lines.{refused_line}
-use Rattle.chain_fill.specs.declared.Chained.{Chained}
+use Rattle.answers.specs.declared.Refusal.{Refusal}
 use Rattle.chain_fill.specs.Fill.{bonds_of, starts_of, marks_of, dropped_of}
 use Rattle.chains.specs.Chains.{sites_filled, chain_reply}
 use Rattle.chain_lines.specs.ChainLines.{chain_text}
@@ -17,9 +17,9 @@ abbrev pub threshold : Float
 threshold = of_bits binary64 0x3d71_9799_812d_ea11
 
 -- the text of what the call answered and left: the chain, or `refused N P`
-unfoldable pub told_text : ℕ → Chained → List Float → List ℕ → List ℕ → List ℕ → List ℕ
+unfoldable pub told_text : ℕ → Result ℕ Refusal → List Float → List ℕ → List ℕ → List ℕ → List ℕ
 told_text n made sites bonds starts marks =
-    if_done (paper made.answer).0 (chain_text n made.dropped sites bonds starts marks) (refused_line (paper made.answer))
+    if_done (paper made).0 (chain_text n (given 0 made) sites bonds starts marks) (refused_line (paper made))
 
 -- the answer of `chain_of_sites` at that threshold, with bond limit 64 and the room that the program lends
 unfoldable pub state_reply : List Float → ℕ → Reply

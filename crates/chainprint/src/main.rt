@@ -8,8 +8,7 @@
 // A file has at most 9 qubits, so 2,384 numbers of sites, 1,024 of state and 3,104 of scratch are enough, and 73,016 bytes of text.
 #![tactic(auto)]
 
-ghost use Rattle.std.specs.Prelude.{◌≡◌, ◌<◌, ◌≤◌, length};
-ghost use Rattle.answers.specs.Paper.{paper};
+ghost use Rattle.std.specs.Prelude.{◌≡◌, ◌≤◌, IfOk, length};
 ghost use Rattle.cutfile.specs.Layout.{LongEnough};
 ghost use Rattle.cutfile_result.specs.Result.{state_of};
 ghost use Rattle.io.specs.Counts.{IsPrefixLen};
@@ -17,32 +16,29 @@ ghost use Rattle.texts.specs.Text.{Puts};
 ghost use Rattle.chain_lines.specs.ChainLines.{ChainLaid};
 ghost use Rattle.chainprint.specs.Printout.{told_text, state_text, file_text};
 
-use answers::Answer;
-use chain_fill::Chained;
+use answers::Refusal;
 use std::rt::Files;
 
 // Puts what the call answered, or the chain that it left.
 fn put_told(
     out: &mut [u8],
     n: usize,
-    made: Chained,
+    made: Result<usize, Refusal>,
     sites: &[f64],
     bonds: &[usize],
     starts: &[usize],
     marks: &[usize],
 ) -> usize
     requires in_bounds { 50 ≤ length out.old }
-    requires chain_laid { (paper made.answer).0 ≡ 0 → ChainLaid n sites.now bonds.now starts.now marks.now (length out.old) }
+    requires chain_laid { IfOk made (λ _. ChainLaid n sites.now bonds.now starts.now marks.now (length out.old)) }
     ensures puts { Puts 0 (told_text n made sites.now bonds.now starts.now marks.now)
         out.old result out.new }
     ensures prefix_len { IsPrefixLen result out.new }
 {
-    let answer = made.answer;
-    let dropped = made.dropped;
-    let Answer::Done = answer else {
-        return lines::put_refused(out, answer);
-    };
-    chain_lines::put_chain(out, n, dropped, sites, bonds, starts, marks)
+    match made {
+        Ok(dropped) => chain_lines::put_chain(out, n, dropped, sites, bonds, starts, marks),
+        Err(refusal) => lines::put_refused(out, Err(refusal)),
+    }
 }
 
 // Puts the chain of a state.
@@ -95,14 +91,10 @@ fn put_bytes(out: &mut [u8], file: &[u8]) -> usize
     ensures puts { Puts 0 (file_text file.now) out.old result out.new }
     ensures prefix_len { IsPrefixLen result out.new }
 {
-    let header = cutfile::check_header(file);
-    let answer = header.answer;
-    let n = header.n;
-    let k = header.k;
-    let Answer::Done = answer else {
-        return lines::put_refused(out, answer);
-    };
-    put_file(out, file, n, k)
+    match cutfile::check_header(file) {
+        Ok(header) => put_file(out, file, header.n, header.k),
+        Err(refusal) => lines::put_refused(out, Err(refusal)),
+    }
 }
 
 // The bytes of `state.bin` at the front of buf, and how many there are: none where there is no such file.

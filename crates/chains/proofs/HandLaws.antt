@@ -10,8 +10,7 @@ use lib.Seq.{take_at}
 use lib.Dec.{ltb}
 use lib.Ieee.{Float, nan}
 use borrow.Author.Tests.{ltb-true, ltb-false}
-use Rattle.answers.specs.declared.Answer.{Answer}
-use Rattle.answers.specs.Paper.{Reply, paper}
+use Rattle.answers.specs.Paper.{Answer, Reply, paper}
 use Rattle.answers.proofs.PaperLaws.{and_then-done, done-new, end-new}
 use Rattle.complex.specs.declared.Complex.{Complex}
 use Rattle.complex.specs.Arithmetic.{complex_of, product}
@@ -124,7 +123,7 @@ unfolding svd_answer step_site carried_on carried_by
 hand-made carried bond columns epsilon limit chi drops sweeps site on h =
     let a = columnwise carried (2 * bond) columns in
     let rows = 2 * bond in
-    let x = (paper h.factors.answer).0 in
+    let x = (paper h.factors).0 in
     let t : (svd_tests a rows columns (length h.u) (length h.s) (length h.vt) (length h.scratch)).0 ≡ 0 =
     (and_then-done _ (svd_end (u_of a rows columns) (s_of a rows columns) (vt_of a rows columns)) (ap (λ (r : Reply). r.0) (sym h.svd.answer) ∙ h.svd-done)).0 in
     let z = accepted a rows columns (length h.u) (length h.s) (length h.vt) (length h.scratch) t in

@@ -1,21 +1,21 @@
 -- What a reader may want to know of the chain of sites. Assumes nothing.
-use mathlib.Core.Path.{◌≡◌, refl, sym, ap, ap₂, ◌∙◌}
+use mathlib.Core.Path.{◌≡◌, refl, sym, ap, ◌∙◌}
 use mathlib.Core.Bool.{Bool}
 use mathlib.Core.List.{List, [], ◌∷◌, ◌++◌}
 use Prim.Native.Nat.{ℕ, suc, ◌+◌, ◌-◌, ◌*◌, ◌≤◌, ◌<◌}
 use native.Mathlib.Omega.{arith}
 use lib.ListN.{get_or}
 use lib.Ieee.{Float}
-use Rattle.answers.specs.declared.Answer.{Answer}
-use Rattle.answers.specs.Paper.{paper}
-use Rattle.answers.proofs.Theorems.{paper-one}
+use Rattle.answers.specs.Paper.{paper, given}
+use Rattle.answers.proofs.Theorems.{result-one}
 use Rattle.site_ranks.specs.Ranks.{rank_of, discards_of, widest_of}
 use Rattle.sweeps.specs.declared.Sweeps.{Sweeps}
 use Rattle.svd.specs.Svd.{s_of, svd_sweeps}
 use Rattle.chain_start.specs.Start.{carried_first}
 use Rattle.chain_step.specs.Step.{columnwise, step_site, carried_on}
 use Rattle.chain_walk.specs.Chain.{Links, most_of}
-use Rattle.chain_fill.specs.declared.Chained.{Chained}
+use Rattle.std.specs.Prelude.{Result}
+use Rattle.answers.specs.declared.Refusal.{Refusal}
 use Rattle.chain_fill.specs.Fill.{last_of, chain_of, bonds_of, starts_of, marks_of, dropped_of}
 use Rattle.chains.specs.Chains.{ChainOfSites}
 use Rattle.chains.specs.ByHand.{HandStep, HandWalk}
@@ -25,16 +25,15 @@ use Rattle.chains.proofs.HandLaws.{hand-made, hand-walked}
 
 -- Only one outcome meets the contract of `chain_of_sites`: its answer, its count of drops, and every cell of the eight lent slices.
 pub chain-of-sites-one : (s : List Float) (n : ℕ) (epsilon : Float) (limit : ℕ) (sites : List Float) (bonds starts marks : List ℕ) (matrix u vt scratch : List Float)
-    (r q : Chained) (sites' : List Float) (bonds' starts' marks' : List ℕ) (matrix' u' vt' scratch' : List Float)
+    (r q : Result ℕ Refusal) (sites' : List Float) (bonds' starts' marks' : List ℕ) (matrix' u' vt' scratch' : List Float)
     (sites'' : List Float) (bonds'' starts'' marks'' : List ℕ) (matrix'' u'' vt'' scratch'' : List Float)
     → ChainOfSites s n epsilon limit sites bonds starts marks matrix u vt scratch r sites' bonds' starts' marks' matrix' u' vt' scratch'
     → ChainOfSites s n epsilon limit sites bonds starts marks matrix u vt scratch q sites'' bonds'' starts'' marks'' matrix'' u'' vt'' scratch''
     → (r ≡ q) × (sites' ≡ sites'') × (bonds' ≡ bonds'') × (starts' ≡ starts'') × (marks' ≡ marks'')
     × (matrix' ≡ matrix'') × (u' ≡ u'') × (vt' ≡ vt'') × (scratch' ≡ scratch'')
 chain-of-sites-one s n epsilon limit sites bonds starts marks matrix u vt scratch r q sites' bonds' starts' marks' matrix' u' vt' scratch' sites'' bonds'' starts'' marks'' matrix'' u'' vt'' scratch'' x y =
-    let e : r.answer ≡ q.answer = paper-one r.answer q.answer (x.answer ∙ sym y.answer) in
-    let d : r.dropped ≡ q.dropped = x.dropped-is ∙ rw e (sym y.dropped-is) in (
-      ap₂ (λ (a : Answer) (k : ℕ). record { answer = a; dropped = k }) e d,
+    let e : paper r ≡ paper q = x.answer ∙ sym y.answer in (
+      result-one r q e (λ a b f g. ap (given 0) (sym f) ∙ x.dropped-is ∙ rw e (sym y.dropped-is) ∙ ap (given 0) g),
       x.sites-is ∙ rw e (sym y.sites-is),
       x.bonds-is ∙ rw e (sym y.bonds-is),
       x.starts_is ∙ rw e (sym y.starts_is),
@@ -46,9 +45,9 @@ chain-of-sites-one s n epsilon limit sites bonds starts marks matrix u vt scratc
     )
 
 -- No inner bond of a chain exceeds the limit, or B(j), or what `widest_block_cut` says of a block of n sites whose ends are 1.
-pub bond-most : {s : List Float} {n : ℕ} {epsilon : Float} {limit : ℕ} {sites : List Float} {bonds starts marks : List ℕ} {matrix u vt scratch : List Float} {r : Chained}
+pub bond-most : {s : List Float} {n : ℕ} {epsilon : Float} {limit : ℕ} {sites : List Float} {bonds starts marks : List ℕ} {matrix u vt scratch : List Float} {r : Result ℕ Refusal}
     {sites' : List Float} {bonds' starts' marks' : List ℕ} {matrix' u' vt' scratch' : List Float}
-    → ChainOfSites s n epsilon limit sites bonds starts marks matrix u vt scratch r sites' bonds' starts' marks' matrix' u' vt' scratch' → (paper r.answer).0 ≡ 0
+    → ChainOfSites s n epsilon limit sites bonds starts marks matrix u vt scratch r sites' bonds' starts' marks' matrix' u' vt' scratch' → (paper r).0 ≡ 0
     → (j : ℕ) → 1 ≤ j → j < n → (get_or bonds' j 0 ≤ limit) × (get_or bonds' j 0 ≤ most_of n limit j) × (get_or bonds' j 0 ≤ widest_of 1 1 n)
 bond-most {s = s} {n = n} {epsilon = epsilon} {limit = limit} c z j h k =
     let a = accepted-of c z in
@@ -56,9 +55,9 @@ bond-most {s = s} {n = n} {epsilon = epsilon} {limit = limit} c z j h k =
 
 -- The shapes chain up: the first bond and the last are 1, the first site starts at cell 0, and site j, of shape (bonds[j], 2, bonds[j+1]), takes the
 -- cells from starts[j] to starts[j+1].
-pub shapes-chain : {s : List Float} {n : ℕ} {epsilon : Float} {limit : ℕ} {sites : List Float} {bonds starts marks : List ℕ} {matrix u vt scratch : List Float} {r : Chained}
+pub shapes-chain : {s : List Float} {n : ℕ} {epsilon : Float} {limit : ℕ} {sites : List Float} {bonds starts marks : List ℕ} {matrix u vt scratch : List Float} {r : Result ℕ Refusal}
     {sites' : List Float} {bonds' starts' marks' : List ℕ} {matrix' u' vt' scratch' : List Float}
-    → ChainOfSites s n epsilon limit sites bonds starts marks matrix u vt scratch r sites' bonds' starts' marks' matrix' u' vt' scratch' → (paper r.answer).0 ≡ 0
+    → ChainOfSites s n epsilon limit sites bonds starts marks matrix u vt scratch r sites' bonds' starts' marks' matrix' u' vt' scratch' → (paper r).0 ≡ 0
     → (get_or bonds' 0 0 ≡ 1) × (get_or bonds' n 0 ≡ 1) × (get_or starts' 0 0 ≡ 0)
     × ((j : ℕ) → j < n → get_or starts' (suc j) 0 ≡ get_or starts' j 0 + 2 * get_or bonds' j 0 * get_or bonds' (suc j) 0)
 shapes-chain {s = s} {n = n} {epsilon = epsilon} {limit = limit} c z =

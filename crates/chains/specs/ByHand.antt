@@ -1,13 +1,13 @@
 -- The chain of sites taken by hand: the calls `svd_jacobi`, `truncated_svd_rank`, `discards_resolvable_weight`, `fill_isometry_site_data` and
 -- `fill_scaled_vt_data` in this order, step after step, each over any buffers and each answered 0. Definitions only.
-use Rattle.std.specs.Prelude.{◌≡◌, Bool, List, [], ◌∷◌, ◌++◌, ℕ, zero, suc, ◌+◌, ◌-◌, ◌*◌, ◌^◌, length, take, Float}
-use Rattle.answers.specs.declared.Answer.{Answer}
-use Rattle.answers.specs.Paper.{paper, and_then}
+use Rattle.std.specs.Prelude.{◌≡◌, Bool, List, [], ◌∷◌, ◌++◌, ℕ, zero, suc, ◌+◌, ◌-◌, ◌*◌, ◌^◌, length, take, Float, Result}
+use Rattle.answers.specs.Paper.{Answer, paper, given, and_then}
 use Rattle.site_lines.specs.Sources.{site_cell, isometry_cell, scaled_vt_cell}
 use Rattle.sites.specs.Calls.{column_sizes, row_sizes, plain_reply, scaled_vt_reply, Filled}
 use Rattle.site_ranks.specs.Ranks.{rank_of, discards_of}
 use Rattle.sweeps.specs.declared.Sweeps.{Sweeps}
-use Rattle.factored.specs.declared.Factored.{Factored}
+use Rattle.answers.specs.declared.Refusal.{Refusal}
+use Rattle.sweeps.specs.Sweeping.{no_sweeps}
 use Rattle.svd.specs.Svd.{side_of, Svd}
 use Rattle.chain_step.specs.Step.{columnwise}
 use Rattle.cut_marks.specs.Marks.{one_if, cut_marks}
@@ -23,7 +23,7 @@ pub record HandStep (carried : List Float) (bond columns : ℕ) (epsilon : Float
   pub room : List Float
   pub rest : List Float
   -- what comes back
-  pub factors : Factored
+  pub factors : Result Sweeps Refusal
   pub u' : List Float
   pub s' : List Float
   pub vt' : List Float
@@ -38,8 +38,8 @@ pub record HandStep (carried : List Float) (bond columns : ℕ) (epsilon : Float
   pub shape : physical * right ≡ columns
   -- the calls
   pub svd : Svd (columnwise carried (2 * bond) columns) (2 * bond) columns u s vt scratch factors u' s' vt' scratch'
-  pub svd-done : (paper factors.answer).0 ≡ 0
-  pub sweeps-are : sweeps ≡ factors.sweeps
+  pub svd-done : (paper factors).0 ≡ 0
+  pub sweeps-are : sweeps ≡ given no_sweeps factors
   pub rank_is : chi ≡ rank_of (take (side_of (2 * bond) columns) s') epsilon limit
   pub drops-is : drops ≡ discards_of (take (side_of (2 * bond) columns) s') chi
   pub isometry : Filled (and_then (column_sizes (2 * bond) bond chi) (plain_reply u' (2 * bond) (2 * bond) chi (length room)))

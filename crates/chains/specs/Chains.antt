@@ -1,8 +1,8 @@
 -- The chain of sites of a state: the call's answer, and what each lent slice holds at the end. Definitions only.
-use Rattle.std.specs.Prelude.{◌≡◌, List, ◌++◌, ℕ, ◌+◌, ◌-◌, length, drop, replicate, Float}
-use Rattle.answers.specs.Paper.{Reply, paper, and_then, if_done, if_worked, at_end}
+use Rattle.std.specs.Prelude.{◌≡◌, List, ◌++◌, ℕ, ◌+◌, ◌-◌, length, drop, replicate, Float, Result, IfOk}
+use Rattle.answers.specs.Paper.{Reply, paper, given, and_then, if_done, if_worked, at_end}
 use Rattle.complex.specs.Zeros.{zeros, zeroed}
-use Rattle.chain_fill.specs.declared.Chained.{Chained}
+use Rattle.answers.specs.declared.Refusal.{Refusal}
 use Rattle.chain_fill.specs.Fill.{chain_of, bonds_of, starts_of, marks_of, dropped_of, work_reply}
 use Rattle.chain_checks.specs.Checks.{need_sites, need_marks, need_plane, need_scratch, chain_tests}
 
@@ -21,31 +21,31 @@ chain_reply s n epsilon limit sites bonds starts marks matrix u vt scratch =
 
 -- the answer, the drops, and what every lent slice holds at the end
 pub record ChainOfSites (s : List Float) (n : ℕ) (epsilon : Float) (limit : ℕ)
-    (sites : List Float) (bonds starts marks : List ℕ) (matrix u vt scratch : List Float) (r : Chained)
+    (sites : List Float) (bonds starts marks : List ℕ) (matrix u vt scratch : List Float) (r : Result ℕ Refusal)
     (sites' : List Float) (bonds' starts' marks' : List ℕ) (matrix' u' vt' scratch' : List Float) : Type 0 where
-  pub answer : paper r.answer
+  pub answer : paper r
       ≡ chain_reply s n epsilon limit (length sites) (length bonds) (length starts) (length marks) (length matrix) (length u) (length vt) (length scratch)
-  pub dropped-is : r.dropped ≡ if_done (paper r.answer).0 (dropped_of s n epsilon limit) 0
-  pub sites-is : sites' ≡ at_end (paper r.answer).0
+  pub dropped-is : given 0 r ≡ if_done (paper r).0 (dropped_of s n epsilon limit) 0
+  pub sites-is : sites' ≡ at_end (paper r).0
       (sites_filled s n epsilon limit ++ drop (need_sites n limit) sites) (zeroed (need_sites n limit) sites) sites
-  pub bonds-is : bonds' ≡ at_end (paper r.answer).0 (bonds_of s n epsilon limit ++ drop (n + 1) bonds) (counts_cleared (n + 1) bonds) bonds
-  pub starts_is : starts' ≡ at_end (paper r.answer).0 (starts_of s n epsilon limit ++ drop (n + 1) starts) (counts_cleared (n + 1) starts) starts
-  pub marks-is : marks' ≡ at_end (paper r.answer).0
+  pub bonds-is : bonds' ≡ at_end (paper r).0 (bonds_of s n epsilon limit ++ drop (n + 1) bonds) (counts_cleared (n + 1) bonds) bonds
+  pub starts_is : starts' ≡ at_end (paper r).0 (starts_of s n epsilon limit ++ drop (n + 1) starts) (counts_cleared (n + 1) starts) starts
+  pub marks-is : marks' ≡ at_end (paper r).0
       (marks_of s n epsilon limit ++ drop (need_marks n) marks) (counts_cleared (need_marks n) marks) marks
-  pub matrix-is : matrix' ≡ if_worked (paper r.answer).0 (zeroed (need_plane n) matrix) matrix
-  pub u-is : u' ≡ if_worked (paper r.answer).0 (zeroed (need_plane n) u) u
-  pub vt_is : vt' ≡ if_worked (paper r.answer).0 (zeroed (need_plane n) vt) vt
-  pub scratch-is : scratch' ≡ if_worked (paper r.answer).0 (zeroed (need_scratch n) scratch) scratch
+  pub matrix-is : matrix' ≡ if_worked (paper r).0 (zeroed (need_plane n) matrix) matrix
+  pub u-is : u' ≡ if_worked (paper r).0 (zeroed (need_plane n) u) u
+  pub vt_is : vt' ≡ if_worked (paper r).0 (zeroed (need_plane n) vt) vt
+  pub scratch-is : scratch' ≡ if_worked (paper r).0 (zeroed (need_scratch n) scratch) scratch
 
 -- the work of an accepted call, over slices of exactly the needed lengths
-pub record ChainWorked (s : List Float) (n : ℕ) (epsilon : Float) (limit : ℕ) (r : Chained)
+pub record ChainWorked (s : List Float) (n : ℕ) (epsilon : Float) (limit : ℕ) (r : Result ℕ Refusal)
     (sites : List Float) (bonds starts marks : List ℕ) (matrix u vt scratch : List Float) : Type 0 where
-  pub answer : paper r.answer ≡ work_reply s n epsilon limit
-  pub dropped-is : r.dropped ≡ if_done (paper r.answer).0 (dropped_of s n epsilon limit) 0
-  pub sites-is : sites ≡ if_done (paper r.answer).0 (sites_filled s n epsilon limit) (zeros (need_sites n limit))
-  pub bonds-is : bonds ≡ if_done (paper r.answer).0 (bonds_of s n epsilon limit) (replicate (n + 1) 0)
-  pub starts_is : starts ≡ if_done (paper r.answer).0 (starts_of s n epsilon limit) (replicate (n + 1) 0)
-  pub marks-is : marks ≡ if_done (paper r.answer).0 (marks_of s n epsilon limit) (replicate (need_marks n) 0)
+  pub answer : paper r ≡ work_reply s n epsilon limit
+  pub dropped-is : IfOk r (λ dropped. dropped ≡ dropped_of s n epsilon limit)
+  pub sites-is : sites ≡ if_done (paper r).0 (sites_filled s n epsilon limit) (zeros (need_sites n limit))
+  pub bonds-is : bonds ≡ if_done (paper r).0 (bonds_of s n epsilon limit) (replicate (n + 1) 0)
+  pub starts_is : starts ≡ if_done (paper r).0 (starts_of s n epsilon limit) (replicate (n + 1) 0)
+  pub marks-is : marks ≡ if_done (paper r).0 (marks_of s n epsilon limit) (replicate (need_marks n) 0)
   pub matrix-is : matrix ≡ zeros (need_plane n)
   pub u-is : u ≡ zeros (need_plane n)
   pub vt_is : vt ≡ zeros (need_plane n)

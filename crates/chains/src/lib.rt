@@ -7,8 +7,7 @@ ghost use Rattle.chain_fill.specs.Fill.{FillRoom};
 ghost use Rattle.chain_checks.specs.Checks.{need_plane};
 ghost use Rattle.chains.specs.Chains.{ChainWorked, ChainOfSites};
 
-use answers::Answer;
-use chain_fill::Chained;
+use answers::Refusal;
 
 // Every number of the results becomes zero: 8 and 9.
 fn clear_chain(sites: &mut [f64], bonds: &mut [usize], starts: &mut [usize], marks: &mut [usize])
@@ -49,7 +48,7 @@ fn work(
     u: &mut [f64],
     vt: &mut [f64],
     scratch: &mut [f64],
-) -> Chained
+) -> Result<usize, Refusal>
     requires { FillRoom n limit (length state.now) (length sites.old) (length bonds.old) (length starts.old)
         (length marks.old) (length u.old) (length vt.old) (length scratch.old) × (length matrix.old ≡ need_plane n) }
     ensures { ChainWorked state.now n epsilon limit result sites.new bonds.new starts.new
@@ -60,16 +59,16 @@ fn work(
         state, n, epsilon, limit, sites, bonds, starts, marks, u, vt, scratch,
     );
     clear_scratch(matrix, u, vt, scratch);
-    let answer = made.answer;
-    let Answer::Done = answer else {
+    if made.is_err() {
         clear_chain(sites, bonds, starts, marks);
         return made;
-    };
+    }
     made
 }
 
 // The sites of the state of n qubits, with threshold epsilon and bond limit; each bond, the cell where each site starts, the marks
 // of each cut's SVD, and how many cuts dropped a value above the resolution.
+#[tactic(auto, using(chain_checks::proofs::CheckLaws::plane_few, chain_checks::proofs::CheckLaws::side_few, chain_room::proofs::RoomLaws::room_few))]
 pub fn chain_of_sites(
     state: &[f64],
     n: usize,
@@ -83,14 +82,14 @@ pub fn chain_of_sites(
     u: &mut [f64],
     vt: &mut [f64],
     scratch: &mut [f64],
-) -> Chained
+) -> Result<usize, Refusal>
     ensures { ChainOfSites state.now n epsilon limit sites.old bonds.old
         starts.old marks.old
         matrix.old u.old vt.old scratch.old result
         sites.new bonds.new starts.new marks.new matrix.new u.new
         vt.new scratch.new }
 {
-    let answer = chain_checks::check(
+    chain_checks::check(
         state,
         n,
         limit,
@@ -102,10 +101,7 @@ pub fn chain_of_sites(
         u.len(),
         vt.len(),
         scratch.len(),
-    );
-    let Answer::Done = answer else {
-        return Chained { answer, dropped: 0 };
-    };
+    )?;
     let cells = submasks::bit(n);
     let side = submasks::bit(n / 2);
     let room = chain_room::room_of(n, limit);

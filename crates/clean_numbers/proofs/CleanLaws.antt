@@ -1,19 +1,16 @@
 -- Laws of what `specs/Clean.antt` defines. Assumes nothing.
 use mathlib.Core.Path.{◌≡◌, refl, sym, ap, ◌∙◌}
-use mathlib.Core.Bool.{Bool, true, false, ◌&&◌}
-use mathlib.Core.List.{List}
-use mathlib.Core.Logic.{⊎_elim}
-use Prim.Native.Nat.{ℕ, zero, suc, ◌+◌, ◌-◌, ◌*◌, ◌≤◌, ◌<◌}
-use native.Mathlib.Nat.{mul-pos, zero-mul, eq-or-lt_of_le}
+use mathlib.Core.Bool.{Bool, true, false, not, ◌&&◌}
+use Prim.Native.Nat.{ℕ, zero, suc, ◌*◌}
+use native.Mathlib.Nat.{mul-pos, zero-mul}
 use native.Mathlib.Omega.{arith}
 use borrow.Author.Tests.{eqb-true}
 use lib.IntN.{ℤ, pos}
-use lib.Ieee.{Float, nan, inf, fin, binary64, of_bits, up, down, unlike, round, sum, add, neg, sub, mul, lt, eq}
+use lib.Ieee.{Float, nan, inf, fin, binary64, of_bits, up, down, unlike, round, sum, add, neg, sub, mul, lt, eq, ne}
 use lib.Ieee.Fits.{up_pos, down_pos}
-use lib.ListN.{length, get_or}
 use Rattle.signs.proofs.Zeros.{round-zero, less-itself}
 use Rattle.numbers.specs.Numbers.{is_finite}
-use Rattle.clean_numbers.specs.Clean.{clean, EachClean}
+use Rattle.clean_numbers.specs.Clean.{clean}
 
 -- ---- one number
 
@@ -52,7 +49,7 @@ first true b h = refl
 first false b h = h
 
 -- a zero is not clean
-pub zero-not-clean : (x : Float) → eq x (of_bits binary64 0) ≡ true → false ≡ clean x
+zero-not-clean : (x : Float) → eq x (of_bits binary64 0) ≡ true → false ≡ clean x
 unfolding eq of_bits clean
 zero-not-clean nan h = refl
 zero-not-clean (inf s) h = refl
@@ -62,7 +59,7 @@ zero-not-clean (fin s (suc m) e) h =
     absurd (omega (arith, n, zero-mul (down e), mul-pos {m = suc m} (omega arith) (up_pos e)))
 
 -- what is no zero is clean where it is finite
-pub finite-clean : (x : Float) → eq x (of_bits binary64 0) ≡ false → is_finite x ≡ clean x
+finite-clean : (x : Float) → eq x (of_bits binary64 0) ≡ false → is_finite x ≡ clean x
 unfolding eq of_bits clean is_finite
 finite-clean nan h = refl
 finite-clean (inf s) h = refl
@@ -70,20 +67,19 @@ finite-clean (fin true zero e) h = rw (zero-mul (up e), zero-mul (down e)) at h
 finite-clean (fin false zero e) h = rw (zero-mul (up e), zero-mul (down e)) at h
 finite-clean (fin s (suc m) e) h = refl
 
--- ---- the first of a list
+-- the same by the test that a number is no zero
+not-false : (b : Bool) → not b ≡ false → b ≡ true
+not-false true h = refl
+not-false false h = sym h
 
--- every number below i is clean
-pub record CleanBelow (i : ℕ) (s : List Float) : Type 0 where
-  each : (j : ℕ) → j < i → clean (get_or s j nan) ≡ true
+not-true : (b : Bool) → not b ≡ true → b ≡ false
+not-true true h = sym h
+not-true false h = refl
 
--- no number yet
-pub below_none : (s : List Float) → CleanBelow 0 s
-below_none s = record { each = λ j l. absurd (omega arith) }
+pub is-zero : (x : Float) → ne x (of_bits binary64 0) ≡ false → ne x (of_bits binary64 0) ≡ clean x
+unfolding ne
+is-zero x h = h ∙ zero-not-clean x (not-false _ h)
 
--- one number more
-pub below_more : (s : List Float) (i : ℕ) → CleanBelow i s → clean (get_or s i nan) ≡ true → CleanBelow (i + 1) s
-below_more s i h g = record { each = λ j l. ⊎_elim (λ (e : j ≡ i). rw e g) (λ (e : j < i). h.each j e) (eq-or-lt_of_le (omega arith)) }
-
--- and all
-pub below_all : (s : List Float) (i : ℕ) → CleanBelow i s → length s ≤ i → EachClean s
-below_all s i h g j l = h.each j (omega arith)
+pub no-zero : (x : Float) → ne x (of_bits binary64 0) ≡ true → is_finite x ≡ clean x
+unfolding ne
+no-zero x h = finite-clean x (not-true _ h)

@@ -1,3 +1,2 @@
 -- The laws, and what the functions' proofs share.
 pub mod CleanLaws
-pub mod CopyLaws

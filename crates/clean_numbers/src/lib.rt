@@ -9,28 +9,14 @@ ghost use Rattle.clean_numbers.specs.Copies.{CopiedBehind};
 fn is_clean(x: f64) -> bool
     ensures { result ≡ clean x }
 {
-    if x - x < x * x {
-        return true;
-    }
-    if x == 0.0 {
-        return false;
-    }
-    numbers::is_finite(x)
+    x - x < x * x || x != 0.0 && numbers::is_finite(x)
 }
 
 // Whether every number is finite and no zero.
 pub fn all_clean(s: &[f64]) -> bool
     ensures { result ≡ true → EachClean s.now }
 {
-    let m = s.len();
-    let mut i = 0;
-    while i < m {
-        if !is_clean(s[i]) {
-            return false;
-        }
-        i += 1;
-    }
-    true
+    s.iter().all(|x| is_clean(*x))
 }
 
 // The first m numbers are copied to the m behind them.
@@ -38,9 +24,8 @@ pub fn copy_behind(s: &mut [f64], m: usize)
     requires { 2 * m ≤ length s.old }
     ensures { CopiedBehind m s.old s.new }
 {
-    for k in 0..m {
-        s[m + k] = s[k];
-    }
+    let (front, back) = s.split_at_mut(m);
+    copies::copy_over(&mut back[..m], front);
 }
 
 // The m numbers behind the first m are copied over those.
@@ -48,7 +33,6 @@ pub fn copy_back(s: &mut [f64], m: usize)
     requires { 2 * m ≤ length s.old }
     ensures { take m s.new ≡ take m (drop m s.old) }
 {
-    for k in 0..m {
-        s[k] = s[m + k];
-    }
+    let (front, back) = s.split_at_mut(m);
+    copies::copy_over(front, &back[..m]);
 }

@@ -1,12 +1,11 @@
 -- Laws of what `specs/Zeros.antt` defines. Assumes nothing.
-use mathlib.Core.Path.{◌≡◌, refl}
-use mathlib.Core.List.{List, [], ◌∷◌, append_assoc}
-use Prim.Native.Nat.{ℕ, zero, suc, ◌+◌, ◌≤◌, ◌<◌}
-use native.Mathlib.Numerals.{add-one}
+use mathlib.Core.Path.{◌≡◌, refl, ap, ◌∙◌}
+use mathlib.Core.List.{List, [], ◌∷◌, ◌++◌}
+use Prim.Native.Nat.{ℕ, zero, suc, ◌≤◌, ◌<◌}
 use native.Mathlib.Omega.{arith}
 use lib.Ieee.{Float, nan}
-use lib.ListN.{length, get_or, set, drop, length-append, length-drop, get_or-append}
-use lib.Seq.{set_at, drop-cons, get_or_at}
+use lib.ListN.{length, get_or, take, drop, replicate, length-append, length-drop, get_or-append}
+use lib.Seq.{length-take-le, get_or_at}
 use mathlib.Core.Logic.{⊎_elim}
 use native.Mathlib.Nat.{eq-or-lt_of_le}
 use Rattle.complex.specs.Zeros.{zero_float, zeros, zeroed}
@@ -20,15 +19,20 @@ pub length-zeroed : (m : ℕ) (old : List Float) → m ≤ length old → length
 unfolding zeroed
 length-zeroed m old h = rw (length-append (zeros m) (drop m old)) (omega (arith, length-zeros m, length-drop m old))
 
-pub zeroed-none : (old : List Float) → old ≡ zeroed 0 old
-unfolding zeroed zeros
-zeroed-none old = refl
+zeros-more : (m : ℕ) → zero_float ∷ zeros m ≡ zeros m ++ zero_float ∷ []
+unfolding zeros
+zeros-more zero = refl
+zeros-more (suc m) = ap (λ (l : List Float). l ++ zero_float ∷ []) (zeros-more m)
 
-pub zeroed-more : (m : ℕ) (old : List Float) → m < length old → set (zeroed m old) m zero_float ≡ zeroed (m + 1) old
-unfolding zeroed zeros
-zeroed-more m old h =
-    let l = length-zeros m in
-    rw (add-one, drop-cons old m nan, set_at (zeros m) (get_or old m nan) (drop (suc m) old) zero_float m l) (simp append_assoc)
+zeros-are : (m : ℕ) → replicate m zero_float ≡ zeros m
+unfolding zeros
+zeros-are zero = refl
+zeros-are (suc m) = ap (λ (l : List Float). zero_float ∷ l) (zeros-are m) ∙ zeros-more m
+
+-- what `fill` writes over the m first numbers
+pub zeroed-is : (m : ℕ) (old new : List Float) → m ≤ length old → new ≡ replicate (length (take m old)) zero_float → new ++ drop m old ≡ zeroed m old
+unfolding zeroed
+zeroed-is m old new h e = rw (e, length-take-le m old h, zeros-are m)
 
 -- a number that was zeroed
 zeros-at : (m k : ℕ) → k < m → get_or (zeros m) k nan ≡ zero_float

@@ -138,6 +138,7 @@ pub fn write_cell(s: &mut [f64], x: usize, z: Complex)
 }
 
 // Inner: the cell i of a matrix of c cells whose planes are s.
+#[tactic(auto, unfolding(crate::specs::Planes::plane_at))]
 pub fn read_plane(s: &[f64], c: usize, i: usize) -> Complex
     requires { (i < c) × (c + i < length s.now) }
     ensures { result ≡ plane_at s.now c i }
@@ -150,6 +151,7 @@ pub fn read_plane(s: &[f64], c: usize, i: usize) -> Complex
 }
 
 // Inner: the cell i of a matrix of c cells whose planes are s becomes z.
+#[tactic(auto, unfolding(crate::specs::Planes::set_plane))]
 pub fn write_plane(s: &mut [f64], c: usize, i: usize, z: Complex)
     requires { (i < c) × (c + i < length s.old) }
     ensures { s.new ≡ set_plane s.old c i z }
@@ -164,9 +166,5 @@ pub fn zero_first(s: &mut [f64], m: usize)
     requires { m ≤ length s.old }
     ensures { s.new ≡ zeroed m s.old }
 {
-    let mut i = 0;
-    while i < m {
-        s[i] = 0.0;
-        i += 1;
-    }
+    s[..m].fill(0.0);
 }

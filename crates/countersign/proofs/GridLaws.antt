@@ -1,24 +1,30 @@
 -- Where nothing is refused every number is on the grid. Assumes nothing.
-use mathlib.Core.Path.{◌≡◌}
-use mathlib.Core.Bool.{true, not}
+use mathlib.Core.Path.{◌≡◌, refl}
+use mathlib.Core.Bool.{true, false}
 use mathlib.Core.List.{List, [], ◌∷◌}
 use Prim.Native.Nat.{ℕ, zero, suc, ◌/◌, ◌<◌}
 use native.Mathlib.Omega.{arith}
-use borrow.Author.Tests.{not-false}
 use lib.Ieee.{Float, nan}
 use lib.ListN.{length, get_or}
+use Rattle.std.proofs.Common.{Option, Some, None}
+use Rattle.std.specs.Option.{is_some, is_none}
+use Rattle.countersign_grid.specs.declared.Grid.{Grid}
 use Rattle.answers.proofs.PaperLaws.{refuse-done, and_then-done}
 use Rattle.countersign_grid.specs.Grid.{grid_of}
 use Rattle.countersign_checks.specs.Checks.{countersign_sizes, countersign_lengths, countersign_components, off_grid, countersign_grid, countersign_tests}
 
-on-grid : (per i : ℕ) (l : List Float) → (off_grid per i l).0 ≡ 0 → (j : ℕ) → j < length l → (grid_of (get_or l j nan)).on ≡ true
+on-grid : (per i : ℕ) (l : List Float) → (off_grid per i l).0 ≡ 0 → (j : ℕ) → j < length l → is_some (grid_of (get_or l j nan)) ≡ true
 unfolding off_grid
 on-grid per i [] e j h = absurd (omega arith)
-on-grid per i (x ∷ l) e zero h = not-false (grid_of x).on (refuse-done (not (grid_of x).on) 10 (i / per) (off_grid per (suc i) l) e).0
-on-grid per i (x ∷ l) e (suc j) h = on-grid per (suc i) l (refuse-done (not (grid_of x).on) 10 (i / per) (off_grid per (suc i) l) e).1 j (omega arith)
+on-grid per i (x ∷ l) e zero h = there (grid_of x) (refuse-done (is_none (grid_of x)) 10 (i / per) (off_grid per (suc i) l) e).0
+  where
+    there : (g : Option Grid) → is_none g ≡ false → is_some g ≡ true
+    there None f = cc
+    there (Some g) f = refl
+on-grid per i (x ∷ l) e (suc j) h = on-grid per (suc i) l (refuse-done (is_none (grid_of x)) 10 (i / per) (off_grid per (suc i) l) e).1 j (omega arith)
 
 abbrev OnGrid : List Float → Type 0
-OnGrid l = (j : ℕ) → j < length l → (grid_of (get_or l j nan)).on ≡ true
+OnGrid l = (j : ℕ) → j < length l → is_some (grid_of (get_or l j nan)) ≡ true
 
 pub all-on-grid : (a : List Float) (m n : ℕ) (u s vt : List Float) → (countersign_tests a m n u s vt).0 ≡ 0 → OnGrid a × OnGrid u × OnGrid s × OnGrid vt
 unfolding countersign_tests countersign_grid

@@ -7,8 +7,10 @@ use native.Mathlib.Omega.{arith}
 use lib.Dec.{ltb}
 use borrow.Author.Tests.{ltb-false, le-ltb}
 use lib.Ieee.{Float}
+use Rattle.std.proofs.Common.{Result, Ok, Err}
+use Rattle.answers.specs.declared.Refusal.{Refusal}
 use Rattle.answers.specs.Paper.{paper, if_done}
-use Rattle.answers.proofs.Theorems.{paper-one}
+use Rattle.answers.proofs.Theorems.{result-one}
 use Rattle.countersign_products.specs.Products.{product_fits}
 use Rattle.countersign_grams.specs.Grams.{gram_fits}
 use Rattle.countersign_scans.specs.Scans.{first_fail, value_fits}
@@ -17,9 +19,8 @@ use Rattle.matrix_sizes.specs.Sizes.{side_of}
 use Rattle.countersign_checks.specs.Checks.{countersign_tests}
 use Rattle.countersign.proofs.GridLaws.{all-on-grid}
 use Rattle.countersign.specs.declared.Finding.{Finding}
-use Rattle.countersign.specs.declared.Finding.TheVariants.{Unread, Yes, Product, Left, Right, Values}
-use Rattle.countersign.specs.declared.Countersigned.{Countersigned}
-use Rattle.countersign.specs.Verdict.{Says, says, fails_at, verdict_of, Countersign}
+use Rattle.countersign.specs.declared.Finding.TheVariants.{Yes, Product, Left, Right, Values}
+use Rattle.countersign.specs.Verdict.{Says, says, found, fails_at, verdict_of, Countersign}
 use Rattle.countersign.specs.Reader.{OnGrid, Sound}
 use Rattle.countersign.proofs.Carried.{entries-near, entries-hold, grams-near, grams-hold, value-least, value-falls, values-hold}
 
@@ -27,7 +28,7 @@ use Rattle.countersign.proofs.Carried.{entries-near, entries-hold, grams-near, g
 
 unsay : Bool → ℕ → ℕ → Finding
 unsay true t c = Yes
-unsay false zero c = Unread
+unsay false zero c = Yes
 unsay false (suc zero) c = Product c
 unsay false (suc (suc zero)) c = Left c
 unsay false (suc (suc (suc zero))) c = Right c
@@ -35,7 +36,6 @@ unsay false (suc (suc (suc (suc t)))) c = Values c
 
 back : (f : Finding) → unsay (says f).0 (says f).1 (says f).2 ≡ f
 unfolding unsay
-back Unread = refl
 back Yes = refl
 back (Product c) = refl
 back (Left c) = refl
@@ -47,11 +47,12 @@ pub says-one : (f g : Finding) → says f ≡ says g → f ≡ g
 says-one f g e = sym (back f) ∙ ap (λ (r : Says). unsay r.0 r.1 r.2) e ∙ back g
 
 -- Only one outcome meets the contract of `countersign`: its answer and its finding.
-pub countersign-one : (a : List Float) (m n : ℕ) (u s vt : List Float) (t : ℕ) (r q : Countersigned)
-    → Countersign a m n u s vt t r → Countersign a m n u s vt t q → (r.answer ≡ q.answer) × (r.finding ≡ q.finding)
+pub countersign-one : (a : List Float) (m n : ℕ) (u s vt : List Float) (t : ℕ) (r q : Result Finding Refusal)
+    → Countersign a m n u s vt t r → Countersign a m n u s vt t q → r ≡ q
 countersign-one a m n u s vt t r q x y =
-    let e : r.answer ≡ q.answer = paper-one r.answer q.answer (x.answer ∙ sym y.answer) in
-    (e, says-one r.finding q.finding (x.finding ∙ rw e (sym y.finding)))
+    let e : paper r ≡ paper q = x.answer ∙ sym y.answer in
+    let f : found r ≡ found q = x.finding ∙ rw e (sym y.finding) in
+    result-one r q e (λ v w g h. says-one v w (sym (ap found g) ∙ f ∙ ap found h))
 
 -- ---- yes exactly when
 
@@ -101,17 +102,21 @@ done-yes : (x : ℕ) (v : Says) → if_done x v (false, 0, 0) ≡ (true, 0, 0) �
 done-yes zero v e = (refl, e)
 done-yes (suc x) v e = absurd (true≢false (sym (ap (λ (r : Says). r.0) e)))
 
+found-yes : (r : Result Finding Refusal) → found r ≡ (true, 0, 0) → r ≡ Ok Yes
+found-yes (Ok f) e = ap Ok (says-one f Yes e)
+found-yes (Err x) e = absurd (true≢false (sym (ap (λ (r : Says). r.0) e)))
+
 -- The call says yes exactly when it refuses nothing, every entry of A less U·S·V† is within the tolerance in each
 -- part, both sets of vectors are orthonormal within it, and S never rises and is never negative.
-pub countersign-yes : (a : List Float) (m n : ℕ) (u s vt : List Float) (t : ℕ) (r : Countersigned) → Countersign a m n u s vt t r
-    → (r.finding ≡ Yes → ((countersign_tests a m n u s vt).0 ≡ 0) × Sound a m n (side_of m n) u s vt t)
-    × (((countersign_tests a m n u s vt).0 ≡ 0) × Sound a m n (side_of m n) u s vt t → r.finding ≡ Yes)
+pub countersign-yes : (a : List Float) (m n : ℕ) (u s vt : List Float) (t : ℕ) (r : Result Finding Refusal) → Countersign a m n u s vt t r
+    → (r ≡ Ok Yes → ((countersign_tests a m n u s vt).0 ≡ 0) × Sound a m n (side_of m n) u s vt t)
+    × (((countersign_tests a m n u s vt).0 ≡ 0) × Sound a m n (side_of m n) u s vt t → r ≡ Ok Yes)
 countersign-yes a m n u s vt t r x = (
   λ e.
-      let d = done-yes (paper r.answer).0 (verdict_of a m n (side_of m n) u s vt t) (sym x.finding ∙ ap says e) in
+      let d = done-yes (paper r).0 (verdict_of a m n (side_of m n) u s vt t) (sym x.finding ∙ ap found e) in
       (sym (ap (λ (z : ℕ × ℕ). z.0) x.answer) ∙ d.0, verdict-sound a m n (side_of m n) u s vt t d.1),
   λ h.
-      says-one r.finding Yes
+      found-yes r
       (x.finding
       ∙ ap (λ (z : ℕ). if_done z (verdict_of a m n (side_of m n) u s vt t) (false, 0, 0)) (ap (λ (z : ℕ × ℕ). z.0) x.answer ∙ h.0)
       ∙ sound-verdict a m n (side_of m n) u s vt t h.1),

@@ -1,6 +1,6 @@
 -- What yes means, in the integers: A is U·S·V† within the tolerance, both sets of vectors are orthonormal within it,
 -- S never rises and is never negative. Definitions only; `Theorems` shows that the call says yes exactly then.
-use Rattle.std.specs.Prelude.{◌≡◌, true, cond, List, ℕ, suc, ◌+◌, ◌*◌, ◌^◌, ◌≤◌, ◌<◌, eqb, ℤ, pos, nat_abs, Float, length, get_or}
+use Rattle.std.specs.Prelude.{◌≡◌, true, cond, List, ℕ, suc, ◌+◌, ◌*◌, ◌^◌, ◌≤◌, ◌<◌, eqb, ℤ, pos, nat_abs, Float, length, get_or, is_some}
 use Rattle.std.specs.Int.Signed.{le_z}
 use Rattle.std.specs.Float.{nan}
 use Rattle.countersign_grid.specs.Grid.{grid_of}
@@ -9,7 +9,7 @@ use Rattle.countersign_cells.specs.Cells.{value_at}
 
 -- every number of a list is a whole number of 2^-18 of magnitude at most 1
 abbrev pub OnGrid : List Float → Type 0
-OnGrid l = (j : ℕ) → j < length l → (grid_of (get_or l j nan)).on ≡ true
+OnGrid l = (j : ℕ) → j < length l → is_some (grid_of (get_or l j nan)) ≡ true
 
 -- number i of a list, as a whole number of 2^-18
 unfoldable pub number_z : List Float → ℕ → ℤ

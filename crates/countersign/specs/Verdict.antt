@@ -1,5 +1,6 @@
 -- What the tests find: product, U, V†, S, in this order, each with its first failing cell. Definitions only.
-use Rattle.std.specs.Prelude.{◌≡◌, Bool, true, false, cond, List, ℕ, ◌*◌, ◌≤◌, ltb, Float}
+use Rattle.std.specs.Prelude.{◌≡◌, Bool, true, false, cond, List, ℕ, ◌*◌, ◌≤◌, ltb, Float, Result, Ok, Err}
+use Rattle.answers.specs.declared.Refusal.{Refusal}
 use Rattle.answers.specs.Paper.{paper, if_done}
 use Rattle.countersign_products.specs.Products.{product_fits}
 use Rattle.countersign_grams.specs.Grams.{gram_fits}
@@ -7,8 +8,7 @@ use Rattle.countersign_scans.specs.Scans.{first_fail, value_fits}
 use Rattle.matrix_sizes.specs.Sizes.{side_of}
 use Rattle.countersign_checks.specs.Checks.{countersign_tests}
 use Rattle.countersign.specs.declared.Finding.{Finding}
-use Rattle.countersign.specs.declared.Finding.TheVariants.{Unread, Yes, Product, Left, Right, Values}
-use Rattle.countersign.specs.declared.Countersigned.{Countersigned}
+use Rattle.countersign.specs.declared.Finding.TheVariants.{Yes, Product, Left, Right, Values}
 
 -- yes or no, the number of the test that failed, its first failing cell
 abbrev pub Says : Type 0
@@ -16,12 +16,16 @@ Says = Bool × ℕ × ℕ
 
 -- the numbers of each case
 abbrev pub says : Finding → Says
-says Unread = (false, 0, 0)
 says Yes = (true, 0, 0)
 says (Product c) = (false, 1, c)
 says (Left c) = (false, 2, c)
 says (Right c) = (false, 3, c)
 says (Values c) = (false, 4, c)
+
+-- those of a call: a refused one says no, 0, 0
+abbrev pub found : Result Finding Refusal → Says
+found (Ok f) = says f
+found (Err e) = (false, 0, 0)
 
 -- a test fails where its first failing cell is one of its cells; else what the later tests say
 unfoldable pub fails_at : ℕ → ℕ → ℕ → Says → Says
@@ -35,9 +39,9 @@ verdict_of a m n k u s vt tolerance =
     (fails_at 3 (first_fail (gram_fits vt n k tolerance) 0 (k * k)) (k * k) (fails_at 4 (first_fail (value_fits s) 0 k) k (true, 0, 0))))
 
 -- the answer, and the finding: on a refusal no, 0, 0
-pub record Countersign (a : List Float) (m n : ℕ) (u s vt : List Float) (tolerance : ℕ) (r : Countersigned) : Type 0 where
-  pub answer : paper r.answer ≡ countersign_tests a m n u s vt
-  pub finding : says r.finding ≡ if_done (paper r.answer).0 (verdict_of a m n (side_of m n) u s vt tolerance) (false, 0, 0)
+pub record Countersign (a : List Float) (m n : ℕ) (u s vt : List Float) (tolerance : ℕ) (r : Result Finding Refusal) : Type 0 where
+  pub answer : paper r ≡ countersign_tests a m n u s vt
+  pub finding : found r ≡ if_done (paper r).0 (verdict_of a m n (side_of m n) u s vt tolerance) (false, 0, 0)
 
 -- the sizes and lengths of an accepted call
 pub record Accepted (m n k a u s vt : ℕ) : Type 0 where

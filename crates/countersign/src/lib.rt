@@ -7,13 +7,11 @@ ghost use Rattle.std.specs.Prelude.{◌≡◌, ◌≤◌, length};
 ghost use Rattle.countersign_products.specs.Products.{Read};
 ghost use Rattle.countersign.specs.Verdict.{says, verdict_of, Accepted, Countersign};
 
-use answers::Answer;
+use answers::Refusal;
 
-// What the tests found: all hold, or the first that fails, with its first failing cell. A refused call has read
-// nothing.
+// What the tests found: all hold, or the first that fails, with its first failing cell.
 #[derive(Clone, Copy)]
 pub enum Finding {
-    Unread,
     Yes,
     Product(usize),
     Left(usize),
@@ -32,41 +30,18 @@ pub struct Verdict {
 pub fn verdict_of(f: Finding) -> Verdict
     ensures { (result.yes ≡ (says f).0) × (result.test ≡ (says f).1) × (result.cell ≡ (says f).2) }
 {
-    match f {
-        Finding::Unread => Verdict {
-            yes: false,
-            test: 0,
-            cell: 0,
-        },
-        Finding::Yes => Verdict {
-            yes: true,
-            test: 0,
-            cell: 0,
-        },
-        Finding::Product(c) => Verdict {
-            yes: false,
-            test: 1,
-            cell: c,
-        },
-        Finding::Left(c) => Verdict {
-            yes: false,
-            test: 2,
-            cell: c,
-        },
-        Finding::Right(c) => Verdict {
-            yes: false,
-            test: 3,
-            cell: c,
-        },
-        Finding::Values(c) => Verdict {
-            yes: false,
-            test: 4,
-            cell: c,
-        },
-    }
+    let (yes, test, cell) = match f {
+        Finding::Yes => (true, 0, 0),
+        Finding::Product(c) => (false, 1, c),
+        Finding::Left(c) => (false, 2, c),
+        Finding::Right(c) => (false, 3, c),
+        Finding::Values(c) => (false, 4, c),
+    };
+    Verdict { yes, test, cell }
 }
 
 // The four tests in their order, over slices of an accepted call; the factors' numbers stand in us, ss and vs.
+#[tactic(auto, unfolding(crate::specs::Verdict::verdict_of, crate::specs::Verdict::fails_at))]
 fn judge(
     a: &[f64],
     m: usize,
@@ -84,94 +59,45 @@ fn judge(
     requires read { Read u.now us.now s.now ss.now vt.now vs.now }
     ensures { says result ≡ verdict_of a.now m n k u.now s.now vt.now tolerance }
 {
-    let entry = countersign_scans::first_product(a, u, us, s, ss, vt, vs, m, n, k, tolerance);
-    if entry < m * n {
+    if let Some(entry) = countersign_scans::first_product(
+        a, u, us, s, ss, vt, vs, m, n, k, tolerance,
+    ) {
         return Finding::Product(entry);
     }
-    let left = countersign_scans::first_inner(u, us, m, k, tolerance);
-    if left < k * k {
+    if let Some(left) = countersign_scans::first_inner(u, us, m, k, tolerance) {
         return Finding::Left(left);
     }
-    let right = countersign_scans::first_inner(vt, vs, n, k, tolerance);
-    if right < k * k {
+    if let Some(right) = countersign_scans::first_inner(vt, vs, n, k, tolerance) {
         return Finding::Right(right);
     }
-    let value = countersign_scans::first_value(s);
-    if value < k {
+    if let Some(value) = countersign_scans::first_value(s) {
         return Finding::Values(value);
     }
     Finding::Yes
 }
 
-// The same, with the factors' numbers read into lent rooms first.
-fn read_and_judge(
+// The same, with the factors' numbers read first, into rooms of ROOM numbers: of a call of few cells they are soon cleared.
+fn read_and_judge<const ROOM: usize>(
     a: &[f64],
     m: usize,
     n: usize,
     k: usize,
     u: &[f64],
-    us: &mut [u32],
     s: &[f64],
-    ss: &mut [u32],
     vt: &[f64],
-    vs: &mut [u32],
     tolerance: u64,
 ) -> Finding
     requires accepted { Accepted m n k (length a.now) (length u.now) (length s.now) (length vt.now) }
-    requires u_in_bounds { (length u.now ≤ length us.old) × (length s.now ≤ length ss.old) × (length vt.now ≤ length vs.old) }
+    requires room { (ROOM ≤ 8192) × (length u.now ≤ ROOM) × (length vt.now ≤ ROOM) }
     ensures { says result ≡ verdict_of a.now m n k u.now s.now vt.now tolerance }
 {
-    countersign_shifted::shift(u, us);
-    countersign_shifted::shift(s, ss);
-    countersign_shifted::shift(vt, vs);
-    judge(a, m, n, k, u, us, s, ss, vt, vs, tolerance)
-}
-
-// Of at most 256 cells: rooms that are soon cleared.
-fn judge_few(
-    a: &[f64],
-    m: usize,
-    n: usize,
-    k: usize,
-    u: &[f64],
-    s: &[f64],
-    vt: &[f64],
-    tolerance: u64,
-) -> Finding
-    requires { Accepted m n k (length a.now) (length u.now) (length s.now) (length vt.now) × (length a.now ≤ 512) }
-    ensures { says result ≡ verdict_of a.now m n k u.now s.now vt.now tolerance }
-{
-    let mut us = [0u32; 512];
+    let mut us = [0u32; ROOM];
     let mut ss = [0u32; 16];
-    let mut vs = [0u32; 512];
-    read_and_judge(a, m, n, k, u, &mut us, s, &mut ss, vt, &mut vs, tolerance)
-}
-
-// Of any number.
-fn judge_many(
-    a: &[f64],
-    m: usize,
-    n: usize,
-    k: usize,
-    u: &[f64],
-    s: &[f64],
-    vt: &[f64],
-    tolerance: u64,
-) -> Finding
-    requires { Accepted m n k (length a.now) (length u.now) (length s.now) (length vt.now) }
-    ensures { says result ≡ verdict_of a.now m n k u.now s.now vt.now tolerance }
-{
-    let mut us = [0u32; 8192];
-    let mut ss = [0u32; 16];
-    let mut vs = [0u32; 8192];
-    read_and_judge(a, m, n, k, u, &mut us, s, &mut ss, vt, &mut vs, tolerance)
-}
-
-// The answer, and what the tests found where it is Done.
-#[derive(Clone, Copy)]
-pub struct Countersigned {
-    pub answer: Answer,
-    pub finding: Finding,
+    let mut vs = [0u32; ROOM];
+    countersign_shifted::shift(u, &mut us);
+    countersign_shifted::shift(s, &mut ss);
+    countersign_shifted::shift(vt, &mut vs);
+    judge(a, m, n, k, u, &us, s, &ss, vt, &vs, tolerance)
 }
 
 // A is m by n, column-major; U m by k, column-major; S has k values; V† is k by n, row-major; k is the smaller size.
@@ -184,27 +110,14 @@ pub fn countersign(
     s: &[f64],
     vt: &[f64],
     tolerance: u64,
-) -> Countersigned
+) -> Result<Finding, Refusal>
     ensures { Countersign a.now m n u.now s.now vt.now tolerance result }
 {
-    let answer = countersign_checks::check(a, m, n, u, s, vt);
-    let Answer::Done = answer else {
-        return Countersigned {
-            answer,
-            finding: Finding::Unread,
-        };
-    };
+    countersign_checks::check(a, m, n, u, s, vt)?;
     let k = matrix_sizes::smaller_size(m, n);
     if a.len() <= 512 {
-        let few = judge_few(a, m, n, k, u, s, vt, tolerance);
-        return Countersigned {
-            answer: Answer::Done,
-            finding: few,
-        };
-    }
-    let finding = judge_many(a, m, n, k, u, s, vt, tolerance);
-    Countersigned {
-        answer: Answer::Done,
-        finding,
+        Ok(read_and_judge::<512>(a, m, n, k, u, s, vt, tolerance))
+    } else {
+        Ok(read_and_judge::<8192>(a, m, n, k, u, s, vt, tolerance))
     }
 }

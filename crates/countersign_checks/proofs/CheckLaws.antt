@@ -1,6 +1,6 @@
 -- Laws of the refusals, and what an accepted call has shown. Assumes nothing.
-use mathlib.Core.Path.{◌≡◌, sym, ap, ◌∙◌}
-use mathlib.Core.Bool.{true, false}
+use mathlib.Core.Path.{◌≡◌, refl, sym, ap, ◌∙◌}
+use mathlib.Core.Bool.{Bool, not, true, false}
 use mathlib.Core.List.{List}
 use Prim.Native.Nat.{ℕ, ◌+◌, ◌*◌, ◌/◌, ◌≤◌, ◌<◌}
 use native.Mathlib.Numerals.{add-one}
@@ -9,6 +9,8 @@ use borrow.Author.Tests.{lt-ltb, le-ltb, ltb-false}
 use lib.Ieee.{Float, nan}
 use lib.ListN.{length, get_or, drop, drop_of_length-le}
 use lib.Seq.{drop-cons}
+use Rattle.std.proofs.Common.{Option, Some, None}
+use Rattle.std.specs.Option.{is_none, is_some}
 use Rattle.answers.specs.Paper.{Reply, done, refuse, and_then, exactly}
 use Rattle.answers.proofs.PaperLaws.{refuse-done, and_then-done, exactly-done, both}
 use Rattle.matrix_sizes.specs.Sizes.{side_of, matrix_sizes, MatrixSized}
@@ -51,17 +53,24 @@ lengths-done m n a u s vt e =
 
 -- ---- the scan for a number off the grid
 
-pub grid-bad : (per : ℕ) (l : List Float) (i : ℕ) {g : Grid} → i < length l → g ≡ grid_of (get_or l i nan) → g.on ≡ false → off_grid per i (drop i l) ≡ (11, i / per)
+none-is : (g : Option Grid) (b : Bool) → is_some g ≡ not b → is_none g ≡ b
+none-is None true a = refl
+none-is None false a = cc
+none-is (Some g) true a = cc
+none-is (Some g) false a = refl
+
+pub grid-bad : (per : ℕ) (l : List Float) (i : ℕ) {g : Option Grid} {b : Bool} → i < length l → g ≡ grid_of (get_or l i nan) → is_some g ≡ not b → b ≡ true
+    → off_grid per i (drop i l) ≡ (11, i / per)
 unfolding off_grid
-grid-bad per l i h e f =
-    let o : (grid_of (get_or l i nan)).on ≡ false = ap (λ (x : Grid). x.on) (sym e) ∙ f in
+grid-bad per l i h e a f =
+    let o : is_none (grid_of (get_or l i nan)) ≡ true = ap is_none (sym e) ∙ none-is _ _ a ∙ f in
     rw (drop-cons l i nan, o)
 
-pub grid-good : (per : ℕ) (l : List Float) (i : ℕ) {g : Grid} → i < length l → g ≡ grid_of (get_or l i nan) → g.on ≡ true
+pub grid-good : (per : ℕ) (l : List Float) (i : ℕ) {g : Option Grid} {b : Bool} → i < length l → g ≡ grid_of (get_or l i nan) → is_some g ≡ not b → b ≡ false
     → off_grid per i (drop i l) ≡ off_grid per (i + 1) (drop (i + 1) l)
 unfolding off_grid
-grid-good per l i h e f =
-    let o : (grid_of (get_or l i nan)).on ≡ true = ap (λ (x : Grid). x.on) (sym e) ∙ f in
+grid-good per l i h e a f =
+    let o : is_none (grid_of (get_or l i nan)) ≡ false = ap is_none (sym e) ∙ none-is _ _ a ∙ f in
     rw (add-one, drop-cons l i nan, o)
 
 pub grid-end : (per : ℕ) (l : List Float) (i : ℕ) → length l ≤ i → off_grid per i (drop i l) ≡ done

@@ -1,6 +1,6 @@
 -- The refusals of a call that countersigns, in their order: 1, 6, 7 in all four arguments, 11 in all four.
 -- Definitions only.
-use Rattle.std.specs.Prelude.{not, List, [], ◌∷◌, ℕ, suc, ◌*◌, ◌/◌, ltb, Float, length}
+use Rattle.std.specs.Prelude.{is_none, List, [], ◌∷◌, ℕ, suc, ◌*◌, ◌/◌, ltb, Float, length}
 use Rattle.answers.specs.Paper.{Reply, done, refuse, and_then, exactly}
 use Rattle.matrix_sizes.specs.Sizes.{side_of, matrix_sizes}
 use Rattle.complex.specs.Cells.{components}
@@ -22,7 +22,7 @@ countersign_components a u s vt = and_then (components 0 a) (and_then (component
 -- those from place i on are left
 unfoldable pub off_grid : ℕ → ℕ → List Float → Reply
 off_grid per i [] = done
-off_grid per i (x ∷ l) = refuse (not (grid_of x).on) (11, i / per) (off_grid per (suc i) l)
+off_grid per i (x ∷ l) = refuse (is_none (grid_of x)) (11, i / per) (off_grid per (suc i) l)
 
 unfoldable pub countersign_grid : List Float → List Float → List Float → List Float → Reply
 countersign_grid a u s vt = and_then (off_grid 2 0 a) (and_then (off_grid 2 0 u) (and_then (off_grid 1 0 s) (off_grid 2 0 vt)))

@@ -5,99 +5,75 @@ ghost use Rattle.std.specs.Prelude.{◌≡◌, ◌*◌, ◌<◌, ◌≤◌, leng
 ghost use Rattle.answers.specs.Paper.{paper};
 ghost use Rattle.countersign_checks.specs.Checks.{countersign_sizes, countersign_lengths, countersign_components, off_grid, countersign_grid, countersign_tests};
 
-use answers::Answer;
+use answers::Refusal;
 
 // Sizes that are taken, and the smaller size at most 16: else 1.
-fn check_sizes(m: usize, n: usize) -> Answer
+#[tactic(auto, unfolding(crate::specs::Checks::countersign_sizes))]
+fn check_sizes(m: usize, n: usize) -> Result<(), Refusal>
     ensures { paper result ≡ countersign_sizes m n }
 {
-    let first = matrix_sizes::check_sizes(m, n);
-    let Answer::Done = first else {
-        return first;
-    };
-    let k = matrix_sizes::smaller_size(m, n);
-    if k > 16 {
-        return Answer::Size;
+    matrix_sizes::check_sizes(m, n)?;
+    if matrix_sizes::smaller_size(m, n) > 16 {
+        return Err(Refusal::Size);
     }
-    Answer::Done
+    Ok(())
 }
 
 // All four lengths are exact: else 6 at the first that is not.
-fn check_lengths(m: usize, n: usize, a: usize, u: usize, s: usize, vt: usize) -> Answer
+#[tactic(auto, unfolding(crate::specs::Checks::countersign_lengths))]
+fn check_lengths(m: usize, n: usize, a: usize, u: usize, s: usize, vt: usize) -> Result<(), Refusal>
     requires { m * n ≤ 4096 }
     ensures { paper result ≡ countersign_lengths m n a u s vt }
 {
     let k = matrix_sizes::smaller_size(m, n);
-    let in_a = answers::exact_length(0, a, 2 * (m * n));
-    let in_u = answers::exact_length(1, u, 2 * (m * k));
-    let in_s = answers::exact_length(2, s, k);
-    let in_vt = answers::exact_length(3, vt, 2 * (k * n));
-    answers::and_then(
-        in_a,
-        answers::and_then(in_u, answers::and_then(in_s, in_vt)),
-    )
+    answers::exact_length(0, a, 2 * (m * n))?;
+    answers::exact_length(1, u, 2 * (m * k))?;
+    answers::exact_length(2, s, k)?;
+    answers::exact_length(3, vt, 2 * (k * n))
 }
 
 // The first component of all four that is not allowed: 7. A value of S is one cell.
-fn check_components(a: &[f64], u: &[f64], s: &[f64], vt: &[f64]) -> Answer
+#[tactic(auto, unfolding(crate::specs::Checks::countersign_components))]
+fn check_components(a: &[f64], u: &[f64], s: &[f64], vt: &[f64]) -> Result<(), Refusal>
     ensures { paper result ≡ countersign_components a.now u.now s.now vt.now }
 {
-    let in_a = components::check_components(a);
-    let in_u = components::check_components(u);
-    let in_s = values::check_values(s);
-    let in_vt = components::check_components(vt);
-    answers::and_then(
-        in_a,
-        answers::and_then(in_u, answers::and_then(in_s, in_vt)),
-    )
+    components::check_components(a)?;
+    components::check_components(u)?;
+    values::check_values(s)?;
+    components::check_components(vt)
 }
 
 // The first number of s off the grid: 11. A cell is `per` numbers.
-fn off_grid(s: &[f64], per: usize) -> Answer
+fn off_grid(s: &[f64], per: usize) -> Result<(), Refusal>
     requires { 0 < per }
     ensures { paper result ≡ off_grid per 0 s.now }
 {
-    let mut i = 0;
-    while i < s.len() {
-        let g = countersign_grid::grid_of(s[i]);
-        if g.on {
-            i += 1;
-        } else {
-            return Answer::OffGrid(i / per);
+    for (i, x) in s.iter().enumerate() {
+        if countersign_grid::grid_of(*x).is_none() {
+            return Err(Refusal::OffGrid(i / per));
         }
     }
-    Answer::Done
+    Ok(())
 }
 
 // The first number of all four off the grid: 11.
-fn check_grid(a: &[f64], u: &[f64], s: &[f64], vt: &[f64]) -> Answer
+#[tactic(auto, unfolding(crate::specs::Checks::countersign_grid))]
+fn check_grid(a: &[f64], u: &[f64], s: &[f64], vt: &[f64]) -> Result<(), Refusal>
     ensures { paper result ≡ countersign_grid a.now u.now s.now vt.now }
 {
-    let in_a = off_grid(a, 2);
-    let in_u = off_grid(u, 2);
-    let in_s = off_grid(s, 1);
-    let in_vt = off_grid(vt, 2);
-    answers::and_then(
-        in_a,
-        answers::and_then(in_u, answers::and_then(in_s, in_vt)),
-    )
+    off_grid(a, 2)?;
+    off_grid(u, 2)?;
+    off_grid(s, 1)?;
+    off_grid(vt, 2)
 }
 
 // Every refusal.
-pub fn check(a: &[f64], m: usize, n: usize, u: &[f64], s: &[f64], vt: &[f64]) -> Answer
+#[tactic(auto, unfolding(crate::specs::Checks::countersign_tests))]
+pub fn check(a: &[f64], m: usize, n: usize, u: &[f64], s: &[f64], vt: &[f64]) -> Result<(), Refusal>
     ensures { paper result ≡ countersign_tests a.now m n u.now s.now vt.now }
 {
-    let first = check_sizes(m, n);
-    let Answer::Done = first else {
-        return first;
-    };
-    let second = check_lengths(m, n, a.len(), u.len(), s.len(), vt.len());
-    let Answer::Done = second else {
-        return second;
-    };
-    let third = check_components(a, u, s, vt);
-    let Answer::Done = third else {
-        return third;
-    };
+    check_sizes(m, n)?;
+    check_lengths(m, n, a.len(), u.len(), s.len(), vt.len())?;
+    check_components(a, u, s, vt)?;
     check_grid(a, u, s, vt)
 }

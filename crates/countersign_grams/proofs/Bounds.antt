@@ -4,7 +4,7 @@ use mathlib.Core.Bool.{Bool, true, false, cond}
 use mathlib.Core.List.{List}
 use Prim.Native.Nat.{ℕ, zero, suc, ◌+◌, ◌*◌, ◌/◌, ◌%◌, ◌^◌, ◌≤◌, ◌<◌}
 use native.Mathlib.Numerals.{add-one}
-use native.Mathlib.Nat.{mul-le-mul, mul-le-mul_right, add-mul, div-lt_iff_lt-mul}
+use native.Mathlib.Nat.{mul-le-mul_right, add-mul, div-lt_iff_lt-mul}
 use native.Mathlib.Omega.{arith}
 use lib.Dec.{eqb}
 use lib.Ieee.{Float}
@@ -50,19 +50,6 @@ module _ (x : List Float) (len p q i : ℕ) {a b : Gaussian} (e : Alike a (inner
   pub sum_fits : Alike b (inner x len p q i) (9 * 2 ^ 38) → i < len → len ≤ 4096 → heft a + heft b < 2 ^ 64
   sum_fits f h l = omega (arith, sum-light e f)
 
-pub inners-end : (x : List Float) (len p q i : ℕ) {a : Gaussian} → i ≤ len → len ≤ i → len ≤ 4096 → Alike a (inners_of x len p q i) (i * (9 * 2 ^ 38)) → Alike a (inners_of x len p q len) (9 * 2 ^ 50)
-inners-end x len p q i {a} h l k e =
-    let d : i ≡ len = omega arith in
-    subst (λ (n : ℕ). Alike a (inners_of x len p q n) (9 * 2 ^ 50)) d (lighter (9 * 2 ^ 50) e (omega arith))
-
-pub identity-yes : (p q : ℕ) → p ≡ q → gaussian_of (whole_of (2 ^ 36) 0) (whole_of 0 0) ≡ identity_at p q
-unfolding identity_at
-identity-yes p q e = rw (eq-eqb p q e)
-
-pub identity-no : (p q : ℕ) → (p ≡ q → ⊥) → zero_of ≡ identity_at p q
-unfolding identity_at
-identity-no p q n = rw (ne_eqb p q n)
-
 identity-small : (p q : ℕ) → heft (identity_at p q) ≤ 2 ^ 36
 unfolding identity_at heft
 identity-small p q = go (eqb p q)
@@ -89,12 +76,6 @@ unfolding gram_fits inner_fits gram_gap
 made-fits x len k c t e f = f ∙ within-alike (t / 2 ^ 18) e ∙ within-divided (inner_gap x len (c / k) (c % k)) (2 ^ 18) t (omega arith)
 
 -- ---- where the cells stand
-
-pub in-vector : (len k p i length : ℕ) → length ≡ 2 * (k * len) → p < k → i < len → 2 * (p * len + i) + 1 < length
-in-vector len k p i length e h l = omega (arith, mul-le-mul_right {m = p + 1} {n = k} len (omega arith), add-mul p 1 len)
-
-pub len-small : (len k p : ℕ) → k * len ≤ 4096 → p < k → len ≤ 4096
-len-small len k p h l = omega (arith, mul-le-mul_right {m = 1} {n = k} len (omega arith))
 
 pub some : (k c : ℕ) → c < k * k → 0 < k
 some zero c h = absurd (omega arith)

@@ -30,29 +30,20 @@ fn inners(x: &[f64], xs: &[u32], len: usize, k: usize, p: usize, q: usize) -> Ga
         re: Whole { over: 0, under: 0 },
         im: Whole { over: 0, under: 0 },
     };
-    let mut i = 0;
-    while i < len {
+    for i in 0..len {
         sum = sum.plus(one_inner(x, xs, len, p, q, i));
-        i += 1;
     }
     sum
 }
 
 // The entry of the identity at p and q.
+#[tactic(auto, unfolding(crate::specs::Grams::identity_at))]
 fn identity(p: usize, q: usize) -> Gaussian
     ensures { result ≡ identity_at p q }
 {
-    if p == q {
-        return Gaussian {
-            re: Whole {
-                over: 0x10_0000_0000,
-                under: 0,
-            },
-            im: Whole { over: 0, under: 0 },
-        };
-    }
+    let over = if p == q { 0x10_0000_0000 } else { 0 };
     Gaussian {
-        re: Whole { over: 0, under: 0 },
+        re: Whole { over, under: 0 },
         im: Whole { over: 0, under: 0 },
     }
 }
@@ -72,6 +63,5 @@ pub fn fits(x: &[f64], xs: &[u32], len: usize, k: usize, tolerance: u64, c: usiz
     requires { Shifted x.now xs.now × (length x.now ≡ 2 * (k * len)) × (k * len ≤ 4096) × (c < k * k) }
     ensures { result ≡ gram_fits x.now len k tolerance c }
 {
-    let d = gap(x, xs, len, k, c);
-    d.within(tolerance / 0x4_0000)
+    gap(x, xs, len, k, c).within(tolerance / 0x4_0000)
 }

@@ -1,5 +1,5 @@
 -- `grid_of` by the bits: what the bits without the sign say of a float, with either sign. Assumes nothing.
-use mathlib.Core.Path.{◌≡◌, refl, sym, ap, ap₂, ◌∙◌, subst}
+use mathlib.Core.Path.{◌≡◌, refl, sym, ap, ◌∙◌, subst}
 use mathlib.Core.Bool.{Bool, true, false, cond, true≢false}
 use mathlib.Core.Logic.{⊎_elim}
 use Prim.Native.Nat.{ℕ, ◌+◌, ◌*◌, ◌/◌, ◌%◌, ◌^◌, ◌≤◌, ◌<◌}
@@ -8,6 +8,8 @@ use lib.IntN.{ℤ}
 use lib.Dec.{T, leb, eqb}
 use lib.Ieee.{Float, nan, inf, fin, binary64, fits, of_fields, of_bits, to_bits}
 use lib.Ieee.Bits.{of_bits-to_bits}
+use Rattle.std.proofs.Common.{Option, None}
+use Rattle.std.specs.Option.{option_map}
 use Rattle.numbers.specs.Numbers.{is_finite}
 use Rattle.numbers.specs.Root.{units_of}
 use Rattle.numbers.specs.Steps.{normal_size}
@@ -15,9 +17,7 @@ use Rattle.numbers.proofs.Patterns.{normal-size, small_size}
 use Rattle.signs.proofs.Zeros.{either-sign}
 use Rattle.numbers.proofs.Cases.{minus-bits, plus-bits}
 use Rattle.whole_numbers.proofs.WholeLaws.{le-or-lt}
-use Rattle.countersign_grid.specs.Grid.{gridded, grid_units, grid_of, GridBits}
-use Rattle.countersign_grid.specs.declared.Grid.{Grid}
-use Rattle.countersign_grid.specs.declared.Size.{Size}
+use Rattle.countersign_grid.specs.Grid.{grid_units, under_of, over_of, grid_of, GridBits}
 
 -- ---- the sign
 
@@ -62,19 +62,16 @@ finite-bits m e f =
 
 -- ---- what `grid_bits` says of a float's bits
 
-module _ (m : ℕ) (e : ℤ) (f : T (fits binary64 (fin false m e))) (r : Size) (g : GridBits (to_bits binary64 (fin false m e)) r) where
-  pub grid-fin : (r.on ≡ gridded (units_of (fin false m e))) × (r.units ≡ grid_units (units_of (fin false m e)))
-  grid-fin =
-      let b = to_bits binary64 (fin false m e) in
-      ⊎_elim
-      (λ (h : 2 ^ 52 ≤ b).
-      let z : units_of (fin false m e) ≡ normal_size b = from_bits m e f ∙ normal-size b h (finite-bits m e f) in
-      rw z (g.normal h (finite-bits m e f)))
-      (λ (h : b < 2 ^ 52). let z : units_of (fin false m e) ≡ b = from_bits m e f ∙ small_size b h in rw z (g.small h))
-      (le-or-lt (2 ^ 52) b)
-
-abbrev grid_at : Bool → ℕ → ℕ → Grid
-grid_at b o u = record { on = b; over = o; under = u }
+grid-fin : (m : ℕ) (e : ℤ) → T (fits binary64 (fin false m e)) → (r : Option ℕ) → GridBits (to_bits binary64 (fin false m e)) r
+    → r ≡ grid_units (units_of (fin false m e))
+grid-fin m e f r g =
+    let b = to_bits binary64 (fin false m e) in
+    ⊎_elim
+    (λ (h : 2 ^ 52 ≤ b).
+    let z : units_of (fin false m e) ≡ normal_size b = from_bits m e f ∙ normal-size b h (finite-bits m e f) in
+    rw z (g.normal h (finite-bits m e f)))
+    (λ (h : b < 2 ^ 52). let z : units_of (fin false m e) ≡ b = from_bits m e f ∙ small_size b h in rw z (g.small h))
+    (le-or-lt (2 ^ 52) b)
 
 inf_bits : (s : Bool) → to_bits binary64 (inf s) ≡ cond s (2 ^ 63) 0 + 2047 * 2 ^ 52
 unfolding to_bits
@@ -86,33 +83,32 @@ unfolding to_bits
 nan-bits = refl
 
 -- b is the float's bits; no minus sign, and a minus sign
-pub grid-plus : (x : Float) (b : ℕ) (r : Size) → T (fits binary64 x) → b ≡ to_bits binary64 x → GridBits (b % 2 ^ 63) r → b < 2 ^ 63
-    → grid_at r.on r.units 0 ≡ grid_of x
+pub grid-plus : (x : Float) (b : ℕ) (r : Option ℕ) → T (fits binary64 x) → b ≡ to_bits binary64 x → GridBits (b % 2 ^ 63) r → b < 2 ^ 63
+    → option_map over_of r ≡ grid_of x
 unfolding grid_of
-grid-plus nan b r f e g h =
-    let k : 2047 * 2 ^ 52 ≤ b % 2 ^ 63 = omega (arith, e, nan-bits) in
-    ap₂ (λ (o : Bool) (u : ℕ). grid_at o u 0) (g.past k).0 (g.past k).1
+grid-plus nan b r f e g h = ap (option_map over_of) (g.past (omega (arith, e, nan-bits)))
 grid-plus (inf true) b r f e g h = absurd (omega (arith, e, inf_bits true))
-grid-plus (inf false) b r f e g h =
-    let k : 2047 * 2 ^ 52 ≤ b % 2 ^ 63 = omega (arith, e, inf_bits false) in
-    ap₂ (λ (o : Bool) (u : ℕ). grid_at o u 0) (g.past k).0 (g.past k).1
+grid-plus (inf false) b r f e g h = ap (option_map over_of) (g.past (omega (arith, e, inf_bits false)))
 grid-plus (fin true m d) b r f e g h = absurd (omega (arith, e, minus-bits m d))
 grid-plus (fin false m d) b r f e g h =
     let k : b % 2 ^ 63 ≡ to_bits binary64 (fin false m d) = omega (arith, e, h) in
-    let q = grid-fin m d f r (subst (λ (y : ℕ). GridBits y r) k g) in
-    ap₂ (λ (o : Bool) (u : ℕ). grid_at o u 0) q.0 q.1
+    ap (option_map over_of) (grid-fin m d f r (subst (λ (y : ℕ). GridBits y r) k g))
 
-pub grid-minus : (x : Float) (b : ℕ) (r : Size) → T (fits binary64 x) → b ≡ to_bits binary64 x → GridBits (b % 2 ^ 63) r → 2 ^ 63 ≤ b
-    → grid_at r.on 0 r.units ≡ grid_of x
+pub grid-minus : (x : Float) (b : ℕ) (r : Option ℕ) → T (fits binary64 x) → b ≡ to_bits binary64 x → GridBits (b % 2 ^ 63) r → 2 ^ 63 ≤ b
+    → option_map under_of r ≡ grid_of x
 unfolding grid_of
 grid-minus nan b r f e g h = absurd (omega (arith, e, nan-bits))
 grid-minus (inf false) b r f e g h = absurd (omega (arith, e, inf_bits false))
-grid-minus (inf true) b r f e g h =
-    let k : 2047 * 2 ^ 52 ≤ b % 2 ^ 63 = omega (arith, e, inf_bits true) in
-    ap₂ (λ (o : Bool) (u : ℕ). grid_at o 0 u) (g.past k).0 (g.past k).1
+grid-minus (inf true) b r f e g h = ap (option_map under_of) (g.past (omega (arith, e, inf_bits true)))
 grid-minus (fin false m d) b r f e g h = absurd (omega (arith, e, plus-bits m d f))
 grid-minus (fin true m d) b r f e g h =
     let p = either-sign true false m d f in
     let k : b % 2 ^ 63 ≡ to_bits binary64 (fin false m d) = omega (arith, e, minus-bits m d, plus-bits m d p) in
-    let q = grid-fin m d p r (subst (λ (y : ℕ). GridBits y r) k g) in
-    ap₂ (λ (o : Bool) (u : ℕ). grid_at o 0 u) (q.0 ∙ ap gridded (size-sign false true m d)) (q.1 ∙ ap grid_units (size-sign false true m d))
+    ap (option_map under_of) (grid-fin m d p r (subst (λ (y : ℕ). GridBits y r) k g) ∙ ap grid_units (size-sign false true m d))
+
+pub grid-none : (x : Float) (b : ℕ) (r : Option ℕ) → T (fits binary64 x) → b ≡ to_bits binary64 x → GridBits (b % 2 ^ 63) r → r ≡ None → None ≡ grid_of x
+grid-none x b r f e g n =
+    ⊎_elim
+    (λ (h : 2 ^ 63 ≤ b). sym (ap (option_map under_of) n) ∙ grid-minus x b r f e g h)
+    (λ (h : b < 2 ^ 63). sym (ap (option_map over_of) n) ∙ grid-plus x b r f e g h)
+    (le-or-lt (2 ^ 63) b)

@@ -1,6 +1,6 @@
 -- Which sizes are on the grid: the five cases of `grid_bits`. Assumes nothing.
 use mathlib.Core.Path.{◌≡◌, refl, sym, ap, ap₂, subst, ◌∙◌}
-use mathlib.Core.Logic.{◌⊎◌, ⊎_elim}
+use mathlib.Core.Logic.{⊎_elim}
 use mathlib.Core.Bool.{Bool, true, false, ◌&&◌}
 use Prim.Native.Nat.{ℕ, zero, suc, ◌+◌, ◌-◌, ◌*◌, ◌/◌, ◌%◌, ◌^◌, ◌≤◌, ◌<◌}
 use native.Mathlib.Nat.{lt_of_lt_of_le, le_trans, mod-eq_of_lt, mul-pos, mul-lt-mul_of_pos_right, mul-le-mul_left, mul-le-mul, mul-mod_left, zero-mul, add-zero}
@@ -8,18 +8,18 @@ use native.Mathlib.Omega.{arith}
 use borrow.Author.Tests.{eq-eqb, ne_eqb, le-leb, lt-leb}
 use lib.Dec.{leb, eqb}
 use lib.Pow.{pow-add, pow_pos, pow-lt, pow_mono, shl_lt, shl_exact, shl-shr, shr-shr, mod-pow-add}
+use Rattle.std.proofs.Common.{Option, Some, None}
 use Rattle.numbers.specs.Steps.{digits, shift, normal_size}
 use Rattle.whole_numbers.proofs.WholeLaws.{le-or-lt}
 use Rattle.countersign_grid.specs.Grid.{gridded, grid_units, GridBits}
-use Rattle.countersign_grid.specs.declared.Size.{Size}
 
 -- ---- yes and no
 
-pub units-no : (s : ℕ) → gridded s ≡ false → grid_units s ≡ 0
+pub units-no : (s : ℕ) → gridded s ≡ false → grid_units s ≡ None
 unfolding grid_units
 units-no s h = rw h
 
-pub units-yes : (s : ℕ) → gridded s ≡ true → grid_units s ≡ s / 2 ^ 1056
+pub units-yes : (s : ℕ) → gridded s ≡ true → grid_units s ≡ Some (s / 2 ^ 1056)
 unfolding grid_units
 units-yes s h = rw h
 
@@ -63,17 +63,17 @@ module _ (d j : ℕ) where
 
 -- ---- the cases of `grid_bits`
 
-abbrev Told : ℕ → Bool → ℕ → Type 0
-Told s b u = (b ≡ gridded s) × (u ≡ grid_units s)
+abbrev Told : ℕ → Option ℕ → Type 0
+Told s r = r ≡ grid_units s
 
-told-no : (s : ℕ) → gridded s ≡ false → Told s false 0
-told-no s h = (sym h, sym (units-no s h))
+told-no : (s : ℕ) → gridded s ≡ false → Told s None
+told-no s h = sym (units-no s h)
 
-pub told-zero : (b : ℕ) → b ≡ 0 → Told b true 0
+pub told-zero : (b : ℕ) → b ≡ 0 → Told b (Some 0)
 unfolding gridded grid_units
-told-zero b e = rw e (refl, refl)
+told-zero b e = rw e refl
 
-pub told-tiny : (b : ℕ) → (b ≡ 0 → ⊥) → b < 2 ^ 52 → Told b false 0
+pub told-tiny : (b : ℕ) → (b ≡ 0 → ⊥) → b < 2 ^ 52 → Told b None
 told-tiny b n h =
     let p : 0 < b = some b n in
     told-no b (between b p (lt_of_lt_of_le h (pow_mono {i = 52} {j = 1056} (omega arith))))
@@ -90,7 +90,7 @@ module _ (b : ℕ) (lo : 2 ^ 52 ≤ b) where
   d-hi = omega arith
 
   -- above 1
-  pub told-large : 1023 * 2 ^ 52 < b → Told (normal_size b) false 0
+  pub told-large : 1023 * 2 ^ 52 < b → Told (normal_size b) None
   told-large h = told-no (normal_size b) (above (normal_size b) over)
     where
       one : 2 ^ 52 * 2 ^ 1022 ≡ 2 ^ 1074
@@ -109,7 +109,7 @@ module _ (b : ℕ) (lo : 2 ^ 52 ≤ b) where
           (le-or-lt 1023 (shift b))
 
   -- below 2^-18
-  pub told-low : b / 2 ^ 52 < 1005 → Told (normal_size b) false 0
+  pub told-low : b / 2 ^ 52 < 1005 → Told (normal_size b) None
   told-low h =
       let k : 53 + shift b ≤ 1056 = omega arith in
       told-no (normal_size b)
@@ -145,7 +145,7 @@ module _ (b : ℕ) (lo : 2 ^ 52 ≤ b) where
     rest : normal_size b % 2 ^ 1056 ≡ digits b % 2 ^ up * 2 ^ shift b
     rest = ap (λ (x : ℕ). normal_size b % 2 ^ x) (sym whole-l) ∙ by (digits b) (shift b) up
 
-    pub told-off : (p : ℕ) → p ≡ 2 ^ (1057 - b / 2 ^ 52) → (digits b % p ≡ 0 → ⊥) → Told (normal_size b) false 0
+    pub told-off : (p : ℕ) → p ≡ 2 ^ (1057 - b / 2 ^ 52) → (digits b % p ≡ 0 → ⊥) → Told (normal_size b) None
     told-off p e n =
         told-no (normal_size b)
         (off (normal_size b) (λ z. n (none (digits b % p) (2 ^ shift b) (pow_pos (shift b)) (ap (λ (x : ℕ). digits b % x * 2 ^ shift b) e ∙ sym rest ∙ z))))
@@ -154,10 +154,10 @@ module _ (b : ℕ) (lo : 2 ^ 52 ≤ b) where
         none zero y p z = refl
         none (suc x) y p z = let q : 0 < suc x * y = mul-pos (omega arith) p in absurd (omega arith)
 
-    pub told-on : (p : ℕ) → p ≡ 2 ^ (1057 - b / 2 ^ 52) → digits b % p ≡ 0 → Told (normal_size b) true (digits b / p)
+    pub told-on : (p : ℕ) → p ≡ 2 ^ (1057 - b / 2 ^ 52) → digits b % p ≡ 0 → Told (normal_size b) (Some (digits b / p))
     told-on p e z =
         let g = on (normal_size b) (rest ∙ ap (λ (x : ℕ). digits b % x * 2 ^ shift b) (sym e) ∙ ap (λ (x : ℕ). x * 2 ^ shift b) z ∙ zero-mul (2 ^ shift b)) most in
-        (sym g, ap (λ (x : ℕ). digits b / x) e ∙ sym (ap (λ (x : ℕ). normal_size b / 2 ^ x) (sym whole-r) ∙ quotient (digits b) (shift b) up) ∙ sym (units-yes (normal_size b) g))
+        ap Some (ap (λ (x : ℕ). digits b / x) e ∙ sym (ap (λ (x : ℕ). normal_size b / 2 ^ x) (sym whole-r) ∙ quotient (digits b) (shift b) up)) ∙ sym (units-yes (normal_size b) g)
 
 -- ---- the ways out of `grid_bits`
 
@@ -165,24 +165,21 @@ module _ (b : ℕ) (lo : 2 ^ 52 ≤ b) where
 pub shifted-pos : (j : ℕ) → j < 64 → 0 < 1 * 2 ^ j % 2 ^ 64
 shifted-pos j h = omega (arith, shl_exact {a = 1} 1 j 64 (omega arith) (omega arith), pow_pos j)
 
-abbrev size_of : Bool → ℕ → Size
-size_of b u = record { on = b; units = u }
-
-pub bits-zero : (b : ℕ) → b ≡ 0 → GridBits b (size_of true 0)
+pub bits-zero : (b : ℕ) → b ≡ 0 → GridBits b (Some 0)
 bits-zero b e = record { small = λ h. told-zero b e; normal = λ l h. absurd (omega arith); past = λ h. absurd (omega arith) }
 
-pub bits-large : (b : ℕ) → 1023 * 2 ^ 52 < b → GridBits b (size_of false 0)
-bits-large b g = record { small = λ h. absurd (omega arith); normal = λ l h. told-large b l g; past = λ h. (refl, refl) }
+pub bits-large : (b : ℕ) → 1023 * 2 ^ 52 < b → GridBits b None
+bits-large b g = record { small = λ h. absurd (omega arith); normal = λ l h. told-large b l g; past = λ h. refl }
 
-pub bits-low : (b : ℕ) → (b ≡ 0 → ⊥) → b ≤ 1023 * 2 ^ 52 → b / 2 ^ 52 < 1005 → GridBits b (size_of false 0)
-bits-low b n g k = record { small = told-tiny b n; normal = λ l h. told-low b l k; past = λ h. (refl, refl) }
+pub bits-low : (b : ℕ) → (b ≡ 0 → ⊥) → b ≤ 1023 * 2 ^ 52 → b / 2 ^ 52 < 1005 → GridBits b None
+bits-low b n g k = record { small = told-tiny b n; normal = λ l h. told-low b l k; past = λ h. refl }
 
 module _ (b : ℕ) (g : b ≤ 1023 * 2 ^ 52) (k : 1005 ≤ b / 2 ^ 52) where
   pub power-is : 1 * 2 ^ (1057 - b / 2 ^ 52) % 2 ^ 64 ≡ 2 ^ (1057 - b / 2 ^ 52)
   power-is = shl_exact {a = 1} 1 (1057 - b / 2 ^ 52) 64 (omega arith) (omega arith) ∙ omega arith
 
-  pub bits-off : (p : ℕ) → p ≡ 2 ^ (1057 - b / 2 ^ 52) → (digits b % p ≡ 0 → ⊥) → GridBits b (size_of false 0)
-  bits-off p e n = record { small = λ h. absurd (omega arith); normal = λ l h. told-off b l g k p e n; past = λ h. (refl, refl) }
+  pub bits-off : (p : ℕ) → p ≡ 2 ^ (1057 - b / 2 ^ 52) → (digits b % p ≡ 0 → ⊥) → GridBits b None
+  bits-off p e n = record { small = λ h. absurd (omega arith); normal = λ l h. told-off b l g k p e n; past = λ h. refl }
 
-  pub bits-on : (p : ℕ) → p ≡ 2 ^ (1057 - b / 2 ^ 52) → digits b % p ≡ 0 → GridBits b (size_of true (digits b / p))
+  pub bits-on : (p : ℕ) → p ≡ 2 ^ (1057 - b / 2 ^ 52) → digits b % p ≡ 0 → GridBits b (Some (digits b / p))
   bits-on p e z = record { small = λ h. absurd (omega arith); normal = λ l h. told-on b l g k p e z; past = λ h. absurd (omega arith) }

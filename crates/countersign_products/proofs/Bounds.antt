@@ -4,7 +4,7 @@ use mathlib.Core.Bool.{Bool}
 use mathlib.Core.List.{List}
 use Prim.Native.Nat.{ℕ, zero, suc, ◌+◌, ◌*◌, ◌/◌, ◌%◌, ◌^◌, ◌≤◌, ◌<◌}
 use native.Mathlib.Numerals.{add-one}
-use native.Mathlib.Nat.{mul-le-mul, mul-le-mul_right, mul_comm, add-mul, div-lt_iff_lt-mul}
+use native.Mathlib.Nat.{mul-le-mul_right, mul_comm, add-mul, div-lt_iff_lt-mul}
 use native.Mathlib.Omega.{arith}
 use lib.Ieee.{Float}
 use Rattle.countersign_sums.specs.declared.Gaussian.{Gaussian}
@@ -20,9 +20,6 @@ use Rattle.countersign_products.specs.Products.{term, terms_of, product_gap, pro
 -- ---- how the functions' results make them
 
 module _ (u s vt : List Float) (m n i j t : ℕ) {y z : Gaussian} (e : Alike y (by_whole (whole_cell u (t * m + i)) (value_at s t)) (3 * 2 ^ 37)) (f : Alike z (whole_cell vt (t * n + j)) (3 * 2 ^ 19)) where
-  pub term_fits : heft y * heft z < 2 ^ 64
-  term_fits = omega (arith, product-light e f)
-
   pub made-term : {r : Gaussian} → r ≡ product_of y z → Alike r (term u s vt m n i j t) (9 * 2 ^ 56)
   unfolding term
   made-term g = rw g (lighter (9 * 2 ^ 56) (alike-product e f) (omega arith))
@@ -42,11 +39,6 @@ module _ (u s vt : List Float) (m n i j : ℕ) where
 
     pub sum_fits : (k : ℕ) → t < k → k ≤ 16 → heft x + heft y < 2 ^ 64
     sum_fits k h l = omega (arith, sum-light e f)
-
-  pub terms-end : (t k : ℕ) {x : Gaussian} → t ≤ k → k ≤ t → k ≤ 16 → Alike x (terms_of u s vt m n i j t) (t * (9 * 2 ^ 56)) → Alike x (terms_of u s vt m n i j k) (9 * 2 ^ 60)
-  terms-end t k {x} h l b e =
-      let d : t ≡ k = omega arith in
-      subst (λ (c : ℕ). Alike x (terms_of u s vt m n i j c) (9 * 2 ^ 60)) d (lighter (9 * 2 ^ 60) e (omega arith))
 
 pub one-fits : (a : List Float) (c : ℕ) {x : Gaussian} → x ≡ whole_cell a c → heft x * weight (whole_of (2 ^ 36) 0) < 2 ^ 64
 one-fits a c e = rw e (omega (arith, cell-small a c))
@@ -75,12 +67,6 @@ made-fits a u s vt m n k t c e f = f ∙ within-alike t e
 -- place i of block t, of k blocks of m
 pub in_block : (m k t i : ℕ) → t < k → i < m → t * m + i < k * m
 in_block m k t i h l = omega (arith, mul-le-mul_right {m = t + 1} {n = k} m (omega arith), add-mul t 1 m)
-
-pub in-u : (m k t i length : ℕ) → length ≡ 2 * (m * k) → t < k → i < m → 2 * (t * m + i) + 1 < length
-in-u m k t i length e h l = omega (arith, in_block m k t i h l, mul_comm m k)
-
-pub in-vt : (n k t j length : ℕ) → length ≡ 2 * (k * n) → t < k → j < n → 2 * (t * n + j) + 1 < length
-in-vt n k t j length e h l = omega (arith, in_block n k t j h l)
 
 pub rows-some : (m n c : ℕ) → c < m * n → 0 < m
 rows-some zero n c h = absurd (omega arith)

@@ -54,10 +54,8 @@ fn entry(
         re: Whole { over: 0, under: 0 },
         im: Whole { over: 0, under: 0 },
     };
-    let mut t = 0;
-    while t < k {
+    for t in 0..k {
         sum = sum.plus(one_term(u, us, s, ss, vt, vs, m, n, i, j, t));
-        t += 1;
     }
     sum
 }
@@ -85,8 +83,7 @@ fn gap(
         over: 0x10_0000_0000,
         under: 0,
     };
-    let cell = cell_at(a, c).by(one);
-    cell.minus(sum)
+    cell_at(a, c).by(one).minus(sum)
 }
 
 // Whether each part of it is within the tolerance.
@@ -108,6 +105,5 @@ pub fn fits(
     requires factors { Factors m n k (length u.now) (length s.now) (length vt.now) × (length a.now ≡ 2 * (m * n)) × (c < m * n) }
     ensures { result ≡ product_fits a.now u.now s.now vt.now m n k tolerance c }
 {
-    let d = gap(a, u, us, s, ss, vt, vs, m, n, k, c);
-    d.within(tolerance)
+    gap(a, u, us, s, ss, vt, vs, m, n, k, c).within(tolerance)
 }

@@ -9,12 +9,13 @@ use native.Mathlib.Numerals.{add-one}
 use native.Mathlib.Nat.{eq-or-lt_of_le, add-mul, mul-le-mul_right, div-add-mod', mod-lt}
 use native.Mathlib.Omega.{arith}
 use lib.Ieee.{Float}
+use Rattle.std.proofs.Common.{Some, None}
 use Rattle.countersign_sums.specs.declared.Whole.{Whole}
 use Rattle.countersign_sums.specs.Wholes.{whole_of, at_most, weight}
 use Rattle.countersign_cells.specs.Cells.{value_at}
 use Rattle.countersign_cells.proofs.CellBounds.{value-small}
 use Rattle.countersign_grams.proofs.Bounds.{some, first-in}
-use Rattle.countersign_scans.specs.Scans.{first_fail, value_fits}
+use Rattle.countersign_scans.specs.Scans.{first_fail, FirstFail, value_fits}
 
 -- ---- a scan of n cells, at c
 
@@ -39,11 +40,19 @@ pub scan_good : (f : ℕ → Bool) (n c : ℕ) → first_fail f 0 n ≡ first_fa
 scan_good f n c g h e =
     g ∙ ap (first_fail f c) (left-more n c h) ∙ step f c (n - (c + 1)) true e ∙ ap (λ (x : ℕ). first_fail f x (n - (c + 1))) (sym (add-one c))
 
-pub scan-bad : (f : ℕ → Bool) (n c : ℕ) → first_fail f 0 n ≡ first_fail f c (n - c) → c < n → f c ≡ false → c ≡ first_fail f 0 n
+scan-bad : (f : ℕ → Bool) (n c : ℕ) → first_fail f 0 n ≡ first_fail f c (n - c) → c < n → f c ≡ false → c ≡ first_fail f 0 n
 scan-bad f n c g h e = sym (g ∙ ap (first_fail f c) (left-more n c h) ∙ step f c (n - (c + 1)) false e)
 
-pub scan-end : (f : ℕ → Bool) (n c : ℕ) → first_fail f 0 n ≡ first_fail f c (n - c) → n ≤ c → c ≡ first_fail f 0 n
+scan-end : (f : ℕ → Bool) (n c : ℕ) → first_fail f 0 n ≡ first_fail f c (n - c) → n ≤ c → c ≡ first_fail f 0 n
 scan-end f n c g h = sym (g ∙ ap (first_fail f c) (left-none n c h) ∙ last f c)
+
+pub scan-found : (f : ℕ → Bool) (n c : ℕ) {b : Bool} → first_fail f 0 n ≡ first_fail f c (n - c) → c < n → b ≡ f c → b ≡ false → FirstFail f n (Some c)
+scan-found f n c g h e d =
+    let r = scan-bad f n c g h (sym e ∙ d) in
+    (omega (arith, r, h), r)
+
+pub scan-none : (f : ℕ → Bool) (n c : ℕ) → first_fail f 0 n ≡ first_fail f c (n - c) → n ≤ c → FirstFail f n None
+scan-none f n c g h k = omega (arith, k, scan-end f n c g h)
 
 -- ---- what the result says
 

@@ -1,5 +1,5 @@
 -- The first failing cell of a test, and the test of the values. Definitions only.
-use Rattle.std.specs.Prelude.{Bool, cond, ◌&&◌, List, ℕ, zero, suc, Float}
+use Rattle.std.specs.Prelude.{Bool, cond, ◌&&◌, List, ℕ, zero, suc, ◌<◌, Float, Option, SomeIff}
 use Rattle.countersign_sums.specs.Wholes.{whole_of, at_most}
 use Rattle.countersign_cells.specs.Cells.{value_at}
 
@@ -8,6 +8,10 @@ use Rattle.countersign_cells.specs.Cells.{value_at}
 unfoldable pub first_fail : (ℕ → Bool) → ℕ → ℕ → ℕ
 first_fail f i zero = i
 first_fail f i (suc left) = cond (f i) (first_fail f (suc i) left) i
+
+-- of so many cells: the first that fails, or that none does
+abbrev pub FirstFail : (ℕ → Bool) → ℕ → Option ℕ → Type 0
+FirstFail f cells r = SomeIff r (first_fail f 0 cells < cells) (first_fail f 0 cells)
 
 -- value i is 0 or more, and no more than the one before it
 unfoldable pub value_fits : List Float → ℕ → Bool

@@ -1,11 +1,11 @@
-// Inner: the first failing cell of each test, or the number of its cells where none fails.
+// Inner: the first failing cell of each test, where one fails.
 #![tactic(auto)]
 
 ghost use Rattle.std.specs.Prelude.{◌≡◌, ◌*◌, ◌<◌, ◌≤◌, length};
 ghost use Rattle.countersign_shifted.specs.Shifted.{Shifted};
 ghost use Rattle.countersign_products.specs.Products.{Factors, Read, product_fits};
 ghost use Rattle.countersign_grams.specs.Grams.{gram_fits};
-ghost use Rattle.countersign_scans.specs.Scans.{first_fail, value_fits};
+ghost use Rattle.countersign_scans.specs.Scans.{FirstFail, value_fits};
 
 use countersign_cells::value_at;
 use countersign_sums::Whole;
@@ -23,43 +23,31 @@ pub fn first_product(
     n: usize,
     k: usize,
     tolerance: u64,
-) -> usize
+) -> Option<usize>
     requires read { Read u.now us.now s.now ss.now vt.now vs.now }
     requires factors { Factors m n k (length u.now) (length s.now) (length vt.now) × (length a.now ≡ 2 * (m * n)) × (m * n ≤ 4096) }
-    ensures { result ≡ first_fail (product_fits a.now u.now s.now vt.now m n k tolerance) 0 (m * n) }
+    ensures { FirstFail (product_fits a.now u.now s.now vt.now m n k tolerance) (m * n) result }
 {
-    let count = m * n;
-    let mut c = 0;
-    while c < count {
-        if countersign_products::fits(a, u, us, s, ss, vt, vs, m, n, k, tolerance, c) {
-            c += 1;
-        } else {
-            return c;
+    for c in 0..m * n {
+        if !countersign_products::fits(a, u, us, s, ss, vt, vs, m, n, k, tolerance, c) {
+            return Some(c);
         }
     }
-    c
+    None
 }
 
 // The first cell of the Gram matrix of k vectors of `len` cells that misses the identity. A cell below the diagonal
 // holds where its mirror image does, which was looked at before.
-pub fn first_inner(x: &[f64], xs: &[u32], len: usize, k: usize, tolerance: u64) -> usize
+pub fn first_inner(x: &[f64], xs: &[u32], len: usize, k: usize, tolerance: u64) -> Option<usize>
     requires { Shifted x.now xs.now × (length x.now ≡ 2 * (k * len)) × (k * len ≤ 4096) × (k * k ≤ 256) }
-    ensures { result ≡ first_fail (gram_fits x.now len k tolerance) 0 (k * k) }
+    ensures { FirstFail (gram_fits x.now len k tolerance) (k * k) result }
 {
-    let count = k * k;
-    let mut c = 0;
-    while c < count {
-        if c % k < c / k {
-            c += 1;
-        } else {
-            if countersign_grams::fits(x, xs, len, k, tolerance, c) {
-                c += 1;
-            } else {
-                return c;
-            }
+    for c in 0..k * k {
+        if c / k <= c % k && !countersign_grams::fits(x, xs, len, k, tolerance, c) {
+            return Some(c);
         }
     }
-    c
+    None
 }
 
 // Whether value i is 0 or more, and no more than the one before it.
@@ -69,26 +57,17 @@ fn value_fits(s: &[f64], i: usize) -> bool
 {
     let x = value_at(s, i);
     let nothing = Whole { over: 0, under: 0 };
-    if nothing.at_most(x) {
-        if i == 0 {
-            return true;
-        }
-        return x.at_most(value_at(s, i - 1));
-    }
-    false
+    nothing.at_most(x) && (i == 0 || x.at_most(value_at(s, i - 1)))
 }
 
 // The first value that is below 0 or rises.
-pub fn first_value(s: &[f64]) -> usize
-    ensures { result ≡ first_fail (value_fits s.now) 0 (length s.now) }
+pub fn first_value(s: &[f64]) -> Option<usize>
+    ensures { FirstFail (value_fits s.now) (length s.now) result }
 {
-    let mut i = 0;
-    while i < s.len() {
-        if value_fits(s, i) {
-            i += 1;
-        } else {
-            return i;
+    for i in 0..s.len() {
+        if !value_fits(s, i) {
+            return Some(i);
         }
     }
-    i
+    None
 }

@@ -25,17 +25,9 @@ pub fn shift(s: &[f64], out: &mut [u32])
     requires { length s.now ≤ length out.old }
     ensures { out.new ≡ filled (length s.now) (shifted_at s.now) out.old }
 {
-    let mut i = 0;
-    while i < s.len() {
+    for i in 0..s.len() {
         out[i] = shifted_at(s, i);
-        i += 1;
     }
-}
-
-fn wide(x: u32) -> u64
-    ensures { result ≡ x }
-{
-    x as u64
 }
 
 // The cell c of x, whose numbers stand in xs.
@@ -44,9 +36,8 @@ pub fn cell_of(x: &[f64], xs: &[u32], c: usize) -> Gaussian
     ensures { Alike result (whole_cell x.now c) (3 * 2 ^ 19) }
 {
     let at = 2 * c;
-    let next = at + 1;
-    let re = wide(xs[at]);
-    let im = wide(xs[next]);
+    let re = u64::from(xs[at]);
+    let im = u64::from(xs[at + 1]);
     Gaussian {
         re: Whole {
             over: re,
@@ -73,10 +64,9 @@ pub fn scaled_cell(x: &[f64], xs: &[u32], s: &[f64], ss: &[u32], c: usize, t: us
     ensures { Alike result (by_whole (whole_cell x.now c) (value_at s.now t)) (3 * 2 ^ 37) }
 {
     let at = 2 * c;
-    let next = at + 1;
-    let by = wide(ss[t]);
-    let re = product(wide(xs[at]), by);
-    let im = product(wide(xs[next]), by);
+    let by = u64::from(ss[t]);
+    let re = product(u64::from(xs[at]), by);
+    let im = product(u64::from(xs[at + 1]), by);
     Gaussian {
         re: Whole {
             over: re,

@@ -47,12 +47,7 @@ impl Whole {
     pub fn within(self, t: u64) -> bool
         ensures { result ≡ leb (apart self) t }
     {
-        let over = self.over;
-        let under = self.under;
-        if over < under {
-            return under - over <= t;
-        }
-        over - under <= t
+        self.over.abs_diff(self.under) <= t
     }
 
     // Whether it is o or less.
@@ -72,24 +67,29 @@ pub struct Gaussian {
 }
 
 impl Gaussian {
+    #[tactic(auto, unfolding(crate::specs::Gaussians::heft, crate::specs::Gaussians::sum_of))]
     pub fn plus(self, o: Gaussian) -> Gaussian
         requires { heft self + heft o < 2 ^ 64 }
         ensures { result ≡ sum_of self o }
     {
-        let re = self.re.plus(o.re);
-        let im = self.im.plus(o.im);
-        Gaussian { re, im }
+        Gaussian {
+            re: self.re.plus(o.re),
+            im: self.im.plus(o.im),
+        }
     }
 
+    #[tactic(auto, unfolding(crate::specs::Gaussians::heft, crate::specs::Gaussians::difference_of))]
     pub fn minus(self, o: Gaussian) -> Gaussian
         requires { heft self + heft o < 2 ^ 64 }
         ensures { result ≡ difference_of self o }
     {
-        let re = self.re.plus(o.re.opposite());
-        let im = self.im.plus(o.im.opposite());
-        Gaussian { re, im }
+        Gaussian {
+            re: self.re.plus(o.re.opposite()),
+            im: self.im.plus(o.im.opposite()),
+        }
     }
 
+    #[tactic(auto, unfolding(crate::specs::Gaussians::heft, crate::specs::Gaussians::product_of))]
     pub fn times(self, o: Gaussian) -> Gaussian
         requires { heft self * heft o < 2 ^ 64 }
         ensures { result ≡ product_of self o }
@@ -98,38 +98,39 @@ impl Gaussian {
         let b = self.im;
         let c = o.re;
         let d = o.im;
-        let re = a.times(c).plus(b.times(d).opposite());
-        let im = a.times(d).plus(b.times(c));
-        Gaussian { re, im }
+        Gaussian {
+            re: a.times(c).plus(b.times(d).opposite()),
+            im: a.times(d).plus(b.times(c)),
+        }
     }
 
     // By a whole number: each part.
+    #[tactic(auto, unfolding(crate::specs::Gaussians::heft, crate::specs::Gaussians::by_whole))]
     pub fn by(self, w: Whole) -> Gaussian
         requires { heft self * weight w < 2 ^ 64 }
         ensures { result ≡ by_whole self w }
     {
-        let re = self.re.times(w);
-        let im = self.im.times(w);
-        Gaussian { re, im }
+        Gaussian {
+            re: self.re.times(w),
+            im: self.im.times(w),
+        }
     }
 
+    #[tactic(auto, unfolding(crate::specs::Gaussians::conjugate_of))]
     pub fn conj(self) -> Gaussian
         ensures { result ≡ conjugate_of self }
     {
-        let re = self.re;
-        let im = self.im.opposite();
-        Gaussian { re, im }
+        Gaussian {
+            re: self.re,
+            im: self.im.opposite(),
+        }
     }
 
     // Whether each part is within t of 0.
+    #[tactic(auto, unfolding(crate::specs::Gaussians::both_within))]
     pub fn within(self, t: u64) -> bool
         ensures { result ≡ both_within self t }
     {
-        let re = self.re;
-        let im = self.im;
-        if re.within(t) {
-            return im.within(t);
-        }
-        false
+        self.re.within(t) && self.im.within(t)
     }
 }

@@ -28,8 +28,9 @@
 // C000000000000000 + i, but for kind 7 each is 1.0. Lent slices of 200 numbers or more are written as a digest, but for kinds 7 to A.
 #![tactic(auto)]
 
-use answers::Answer;
-use std::io::Result;
+use answers::Refusal;
+use cut_values::CutCounted;
+use std::io;
 
 #[derive(Clone, Copy)]
 struct Head {
@@ -40,58 +41,26 @@ struct Head {
 }
 
 fn read_head(text: &[u8], at: usize, list: &mut [usize]) -> Head {
-    let n = replay::next_word(text, at);
-    let cap = replay::next_word(text, n.next);
-    let k = replay::next_word(text, cap.next);
-    let next = replay::read_counts(text, k.next, list, replay::size_of(k.value));
+    let length = replay::skip(text, at, 2);
+    let k = replay::size_at(text, length);
     Head {
-        n: replay::size_of(n.value),
-        cap: replay::size_of(cap.value),
-        k: replay::size_of(k.value),
-        next,
+        n: replay::size_at(text, at),
+        cap: replay::size_at(text, replay::past(text, at)),
+        k,
+        next: replay::read_numbers(text, replay::past(text, length), list, k),
     }
 }
 
-fn lists(rt: &impl Print, text: &[u8], at: usize) -> Result<usize> {
+fn lists(rt: &impl Print, text: &[u8], at: usize) -> io::Result<usize> {
     let mut names = [0usize; 16];
     let h = read_head(text, at, &mut names);
     let list = replay::front(&names, h.k);
-    replay::print_answer(rt, qubits::validate_qubit_set(list, h.n))?;
-    replay::print_answer(rt, qubits::validate_subsystem(list, h.n))?;
+    replay::print_answer(rt, &qubits::validate_qubit_set(list, h.n))?;
+    replay::print_answer(rt, &qubits::validate_subsystem(list, h.n))?;
     Ok(h.next)
 }
 
-// What a slice of whole numbers holds as it is lent.
-fn mark(s: &mut [usize]) {
-    let mut i = 0;
-    while i < s.len() {
-        s[i] = std::num::wrapping_add_usize(0x100, i);
-        i += 1;
-    }
-}
-
-// The call of kind 2 or 4.
-fn counts_of(kind: u64, list: &[usize], n: usize, cap: usize, out: &mut [usize]) -> Answer {
-    if kind == 2 {
-        return qubit_offsets::row_offsets(list, n, cap, out);
-    }
-    cut_sides::smaller_side(list, n, cap, out)
-}
-
-fn print_side<'a>(
-    rt: &impl Print,
-    kind: u64,
-    list: &'a [usize],
-    n: usize,
-    cap: usize,
-    others: &'a [usize],
-) -> Result<()> {
-    if kind == 4 {
-        replay::print_counts(rt, cut_sides::side_part(list, n, cap, others))?;
-    }
-    Ok(())
-}
-
+// Lends the first numbers of out to the call of kind 2 or 4, as many as are asked for.
 fn show_counts(
     rt: &impl Print,
     kind: u64,
@@ -100,21 +69,27 @@ fn show_counts(
     cap: usize,
     room: usize,
     out: &mut [usize],
-) -> Result<()> {
-    if out.len() < room {
+) -> io::Result<()> {
+    let Some(lent) = out.get_mut(..room) else {
         return Ok(());
+    };
+    if kind == 2 {
+        replay::print_answer(rt, &qubit_offsets::row_offsets(list, n, cap, lent))?;
+        return replay::print_numbers(rt, lent);
     }
-    replay::print_answer(rt, counts_of(kind, list, n, cap, &mut out[..room]))?;
-    let left = replay::front(out, room);
-    replay::print_counts(rt, left)?;
-    print_side(rt, kind, list, n, cap, left)
+    replay::print_answer(rt, &cut_sides::smaller_side(list, n, cap, lent))?;
+    replay::print_numbers(rt, lent)?;
+    if kind == 4 {
+        replay::print_numbers(rt, cut_sides::side_part(list, n, cap, lent))?;
+    }
+    Ok(())
 }
 
-fn counts_case(rt: &impl Print, text: &[u8], at: usize, kind: u64) -> Result<usize> {
+fn counts_case(rt: &impl Print, text: &[u8], at: usize, kind: u64) -> io::Result<usize> {
     let mut names = [0usize; 16];
     let h = read_head(text, at, &mut names);
     let mut out = [0usize; 128];
-    mark(&mut out);
+    replay::count_up(&mut out, 0x100);
     show_counts(
         rt,
         kind,
@@ -127,14 +102,12 @@ fn counts_case(rt: &impl Print, text: &[u8], at: usize, kind: u64) -> Result<usi
     Ok(replay::past(text, h.next))
 }
 
-fn base_case(rt: &impl Print, text: &[u8], at: usize) -> Result<usize> {
+fn base_case(rt: &impl Print, text: &[u8], at: usize) -> io::Result<usize> {
     let mut names = [0usize; 16];
     let h = read_head(text, at, &mut names);
     let e = replay::size_at(text, h.next);
-    let r = qubit_offsets::traced_base(e, replay::front(&names, h.k), h.n, h.cap);
-    let answer = r.answer;
-    replay::print_answer(rt, answer)?;
-    replay::print_word(rt, replay::word_of(r.base))?;
+    let base = qubit_offsets::traced_base(e, replay::front(&names, h.k), h.n, h.cap);
+    replay::print_count(rt, base)?;
     Ok(replay::past(text, h.next))
 }
 
@@ -145,13 +118,13 @@ fn show_again(
     list: &[usize],
     cap: usize,
     size: usize,
-) -> Result<()> {
+) -> io::Result<()> {
     let mut again = [0.0; 8200];
     replay::print_answer(
         rt,
-        density_recount::density_from_cut(matrix, n, list, cap, &mut again),
+        &density_recount::density_from_cut(matrix, n, list, cap, &mut again),
     )?;
-    replay::print_or_digest(rt, replay::front_floats(&again, size))
+    replay::print_or_digest(rt, replay::front(&again, size))
 }
 
 fn show_density(
@@ -161,14 +134,14 @@ fn show_density(
     list: &[usize],
     cap: usize,
     size: usize,
-) -> Result<()> {
+) -> io::Result<()> {
     let mut density = [0.0; 8200];
     let mut scratch = [0.0; 128];
     replay::print_answer(
         rt,
-        densities::dense_reduced_density(state, n, list, cap, &mut density, &mut scratch),
+        &densities::dense_reduced_density(state, n, list, cap, &mut density, &mut scratch),
     )?;
-    replay::print_or_digest(rt, replay::front_floats(&density, size))
+    replay::print_or_digest(rt, replay::front(&density, size))
 }
 
 fn show_pages(
@@ -178,18 +151,11 @@ fn show_pages(
     list: &[usize],
     cap: usize,
     size: usize,
-) -> Result<()> {
+) -> io::Result<()> {
     let mut matrix = [0.0; 8200];
-    replay::print_answer(rt, cuts::cut_matrix(state, n, list, cap, &mut matrix))?;
+    replay::print_answer(rt, &cuts::cut_matrix(state, n, list, cap, &mut matrix))?;
     show_density(rt, state, n, list, cap, size)?;
-    show_again(
-        rt,
-        replay::front_floats(&matrix, state.len()),
-        n,
-        list,
-        cap,
-        size,
-    )
+    show_again(rt, replay::front(&matrix, state.len()), n, list, cap, size)
 }
 
 fn values(
@@ -198,14 +164,22 @@ fn values(
     plan: &[usize; 30],
     out: &mut [f64],
     scratch: &mut [f64],
-) -> Result<()> {
-    let r = plan_values::planned_schmidt_values(state, plan_numbers::read_plan(plan), out, scratch);
-    let answer = r.answer;
-    let sweeps = r.sweeps;
-    replay::print_answer(rt, answer)?;
-    replay::print_word(rt, replay::word_of(r.count))?;
-    replay::print_sweeps(rt, sweeps)?;
-    replay::print_yes(rt, r.exact)
+) -> io::Result<()> {
+    let answer = plan_values::planned_schmidt_values(
+        state,
+        plan_numbers::read_plan(plan),
+        out,
+        scratch,
+    );
+    replay::print_answer(rt, &answer)?;
+    let got = answer.unwrap_or(CutCounted {
+        count: 0,
+        sweeps: sweeps::none(),
+        exact: false,
+    });
+    replay::print_number(rt, got.count)?;
+    replay::print_sweeps(rt, got.sweeps)?;
+    replay::print_yes(rt, got.exact)
 }
 
 // The call of a kind that is lent floats: a is the state or the factor, n the register or the side of the matrix, cap the cap or the factor's
@@ -219,54 +193,23 @@ fn answer_of(
     plan: &[usize; 30],
     out: &mut [f64],
     scratch: &mut [f64],
-) -> Answer {
-    if kind == 5 {
-        return cuts::cut_matrix(a, n, list, cap, out);
+) -> Result<(), Refusal> {
+    match kind {
+        5 => cuts::cut_matrix(a, n, list, cap, out),
+        7 => densities::dense_reduced_density(a, n, list, cap, out, scratch),
+        8 => densities::mirror_lower_triangle(out, n),
+        9 => density_trace::normalize_trace(out, n),
+        0xa => density_block::multiply_block_factor(out, n, list, a, cap),
+        0x16 => plan_matrix::planned_cut_matrix(a, plan_numbers::read_plan(plan), out),
+        _ => plan_density::planned_reduced_density(a, plan_numbers::read_plan(plan), out, scratch),
     }
-    if kind == 7 {
-        return densities::dense_reduced_density(a, n, list, cap, out, scratch);
-    }
-    if kind == 8 {
-        return densities::mirror_lower_triangle(out, n);
-    }
-    if kind == 9 {
-        return density_trace::normalize_trace(out, n);
-    }
-    if kind == 10 {
-        return density_block::multiply_block_factor(out, n, list, a, cap);
-    }
-    let kept = plan_numbers::read_plan(plan);
-    if kind == 22 {
-        return plan_matrix::planned_cut_matrix(a, kept, out);
-    }
-    plan_density::planned_reduced_density(a, kept, out, scratch)
 }
 
-fn call(
-    rt: &impl Print,
-    kind: u64,
-    a: &[f64],
-    n: usize,
-    list: &[usize],
-    cap: usize,
-    plan: &[usize; 30],
-    out: &mut [f64],
-    scratch: &mut [f64],
-) -> Result<()> {
-    if kind == 24 {
-        return values(rt, a, plan, out, scratch);
+fn print_lent(rt: &impl Print, kind: u64, s: &[f64]) -> io::Result<()> {
+    match kind {
+        7..=0xf => replay::print_numbers(rt, s),
+        _ => replay::print_or_digest(rt, s),
     }
-    replay::print_answer(rt, answer_of(kind, a, n, list, cap, plan, out, scratch))
-}
-
-fn print_lent(rt: &impl Print, kind: u64, s: &[f64]) -> Result<()> {
-    if kind < 7 {
-        return replay::print_or_digest(rt, s);
-    }
-    if kind < 16 {
-        return replay::print_floats(rt, s);
-    }
-    replay::print_or_digest(rt, s)
 }
 
 // Lends the first numbers of out and of scratch, as many as are asked for.
@@ -282,33 +225,20 @@ fn show(
     room: usize,
     scratch: &mut [f64],
     more: usize,
-) -> Result<()> {
-    if out.len() < room {
+) -> io::Result<()> {
+    let Some(first) = out.get_mut(..room) else {
         return Ok(());
-    }
-    if scratch.len() < more {
+    };
+    let Some(second) = scratch.get_mut(..more) else {
         return Ok(());
+    };
+    if kind == 0x18 {
+        values(rt, a, plan, first, second)?;
+    } else {
+        replay::print_answer(rt, &answer_of(kind, a, n, list, cap, plan, first, second))?;
     }
-    call(
-        rt,
-        kind,
-        a,
-        n,
-        list,
-        cap,
-        plan,
-        &mut out[..room],
-        &mut scratch[..more],
-    )?;
-    print_lent(rt, kind, replay::front_floats(out, room))?;
-    print_lent(rt, kind, replay::front_floats(scratch, more))
-}
-
-fn ready(kind: u64, s: &mut [f64]) {
-    if kind == 7 {
-        return;
-    }
-    replay::count_up(s, 0xc000_0000_0000_0000);
+    print_lent(rt, kind, first)?;
+    print_lent(rt, kind, second)
 }
 
 fn lend(
@@ -321,11 +251,13 @@ fn lend(
     plan: &[usize; 30],
     room: usize,
     more: usize,
-) -> Result<()> {
+) -> io::Result<()> {
     let mut out = [1.0; 8200];
     let mut scratch = [1.0; 520];
-    ready(kind, &mut out);
-    ready(kind, &mut scratch);
+    if kind != 7 {
+        replay::count_up(&mut out, 0xc000_0000_0000_0000);
+        replay::count_up(&mut scratch, 0xc000_0000_0000_0000);
+    }
     show(
         rt,
         kind,
@@ -347,7 +279,7 @@ fn cut_case(
     at: usize,
     kind: u64,
     plan: &[usize; 30],
-) -> Result<usize> {
+) -> io::Result<usize> {
     let mut names = [0usize; 16];
     let h = read_head(text, at, &mut names);
     let second = replay::past(text, h.next);
@@ -360,7 +292,7 @@ fn cut_case(
         &mut state,
         replay::size_at(text, third),
     );
-    let given = replay::front_floats(&state, replay::size_at(text, h.next));
+    let given = replay::front(&state, replay::size_at(text, h.next));
     let list = replay::front(&names, h.k);
     let size = replay::size_at(text, second);
     if kind == 5 {
@@ -377,17 +309,17 @@ fn density_case(
     at: usize,
     kind: u64,
     plan: &[usize; 30],
-) -> Result<usize> {
+) -> io::Result<usize> {
     let mut names = [0usize; 16];
     let h = read_head(text, at, &mut names);
     let m = replay::size_at(text, h.next);
     let mut state = [0.0; 8200];
-    let room = replay::read_floats(text, replay::past(text, h.next), &mut state, m);
+    let room = replay::read_numbers(text, replay::past(text, h.next), &mut state, m);
     let more = replay::past(text, room);
     lend(
         rt,
         kind,
-        replay::front_floats(&state, m),
+        replay::front(&state, m),
         h.n,
         replay::front(&names, h.k),
         h.cap,
@@ -409,11 +341,11 @@ fn square(
     positions: &[usize],
     side: usize,
     plan: &[usize; 30],
-) -> Result<usize> {
+) -> io::Result<usize> {
     let m = replay::size_at(text, at);
     let mut rho = [0.0; 8200];
     let mut none = [0.0; 1];
-    let next = replay::read_floats(text, replay::past(text, at), &mut rho, m);
+    let next = replay::read_numbers(text, replay::past(text, at), &mut rho, m);
     show(
         rt, kind, factor, dim, positions, side, plan, &mut rho, m, &mut none, 0,
     )?;
@@ -427,11 +359,11 @@ fn block_case(
     at: usize,
     kind: u64,
     plan: &[usize; 30],
-) -> Result<usize> {
+) -> io::Result<usize> {
     let second = replay::past(text, at);
     let k = replay::size_at(text, second);
     let mut positions = [0usize; 16];
-    let third = replay::read_counts(text, replay::past(text, second), &mut positions, k);
+    let third = replay::read_numbers(text, replay::past(text, second), &mut positions, k);
     let matrix = replay::past(text, third);
     let after = replay::skip(
         text,
@@ -440,13 +372,13 @@ fn block_case(
     );
     let f = replay::size_at(text, after);
     let mut factor = [0.0; 2048];
-    let last = replay::read_floats(text, replay::past(text, after), &mut factor, f);
+    let last = replay::read_numbers(text, replay::past(text, after), &mut factor, f);
     square(
         rt,
         text,
         matrix,
         kind,
-        replay::front_floats(&factor, f),
+        replay::front(&factor, f),
         replay::size_at(text, at),
         replay::front(&positions, k),
         replay::size_at(text, third),
@@ -461,99 +393,42 @@ fn square_case(
     at: usize,
     kind: u64,
     plan: &[usize; 30],
-) -> Result<usize> {
-    let none = [0usize; 1];
+) -> io::Result<usize> {
+    let dim = replay::size_at(text, at);
     square(
         rt,
         text,
         replay::past(text, at),
         kind,
-        replay::front_floats(&[0.0; 1], 0),
-        replay::size_at(text, at),
-        replay::front(&none, 0),
+        &[],
+        dim,
+        &[],
         0,
         plan,
     )
 }
 
-fn case(rt: &impl Print, text: &[u8], at: usize, kind: u64, plan: &[usize; 30]) -> Result<usize> {
-    if kind == 1 {
-        return lists(rt, text, at);
-    }
-    if kind == 3 {
-        return base_case(rt, text, at);
-    }
-    if kind < 5 {
-        return counts_case(rt, text, at, kind);
-    }
-    if kind < 7 {
-        return cut_case(rt, text, at, kind, plan);
-    }
-    if kind == 7 {
-        return density_case(rt, text, at, kind, plan);
-    }
-    if kind == 10 {
-        return block_case(rt, text, at, kind, plan);
-    }
-    square_case(rt, text, at, kind, plan)
-}
-
-fn set(plan: &mut [usize], place: usize, value: usize) {
-    if place < plan.len() {
-        plan[place] = value;
-    }
-}
-
-fn poke(
-    rt: &impl Print,
-    text: &[u8],
-    at: usize,
-    kind: u64,
-    plan: &mut [usize; 30],
-) -> Result<usize> {
-    replay::print_word(rt, 0)?;
-    replay::print_word(rt, 0)?;
-    if kind == 16 {
+// Sets the plan past every call: all zero, or one number.
+fn poke(text: &[u8], at: usize, kind: u64, plan: &mut [usize; 30]) -> usize {
+    if kind == 0x10 {
         *plan = [0; 30];
-        return Ok(at);
+        return at;
     }
     let second = replay::past(text, at);
-    set(
+    replay::set(
         plan,
         replay::size_at(text, at),
-        replay::size_at(text, second),
+        replay::word_at(text, second),
     );
-    Ok(replay::past(text, second))
+    replay::past(text, second)
 }
 
-fn make(rt: &impl Print, text: &[u8], at: usize, plan: &mut [usize; 30]) -> Result<usize> {
+fn make(rt: &impl Print, text: &[u8], at: usize, plan: &mut [usize; 30]) -> io::Result<usize> {
     let mut names = [0usize; 16];
     let h = read_head(text, at, &mut names);
-    replay::print_answer(
-        rt,
-        plan_calls::store_cut_plan(replay::front(&names, h.k), h.n, h.cap, plan),
-    )?;
+    let list = replay::front(&names, h.k);
+    replay::print_answer(rt, &plan_calls::store_cut_plan(list, h.n, h.cap, plan))?;
     Ok(h.next)
-}
-
-fn change(
-    rt: &impl Print,
-    text: &[u8],
-    at: usize,
-    kind: u64,
-    plan: &mut [usize; 30],
-) -> Result<usize> {
-    if kind == 20 {
-        replay::print_answer(rt, plan_calls::switch_plan(plan))?;
-        return Ok(at);
-    }
-    let qubit = replay::size_at(text, at);
-    if kind == 18 {
-        replay::print_answer(rt, plan_calls::add_to_plan(plan, qubit))?;
-    } else {
-        replay::print_answer(rt, plan_calls::drop_from_plan(plan, qubit))?;
-    }
-    Ok(replay::past(text, at))
 }
 
 // The calls of a plan's list.
@@ -563,86 +438,74 @@ fn planned(
     at: usize,
     kind: u64,
     plan: &[usize; 30],
-) -> Result<usize> {
-    let none = [0usize; 1];
+) -> io::Result<usize> {
     let mut numbers = [0.0; 512];
     let k = replay::size_at(text, at);
-    let next = replay::read_floats(text, replay::past(text, at), &mut numbers, k);
-    let a = replay::front_floats(&numbers, k);
-    let list = replay::front(&none, 0);
+    let next = replay::read_numbers(text, replay::past(text, at), &mut numbers, k);
+    let a = replay::front(&numbers, k);
     let room = replay::size_at(text, next);
     let second = replay::past(text, next);
-    if kind == 22 {
-        lend(rt, kind, a, 0, list, 0, plan, room, 0)?;
+    if kind == 0x16 {
+        lend(rt, kind, a, 0, &[], 0, plan, room, 0)?;
         return Ok(second);
     }
-    lend(
-        rt,
-        kind,
-        a,
-        0,
-        list,
-        0,
-        plan,
-        room,
-        replay::size_at(text, second),
-    )?;
+    let more = replay::size_at(text, second);
+    lend(rt, kind, a, 0, &[], 0, plan, room, more)?;
     Ok(replay::past(text, second))
 }
 
+// A case of a plan, but for the plan's numbers.
 fn operate(
     rt: &impl Print,
     text: &[u8],
     at: usize,
     kind: u64,
     plan: &mut [usize; 30],
-) -> Result<usize> {
-    if kind > 21 {
-        return planned(rt, text, at, kind, plan);
+) -> io::Result<usize> {
+    let qubit = replay::size_at(text, at);
+    let answer = match kind {
+        0x11 => return make(rt, text, at, plan),
+        0x16.. => return planned(rt, text, at, kind, plan),
+        0x10 | 0x15 => Ok(()),
+        0x12 => plan_calls::add_to_plan(plan, qubit),
+        0x14 => plan_calls::switch_plan(plan),
+        _ => plan_calls::drop_from_plan(plan, qubit),
+    };
+    replay::print_answer(rt, &answer)?;
+    match kind {
+        0x10 | 0x15 => Ok(poke(text, at, kind, plan)),
+        0x14 => Ok(at),
+        _ => Ok(replay::past(text, at)),
     }
-    if kind == 16 {
-        return poke(rt, text, at, kind, plan);
-    }
-    if kind == 21 {
-        return poke(rt, text, at, kind, plan);
-    }
-    if kind == 17 {
-        return make(rt, text, at, plan);
-    }
-    change(rt, text, at, kind, plan)
 }
 
-fn one(
+fn case(
     rt: &impl Print,
     text: &[u8],
-    at: usize,
     kind: u64,
+    at: usize,
     plan: &mut [usize; 30],
-) -> Result<usize> {
-    if kind < 16 {
-        return case(rt, text, at, kind, plan);
-    }
-    let next = operate(rt, text, at, kind, plan)?;
-    replay::print_counts(rt, plan)?;
-    Ok(next)
-}
-
-fn run(rt: &impl Print, text: &[u8]) -> Result<()> {
-    let mut plan = [0usize; 30];
-    let mut at = 0;
-    for _ in 0..10000usize {
-        let kind = replay::next_word(text, at);
-        if !kind.found {
-            return Ok(());
+) -> io::Result<usize> {
+    match kind {
+        1 => lists(rt, text, at),
+        0 | 2 | 4 => counts_case(rt, text, at, kind),
+        3 => base_case(rt, text, at),
+        5 | 6 => cut_case(rt, text, at, kind, plan),
+        7 => density_case(rt, text, at, kind, plan),
+        0xa => block_case(rt, text, at, kind, plan),
+        8..=0xf => square_case(rt, text, at, kind, plan),
+        _ => {
+            let next = operate(rt, text, at, kind, plan)?;
+            replay::print_numbers(rt, plan)?;
+            Ok(next)
         }
-        at = one(rt, text, kind.next, kind.value, &mut plan)?;
-        replay::end_line(rt)?;
     }
-    Ok(())
 }
 
-fn main(rt: HostRuntime) -> Result<()> {
+fn main(rt: HostRuntime) -> io::Result<()> {
     let mut text = [0u8; 393216];
     let n = inputs::read_full(&mut rt.reader(), &mut text);
-    run(&rt, &text[..n])
+    let text = &text[..n];
+    let mut plan = [0usize; 30];
+    replay::run(&rt, text, |kind, at| case(&rt, text, kind, at, &mut plan))
 }

@@ -1,4 +1,4 @@
--- Three marks put one after another, and counts set to 0 one after another. Assumes nothing.
+-- Three marks put one after another. Assumes nothing.
 use mathlib.Core.Path.{◌≡◌, refl, sym, ap, ◌∙◌}
 use mathlib.Core.List.{List, [], ◌∷◌, ◌++◌, append-nil}
 use Prim.Native.Nat.{ℕ, zero, suc, ◌+◌, ◌≤◌, ◌<◌}
@@ -31,23 +31,3 @@ in-set l i x k h = rw length-set h
 
 pub in-set-two : (l : List ℕ) (i x j y k : ℕ) → k < length l → k < length (set (set l i x) j y)
 in-set-two l i x j y k h = in-set (set l i x) j y k (in-set l i x k h)
-
--- ---- counts
-
-pub counts-none : (l : List ℕ) → l ≡ replicate 0 0 ++ drop 0 l
-counts-none l = refl
-
-pub counts-more : (l : List ℕ) (i : ℕ) {now : List ℕ} → i < length l → now ≡ replicate i 0 ++ drop i l → set now i 0 ≡ replicate (i + 1) 0 ++ drop (i + 1) l
-counts-more l i h e =
-    let p = replicate {A = ℕ} i 0 in
-    let t = drop (suc i) l in
-    ap (λ (x : List ℕ). set x i 0) (e ∙ ap (λ (x : List ℕ). p ++ x) (drop-cons l i 0 h))
-    ∙ set_at p _ t 0 i (length-replicate i 0)
-    ∙ sym (append_snoc p 0 t)
-    ∙ ap (λ (x : List ℕ). x ++ t) (replicate-append-replicate i 1 0)
-    ∙ ap (λ (x : ℕ). replicate (i + 1) 0 ++ drop x l) (sym (add-one i))
-
-pub counts_end : (l : List ℕ) (i : ℕ) {now : List ℕ} → i ≤ length l → length l ≤ i → now ≡ replicate i 0 ++ drop i l → now ≡ replicate (length l) 0
-counts_end l i a b e =
-    let h : i ≡ length l = omega arith in
-    e ∙ ap (λ (x : List ℕ). replicate i 0 ++ x) (drop_of_length-le l b) ∙ append-nil (replicate i 0) ∙ ap (λ (x : ℕ). replicate x 0) h

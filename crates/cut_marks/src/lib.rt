@@ -6,13 +6,11 @@ ghost use Rattle.cut_marks.specs.Marks.{one_if, cut_marks};
 
 use sweeps::Sweeps;
 
+// 1 where it is so, else 0.
 pub fn one_if(yes: bool) -> usize
     ensures { result ≡ one_if yes }
 {
-    if yes {
-        return 1;
-    }
-    0
+    usize::from(yes)
 }
 
 // The three marks from a place on: the sweeps begun, 1 where the last was quiet else 0, the turned pairs.
@@ -29,8 +27,5 @@ pub fn put_sweeps(at: usize, sweeps: Sweeps, marks: &mut [usize])
 pub fn clear_counts(s: &mut [usize])
     ensures { s.new ≡ replicate (length s.old) 0 }
 {
-    let end = s.len();
-    for i in 0..end {
-        s[i] = 0;
-    }
+    s.fill(0);
 }

@@ -13,6 +13,7 @@ use complex::Complex;
 use cut_sides::Sides;
 
 // A cell, or its conjugate.
+#[tactic(auto, unfolding(crate::specs::CutPlanes::shown))]
 fn show(z: Complex, conjugated: bool) -> Complex
     ensures { result ≡ shown conjugated z }
 {
@@ -34,13 +35,11 @@ fn fill_column(
     ensures { work.new ≡ planes_to (2 ^ n) (column_cell n inner bits at conjugated state.now) at count work.old }
 {
     let cells = submasks::bit(n);
-    let mut j: usize = 0;
-    let mut inner_bits: usize = 0;
-    while j < count {
+    let mut inner_bits = 0;
+    for j in 0..count {
         let z = complex::read_cell(state, inner_bits | bits);
         complex::write_plane(work, cells, at + j, show(z, conjugated));
         inner_bits = submasks::next_submask(inner_bits, inner);
-        j += 1;
     }
 }
 
@@ -58,14 +57,10 @@ fn fill_planes(
     requires { CutReady n inner outer count columns state.now work.old × (length work.old ≡ 2 * 2 ^ n) }
     ensures { work.new ≡ planes_of (2 ^ n) (work_cell n inner outer count conjugated state.now) }
 {
-    let mut c: usize = 0;
-    let mut at: usize = 0;
-    let mut bits: usize = 0;
-    while c < columns {
-        fill_column(state, n, inner, count, bits, at, conjugated, work);
+    let mut bits = 0;
+    for c in 0..columns {
+        fill_column(state, n, inner, count, bits, c * count, conjugated, work);
         bits = submasks::next_submask(bits, outer);
-        at += count;
-        c += 1;
     }
 }
 
@@ -85,16 +80,16 @@ pub fn gather_work(state: &[f64], n: usize, cut: Sides, work: &mut [f64])
             true,
             work,
         );
-        return;
+    } else {
+        fill_planes(
+            state,
+            n,
+            cut.row,
+            cut.column,
+            cut.rows,
+            cut.columns,
+            false,
+            work,
+        );
     }
-    fill_planes(
-        state,
-        n,
-        cut.row,
-        cut.column,
-        cut.rows,
-        cut.columns,
-        false,
-        work,
-    );
 }

@@ -13,10 +13,9 @@ use borrow.Author.Tests.{le-leb, lt-leb, eqb-false, ltb-false}
 use lib.Arith.{lt_of_le-ne}
 use lib.Dec.{eqb}
 use lib.ListN.{length, set, take, drop, length-append, length-set}
-use lib.Seq.{set_at, drop-cons, append_snoc, take_at, take-length}
-use Rattle.answers.specs.declared.Answer.{Answer}
-use Rattle.answers.specs.Paper.{Reply, paper, done, refuse}
-use Rattle.answers.proofs.PaperLaws.{refuse-done, and_then-done, done-new, done-old}
+use lib.Seq.{set_at, drop-cons, append_snoc, take_at}
+use Rattle.answers.specs.Paper.{Answer, Reply, paper, done, refuse}
+use Rattle.answers.proofs.PaperLaws.{refuse-done, and_then-done, done-new}
 use Rattle.submasks.proofs.SubmaskLaws.{submask_count, le-or-lt, others-lt, others-others}
 use Rattle.submasks.specs.Submasks.{others}
 use Rattle.qubits.specs.Lists.{stands, qubit_set, subsystem}
@@ -27,8 +26,7 @@ use Rattle.qubits.proofs.OtherLaws.{others-length}
 use Rattle.qubit_offsets.specs.Calls.{fronted}
 use Rattle.qubit_offsets.proofs.CallLaws.{length-fronted}
 use Rattle.complex.proofs.Loops.{cond_yes, cond_no}
-use Rattle.cut_sides.specs.declared.Sides.{Sides}
-use Rattle.cut_sides.specs.Sides.{cut_sizes, cut_refusal, Parted, side, named_rows, row_mask, column_mask, sides_of, side_list, others_short, side_answer, SmallerSide, side_part}
+use Rattle.cut_sides.specs.Sides.{cut_sizes, cut_refusal, Parted, side, named_rows, row_mask, column_mask, side_list, others_short, side_answer, SmallerSide, side_part}
 
 -- ---- an accepted list
 
@@ -50,24 +48,6 @@ module _ (l : List ℕ) (n : ℕ) where
 
   pub named-no : n - length l < length l → named_rows l n ≡ false
   named-no h = lt-leb (length l) (n - length l) h
-
--- what `sides_of` computes: m is the named mask, f the register's size, a and b the two sides' sizes
-module _ (l : List ℕ) (n m f a b : ℕ) (part : length l < n) (em : m ≡ named l) (ef : f ≡ 2 ^ n) (ea : a ≡ 2 ^ length l) (eb : b ≡ 2 ^ (n - length l)) where
-  pub sides-named : length l ≤ n - length l
-      → ◌≡◌ {A = Sides} (record { row = m; column = f - 1 - m; rows = a; columns = b; named = true }) (sides_of l n)
-  sides-named h =
-      let t = named-yes l n h in
-      let s : side l n ≡ length l = min-eq_left h in
-      rw (t, s, em, ef, ea, eb)
-
-  pub sides-others : n - length l < length l
-      → ◌≡◌ {A = Sides} (record { row = f - 1 - m; column = m; rows = b; columns = a; named = false }) (sides_of l n)
-  sides-others h =
-      let t = named-no l n h in
-      let g : n - length l ≤ length l = omega arith in
-      let s : side l n ≡ n - length l = min-eq_right g in
-      let d : n - (n - length l) ≡ length l = omega arith in
-      rw (t, s, d, em, ef, ea, eb)
 
 -- the masks and sizes of an accepted cut: the columns' mask is what the rows' has not, and each has as many submasks as its side's size
 pub record TwoSides (l : List ℕ) (n : ℕ) : Type 0 where
@@ -150,9 +130,6 @@ module _ (l : List ℕ) (n : ℕ) (o : List ℕ) where
         let e : other_qubits (q + 1) l ≡ other_qubits q l = other-named q l d in
         record { more = omega arith; count = rw e i.count; long = i.long; front = rw e i.front }
 
-    pub risen-end : n ≤ q → out ≡ fronted (other_qubits n l) o
-    risen-end h = let e : q ≡ n = omega (arith, i.more) in rw (← e) i.front
-
 -- ---- the smaller side's calls
 
 -- the sides that 6 does not refuse
@@ -165,34 +142,6 @@ room-done l n cap room e h =
 
 pub side-parted : (l : List ℕ) (n cap room : ℕ) → (side_answer l n cap room).0 ≡ 0 → Parted l n
 side-parted l n cap room e = is-parted l n cap (and_then-done (cut_refusal l n cap) (refuse (others_short l n room) (6, 1) done) e).0
-
-module _ (l : List ℕ) (n cap : ℕ) (o : List ℕ) (r : Answer) (e : paper r ≡ side_answer l n cap (length o)) where
-  pub side-refused : ((paper r).0 ≡ 0 → ⊥) → SmallerSide l n cap o r o
-  side-refused h = record { answer = e; numbers = done-old _ _ o (λ z. h (ap (λ (x : Reply). x.0) e ∙ z)) }
-
-  pub side-named : (paper r).0 ≡ 0 → length l ≤ n - length l → SmallerSide l n cap o r o
-  side-named h g = record {
-    answer = e;
-    numbers =
-        sym (cond_yes o (fronted (other_qubits n l) o) (named-yes l n g)) ∙ done-new _ _ o (sym (ap (λ (x : Reply). x.0) e) ∙ h);
-  }
-
-  pub side-others : (end : List ℕ) → (paper r).0 ≡ 0 → n - length l < length l → end ≡ fronted (other_qubits n l) o → SmallerSide l n cap o r end
-  side-others end h g c = record {
-    answer = e;
-    numbers =
-        c ∙ sym (cond_no o (fronted (other_qubits n l) o) (named-no l n g)) ∙ done-new _ _ o (sym (ap (λ (x : Reply). x.0) e) ∙ h);
-  }
-
-module _ (l : List ℕ) (n cap : ℕ) (o : List ℕ) where
-  pub part_none : (r : Answer) → paper r ≡ side_answer l n cap (length o) → ((paper r).0 ≡ 0 → ⊥) → [] ≡ side_part l n cap o
-  part_none r e h = done-old _ _ [] (λ z. h (ap (λ (x : Reply). x.0) e ∙ z))
-
-  pub part-named : (side_answer l n cap (length o)).0 ≡ 0 → length l ≤ n - length l → take (length l) l ≡ side_part l n cap o
-  part-named e h = take-length l ∙ sym (cond_yes l (take (n - length l) o) (named-yes l n h)) ∙ done-new _ _ [] e
-
-  pub part-others : (side_answer l n cap (length o)).0 ≡ 0 → n - length l < length l → take (n - length l) o ≡ side_part l n cap o
-  part-others e h = sym (cond_no l (take (n - length l) o) (named-no l n h)) ∙ done-new _ _ [] e
 
 -- THE TWO CALLS TOGETHER: after `smaller_side` answered 0, `side_part` of what it left hands back the smaller side's list
 pub part-of-side : (l : List ℕ) (n cap : ℕ) (o : List ℕ) (r : Answer) (end : List ℕ) → SmallerSide l n cap o r end → (paper r).0 ≡ 0

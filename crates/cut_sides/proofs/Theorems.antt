@@ -1,8 +1,8 @@
 -- What a reader may want to know of this crate's definitions and calls. Assumes nothing.
 use mathlib.Core.Path.{◌≡◌, sym, ◌∙◌}
 use mathlib.Core.List.{List}
-use Prim.Native.Nat.{ℕ, ◌-◌}
-use Rattle.answers.specs.declared.Answer.{Answer}
+use Prim.Native.Nat.{ℕ}
+use Rattle.answers.specs.Paper.{Answer}
 use Rattle.answers.proofs.Theorems.{paper-one}
 use Rattle.cut_sides.specs.Sides.{SmallerSide, side_part}
 

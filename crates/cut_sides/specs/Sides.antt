@@ -1,8 +1,7 @@
 -- The two sides of a cut: which is refused, which side becomes the rows, their masks and sizes, and the smaller side's list.
 -- Assumes nothing.
 use Rattle.std.specs.Prelude.{Bool, false, cond, ◌≡◌, List, [], ℕ, ◌+◌, ◌-◌, ◌^◌, ◌<◌, min, leb, ltb, length, take}
-use Rattle.answers.specs.declared.Answer.{Answer}
-use Rattle.answers.specs.Paper.{Reply, paper, done, refuse, and_then, if_done}
+use Rattle.answers.specs.Paper.{Answer, Reply, paper, done, refuse, and_then, if_done}
 use Rattle.submasks.specs.Submasks.{others}
 use Rattle.qubits.specs.Lists.{register, subsystem, Listed}
 use Rattle.qubits.specs.Spread.{named, other_qubits}

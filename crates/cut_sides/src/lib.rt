@@ -8,32 +8,23 @@ ghost use Rattle.qubits.specs.Spread.{other_qubits};
 ghost use Rattle.qubit_offsets.specs.Calls.{fronted};
 ghost use Rattle.cut_sides.specs.Sides.{cut_sizes, cut_refusal, Parted, sides_of, side_answer, SmallerSide, side_part};
 
-use answers::Answer;
+use answers::Refusal;
 
 // Answer 1 of a cut: the register, then n+1 against the cap, which is at most 13.
-fn cut_size(n: usize, cap: usize) -> Answer
+fn cut_size(n: usize, cap: usize) -> Result<(), Refusal>
     ensures { paper result ≡ cut_sizes n cap }
 {
-    if n < 1 {
-        return Answer::Size;
+    if n < 1 || 12 < n || cap < n + 1 {
+        return Err(Refusal::Size);
     }
-    if 12 < n {
-        return Answer::Size;
-    }
-    if cap < n + 1 {
-        return Answer::Size;
-    }
-    Answer::Done
+    Ok(())
 }
 
 // Inner: answers 1 to 5 of a cut.
-pub fn cut_refusal(list: &[usize], n: usize, cap: usize) -> Answer
+pub fn cut_refusal(list: &[usize], n: usize, cap: usize) -> Result<(), Refusal>
     ensures { paper result ≡ cut_refusal list.now n cap }
 {
-    let size = cut_size(n, cap);
-    let Answer::Done = size else {
-        return size;
-    };
+    cut_size(n, cap)?;
     qubits::validate_subsystem(list, n)
 }
 
@@ -78,22 +69,16 @@ pub fn sides_of(list: &[usize], n: usize) -> Sides
 }
 
 // Answers 1 to 6 of the smaller side: room is how many numbers the slice of the others has.
-fn side_refusal(list: &[usize], n: usize, cap: usize, room: usize) -> Answer
+fn side_refusal(list: &[usize], n: usize, cap: usize, room: usize) -> Result<(), Refusal>
     ensures { paper result ≡ side_answer list.now n cap room }
 {
-    let first = cut_refusal(list, n, cap);
-    let Answer::Done = first else {
-        return first;
-    };
+    cut_refusal(list, n, cap)?;
     let k = list.len();
     let rest = n - k;
-    if k <= rest {
-        return Answer::Done;
+    if rest < k && room < rest {
+        return Err(Refusal::Length(1));
     }
-    if room < rest {
-        return Answer::Length(1);
-    }
-    Answer::Done
+    Ok(())
 }
 
 // Inner: the qubits that the list does not name, rising, at the front of out.
@@ -102,30 +87,29 @@ pub fn write_others(list: &[usize], n: usize, out: &mut [usize])
     ensures { out.new ≡ fronted (other_qubits n list.now) out.old }
 {
     let mut j: usize = 0;
-    let mut q: usize = 0;
-    while q < n {
+    for q in 0..n {
         if !qubits::stands_in(list, q) {
             out[j] = q;
             j += 1;
         }
-        q += 1;
     }
 }
 
 // The smaller side: refused as a cut; where the others are smaller they are written, rising, at the front of the lent slice.
-pub fn smaller_side(list: &[usize], n: usize, cap: usize, others: &mut [usize]) -> Answer
+pub fn smaller_side(
+    list: &[usize],
+    n: usize,
+    cap: usize,
+    others: &mut [usize],
+) -> Result<(), Refusal>
     ensures { SmallerSide list.now n cap others.old result others.new }
 {
-    let first = side_refusal(list, n, cap, others.len());
-    let Answer::Done = first else {
-        return first;
-    };
+    side_refusal(list, n, cap, others.len())?;
     let k = list.len();
-    if k <= n - k {
-        return Answer::Done;
+    if n - k < k {
+        write_others(list, n, others);
     }
-    write_others(list, n, others);
-    Answer::Done
+    Ok(())
 }
 
 // The smaller side's list, as a part of the caller's list or of the slice in which `smaller_side` wrote the others; on a refusal an
@@ -133,14 +117,13 @@ pub fn smaller_side(list: &[usize], n: usize, cap: usize, others: &mut [usize]) 
 pub fn side_part<'a>(list: &'a [usize], n: usize, cap: usize, others: &'a [usize]) -> &'a [usize]
     ensures { result.now ≡ side_part list.now n cap others.now }
 {
-    let first = side_refusal(list, n, cap, others.len());
-    let Answer::Done = first else {
+    let Ok(()) = side_refusal(list, n, cap, others.len()) else {
         return &list[..0];
     };
-    let k = list.len();
-    let rest = n - k;
-    if k <= rest {
-        return &list[..k];
+    let rest = n - list.len();
+    if rest < list.len() {
+        &others[..rest]
+    } else {
+        list
     }
-    &others[..rest]
 }

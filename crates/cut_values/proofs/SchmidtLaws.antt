@@ -2,21 +2,24 @@
 -- its contract. Assumes nothing.
 use mathlib.Core.Bool.{Bool, true, false, not, ◌&&◌}
 use mathlib.Core.Path.{◌≡◌, refl, sym, ap, ap₂, subst, ◌∙◌}
-use mathlib.Core.Logic.{◌⊎◌, ⊎_elim}
+use mathlib.Core.Logic.{⊎_elim}
 use mathlib.Core.List.{List, [], ◌∷◌, ◌++◌, append-nil}
 use Prim.Native.Nat.{ℕ, zero, suc, ◌+◌, ◌-◌, ◌*◌, ◌^◌, ◌≤◌, ◌<◌, min}
 use native.Mathlib.Nat.{min-le_left, min-le_right, eq-or-lt_of_le, mul_comm, mul-le-mul_right}
 use native.Mathlib.Omega.{arith}
-use borrow.Author.Tests.{lt-ltb, le-ltb, ltb-false, eq-eqb, ne_eqb, eqb-true, not-false}
+use borrow.Author.Tests.{ltb-false, eqb-true, not-false}
 use lib.Dec.{ltb, leb, eqb}
 use lib.Ieee.{Float}
 use lib.ListN.{length, take, drop, drop_of_length-le, length-append}
 use lib.Seq.{take_at}
 use lib.Pow.{pow_mono}
-use Rattle.answers.specs.declared.Answer.{Answer}
-use Rattle.answers.specs.declared.Answer.TheVariants.{NotFinite}
-use Rattle.answers.specs.Paper.{Reply, paper, done, refuse, after, and_then, if_done, if_worked, at_end}
-use Rattle.answers.proofs.PaperLaws.{refuse-done, and_then-done, stays, refuse-small, after_small, done-old, Ended, nine-ended, worked-new, worked-old, end-old, end-worked}
+use Rattle.std.specs.Prelude.{Result, Err}
+use Rattle.answers.specs.declared.Refusal.{Refusal}
+use Rattle.answers.proofs.Stopped.{refused, stopped-number}
+use Rattle.answers.proofs.Theorems.{result-one}
+use Rattle.answers.specs.Paper.{Reply, paper, table, given, done, refuse, after, and_then, if_done, if_worked, at_end}
+use Rattle.answers.specs.declared.Refusal.TheVariants.{NotFinite}
+use Rattle.answers.proofs.PaperLaws.{refuse-done, and_then-done, refuse-small, after_small, done-old, Ended, nine-ended, worked-new, worked-old, end-old, end-worked}
 use Rattle.qubits.specs.Lists.{stands, places_from, places, qubit_set, subsystem}
 use Rattle.complex.specs.Cells.{cells_of, components}
 use Rattle.complex.proofs.CellLaws.{components-small}
@@ -37,46 +40,18 @@ use Rattle.values.specs.Sort.{sorted_down}
 use Rattle.sweeps.specs.Sweeping.{no_sweeps}
 use Rattle.cut_values.specs.declared.CutCounted.{CutCounted}
 use Rattle.factored.specs.Factored.{kept_sweeps}
-use Rattle.factored.proofs.Laws.{kept-none, kept_by}
 use Rattle.finish.specs.declared.Finished.{Finished}
 use Rattle.finish.specs.Finish.{finish_of, finish_exact, finish_reply, padded}
-use Rattle.finish.specs.Outcome.{MarkedOutcome}
+use Rattle.finish.specs.Outcome.{no_finish, MarkedOutcome}
 use Rattle.finish.proofs.OutcomeLaws.{reply-worked}
 use Rattle.svd_thin.specs.Thin.{swept, order_of, values_of}
 use Rattle.svd.specs.Svd.{side_of, work_of, s_of, svd_sweeps}
 use Rattle.svd.specs.Svd as svd
 use Rattle.svd.proofs.SvdLaws.{side-wide, side-tall, svd-ceiling}
-use Rattle.cut_values.specs.Schmidt.{cut_rows, cut_columns, singular_values, cut_sweeps, columns_exact, cut_exact, columns_exact_of, cut_values_scratch, cut_values_lengths, cut_values_rest, cut_values_tests, values_reply, cut_values_answer, Schmidt, CutValuesSized, sides_matrix, norms_after, singular_of, sweeps_of, CutValuesSettled, CutValuesFinished, CutValuesMade, CutValuesWorked, over_answer, SchmidtOver}
+use Rattle.cut_values.specs.Schmidt.{cut_rows, cut_columns, singular_values, cut_sweeps, columns_exact, cut_exact, columns_exact_of, cut_values_scratch, cut_values_lengths, cut_values_rest, cut_values_tests, values_reply, cut_values_answer, no_cut, Schmidt, CutValuesSized, sides_matrix, norms_after, singular_of, sweeps_of, CutValuesSettled, CutValuesFinished, CutValuesMade, CutValuesWorked, over_answer, SchmidtOver}
 use Rattle.sweeps.proofs.Ceiling.{Ceiling}
 
 -- ---- the lengths
-
-module _ (n rows state out scratch : ℕ) {cells : ℕ} (e : cells ≡ 2 ^ n) where
-  pub lengths-0 : (state ≡ 2 * cells → ⊥) → (6, 0) ≡ cut_values_lengths n rows state out scratch
-  unfolding cut_values_lengths
-  lengths-0 h =
-      let g : state ≡ 2 * 2 ^ n → ⊥ = λ z. h (omega arith) in
-      rw (ne_eqb state (2 * 2 ^ n) g)
-
-  module _ (hs : state ≡ 2 * cells) where
-    gs : state ≡ 2 * 2 ^ n
-    gs = omega arith
-
-    pub lengths-2 : out < rows → (6, 2) ≡ cut_values_lengths n rows state out scratch
-    unfolding cut_values_lengths
-    lengths-2 h = rw (eq-eqb state (2 * 2 ^ n) gs, lt-ltb out rows h)
-
-    pub lengths-3 : rows ≤ out → scratch < 8 * cells + 2 * rows → (6, 3) ≡ cut_values_lengths n rows state out scratch
-    unfolding cut_values_lengths
-    lengths-3 h i =
-        let g : scratch < cut_values_scratch n rows = omega arith in
-        rw (eq-eqb state (2 * 2 ^ n) gs, le-ltb out rows h, lt-ltb scratch (cut_values_scratch n rows) g)
-
-    pub lengths-good : rows ≤ out → 8 * cells + 2 * rows ≤ scratch → done ≡ cut_values_lengths n rows state out scratch
-    unfolding cut_values_lengths
-    lengths-good h i =
-        let g : cut_values_scratch n rows ≤ scratch = omega arith in
-        rw (eq-eqb state (2 * 2 ^ n) gs, le-ltb out rows h, le-ltb scratch (cut_values_scratch n rows) g)
 
 pub lengths-done : (n rows state out scratch : ℕ) → (cut_values_lengths n rows state out scratch).0 ≡ 0
     → (state ≡ 2 * 2 ^ n) × (rows ≤ out) × (cut_values_scratch n rows ≤ scratch)
@@ -206,7 +181,7 @@ module _ (values old : List Float) (b : Bool) (f : b ≡ all_finite values) wher
   unfolding values_reply
   tested t h = ap (λ (x : Bool). refuse (not x) (9, 0) (finish_reply values)) (sym f ∙ h)
 
-  pub finished-good : (r : Finished) (end : List Float) → b ≡ true → MarkedOutcome values old r end → CutValuesFinished values old r end
+  pub finished-good : (r : Result Finished Refusal) (end : List Float) → b ≡ true → MarkedOutcome values old r end → CutValuesFinished values old r end
   finished-good r end h o = record {
     answer = o.answer ∙ sym (tested true h);
     count = rw o.answer o.count;
@@ -214,7 +189,7 @@ module _ (values old : List Float) (b : Bool) (f : b ≡ all_finite values) wher
     exact-is = rw o.answer o.exact-is;
   }
 
-  pub finished-bad : (end : List Float) → b ≡ false → end ≡ zeroed (length values) old → CutValuesFinished values old (record { answer = NotFinite; count = 0; exact = false }) end
+  pub finished-bad : (end : List Float) → b ≡ false → end ≡ zeroed (length values) old → CutValuesFinished values old (Err NotFinite) end
   finished-bad end h e = record { answer = sym (tested false h); count = refl; out-is = e; exact-is = refl }
 
 -- 0, 8 or 9
@@ -230,22 +205,23 @@ and-done zero a b = refl
 and-done (suc x) true b = refl
 and-done (suc x) false b = refl
 
-pub made : (s : List Float) (n : ℕ) (z : Sides) (old values : List Float) (r : Finished) (q : CutCounted) {out : List Float} {sweeps : Sweeps} {b : Bool}
-    → values ≡ singular_of s n z → length values ≡ z.rows → sweeps ≡ sweeps_of s n z → b ≡ columns_exact_of s n z → CutValuesFinished values old r out
-    → (q.answer ≡ r.answer) × (q.count ≡ r.count) × (q.sweeps ≡ kept_sweeps r.answer sweeps) → q.exact ≡ (b && r.exact)
-    → CutValuesMade s n z old q out
-made s n z old values r q e l g y f i t =
+-- the counts of what the finish left, under its answer, with the sweeps and the mark of the columns
+pub made : (s : List Float) (n : ℕ) (z : Sides) (old values : List Float) (r : Result Finished Refusal) (q : Result CutCounted Refusal) {out : List Float} (b : Bool)
+    → values ≡ singular_of s n z → length values ≡ z.rows → b ≡ columns_exact_of s n z → CutValuesFinished values old r out
+    → paper q ≡ paper r → (given no_cut q).count ≡ (given no_finish r).count → (given no_cut q).sweeps ≡ kept_sweeps q (sweeps_of s n z)
+    → (given no_cut q).exact ≡ (b && (given no_finish r).exact) → CutValuesMade s n z old q out
+made s n z old values r q b e l y f a k w t =
     record {
-      answer = rw i.0 (f.answer ∙ ap values_reply e);
-      count = i.1 ∙ rw i.0 (f.count ∙ ap (λ (x : List Float). if_done (paper r.answer).0 (length (finish_of x)) 0) e);
-      out-is = rw i.0 (f.out-is ∙ ap₂ (λ (x : ℕ) (y : List Float). if_done (paper r.answer).0 (padded x (finish_of y) old) (zeroed x old)) l e);
-      sweeps-are = kept_by i.0 g i.2;
+      answer = a ∙ f.answer ∙ ap values_reply e;
+      count = k ∙ rw a (f.count ∙ ap (λ (x : List Float). if_done (paper r).0 (length (finish_of x)) 0) e);
+      out-is = rw a (f.out-is ∙ ap₂ (λ (x : ℕ) (y : List Float). if_done (paper r).0 (padded x (finish_of y) old) (zeroed x old)) l e);
+      sweeps-are = w;
       exact-is =
-          rw i.0
-          (t ∙ ap₂ ◌&&◌ y (f.exact-is ∙ ap (λ (x : List Float). if_done (paper r.answer).0 (finish_exact x) false) e) ∙ and-done (paper r.answer).0 (columns_exact_of s n z) (finish_exact (singular_of s n z)));
+          rw a
+          (t ∙ ap₂ ◌&&◌ y (f.exact-is ∙ ap (λ (x : List Float). if_done (paper r).0 (finish_exact x) false) e) ∙ and-done (paper r).0 (columns_exact_of s n z) (finish_exact (singular_of s n z)));
     }
 
-pub worked : (s : List Float) (n : ℕ) (z : Sides) (old mid : List Float) (q : CutCounted) {out scratch : List Float} (k : ℕ) → CutValuesMade s n z old q out
+pub worked : (s : List Float) (n : ℕ) (z : Sides) (old mid : List Float) (q : Result CutCounted Refusal) {out scratch : List Float} (k : ℕ) → CutValuesMade s n z old q out
     → length mid ≡ cut_values_scratch n z.rows → k ≡ cut_values_scratch n z.rows → scratch ≡ zeroed k mid → CutValuesWorked s n z old q out scratch
 unfolding zeroed
 worked s n z old mid q k w lm ek h =
@@ -294,39 +270,38 @@ tests-small s n l cap out scratch =
     after_small (cut_refusal l n cap).0 (cut_refusal l n cap) (cut_values_rest s n (cut_rows n l) out scratch) (cut_small l n cap) (rest-small s n (cut_rows n l) out scratch)
 
 -- refused: nothing lent changes
-pub schmidt-refused : (s : List Float) (n : ℕ) (l : List ℕ) (cap : ℕ) (out scratch : List Float) (r : Answer) (q : CutCounted)
-    → (q.answer ≡ r) × (q.count ≡ 0) × (q.sweeps ≡ no_sweeps) × (q.exact ≡ false)
-    → paper r ≡ cut_values_tests s n l cap (length out) (length scratch) → ((paper r).0 ≡ 0 → ⊥)
-    → Schmidt s n l cap out scratch q out scratch
+pub schmidt-refused : (s : List Float) (n : ℕ) (l : List ℕ) (cap : ℕ) (out scratch : List Float) (e : Refusal)
+    → table e ≡ cut_values_tests s n l cap (length out) (length scratch) → Schmidt s n l cap out scratch (Err e) out scratch
 unfolding cut_values_answer
-schmidt-refused s n l cap out scratch r q i e h =
-    let b : (paper r).0 < 8 = rw e (tests-small s n l cap (length out) (length scratch)) in
+schmidt-refused s n l cap out scratch r e =
+    let h = stopped-number r in
+    let b : (table r).0 < 8 = rw e (tests-small s n l cap (length out) (length scratch)) in
     record {
-      answer = rw i.0 (stays (paper r) (values_reply (singular_values s n l)) h ∙ ap (λ (x : Reply). and_then x (values_reply (singular_values s n l))) e);
-      count = i.1 ∙ rw i.0 (done-old (paper r).0 _ 0 h);
-      out-is = rw i.0 (end-old (paper r).0 _ _ out h b);
-      scratch-is = rw i.0 (worked-old (paper r).0 _ scratch h b);
-      sweeps-are = rw i.0 (kept-none r (cut_sweeps s n l) h i.2);
-      exact-is = i.3 ∙ rw i.0 (done-old (paper r).0 _ false h);
+      answer = refused r _ (values_reply (singular_values s n l)) e;
+      count = done-old (table r).0 _ 0 h;
+      out-is = end-old (table r).0 _ _ out h b;
+      scratch-is = worked-old (table r).0 _ scratch h b;
+      sweeps-are = done-old (table r).0 _ no_sweeps h;
+      exact-is = done-old (table r).0 _ false h;
     }
 
 -- over the sides of an accepted cut: 6 and 7 decide, and past them the work on the needed part of scratch
 module _ (s : List Float) (n : ℕ) (z : Sides) (out scratch : List Float) where
-  pub over-refused : (r : Answer) (q : CutCounted) → (q.answer ≡ r) × (q.count ≡ 0) × (q.sweeps ≡ no_sweeps) × (q.exact ≡ false)
-      → paper r ≡ cut_values_rest s n z.rows (length out) (length scratch) → ((paper r).0 ≡ 0 → ⊥) → SchmidtOver s n z out scratch q out scratch
+  pub over-refused : (e : Refusal) → table e ≡ cut_values_rest s n z.rows (length out) (length scratch) → SchmidtOver s n z out scratch (Err e) out scratch
   unfolding over_answer
-  over-refused r q i e h =
-      let b : (paper r).0 < 8 = rw e (rest-small s n z.rows (length out) (length scratch)) in
+  over-refused r e =
+      let h = stopped-number r in
+      let b : (table r).0 < 8 = rw e (rest-small s n z.rows (length out) (length scratch)) in
       record {
-        answer = rw i.0 (stays (paper r) (values_reply (singular_of s n z)) h ∙ ap (λ (x : Reply). and_then x (values_reply (singular_of s n z))) e);
-        count = i.1 ∙ rw i.0 (done-old (paper r).0 _ 0 h);
-        out-is = rw i.0 (end-old (paper r).0 _ _ out h b);
-        scratch-is = rw i.0 (worked-old (paper r).0 _ scratch h b);
-        sweeps-are = rw i.0 (kept-none r (sweeps_of s n z) h i.2);
-        exact-is = i.3 ∙ rw i.0 (done-old (paper r).0 _ false h);
+        answer = refused r _ (values_reply (singular_of s n z)) e;
+        count = done-old (table r).0 _ 0 h;
+        out-is = end-old (table r).0 _ _ out h b;
+        scratch-is = worked-old (table r).0 _ scratch h b;
+        sweeps-are = done-old (table r).0 _ no_sweeps h;
+        exact-is = done-old (table r).0 _ false h;
       }
 
-  pub over-worked : (r : CutCounted) {out' scratch' : List Float} (k : ℕ) → k ≡ cut_values_scratch n z.rows
+  pub over-worked : (r : Result CutCounted Refusal) {out' scratch' : List Float} (k : ℕ) → k ≡ cut_values_scratch n z.rows
       → (cut_values_rest s n z.rows (length out) (length scratch)).0 ≡ 0
       → CutValuesWorked s n z out r out' scratch' → SchmidtOver s n z out scratch r out' (scratch' ++ drop k scratch)
   unfolding over_answer zeroed
@@ -334,7 +309,7 @@ module _ (s : List Float) (n : ℕ) (z : Sides) (out scratch : List Float) where
       let v = values_reply (singular_of s n z) in
       let y = cut_values_rest s n z.rows (length out) (length scratch) in
       let q : and_then y v ≡ v = ap (λ (i : ℕ). after i y v) d in
-      let x = (paper r.answer).0 in
+      let x = (paper r).0 in
       let p : Ended x = rw w.answer (values-number (singular_of s n z)) in
       record {
         answer = w.answer ∙ sym q;
@@ -367,22 +342,26 @@ module _ (s : List Float) (n : ℕ) (l : List ℕ) (cap : ℕ) (out scratch : Li
       ap₂ (λ (y : Sides) (v : List Float). and_then (cut_values_rest s n y.rows (length out) (length scratch)) (values_reply v)) e singular-sides
       ∙ ap (λ (x : Reply). and_then x (values_reply (singular_values s n l))) t
 
-  pub schmidt-is-over : (r : CutCounted) {out' scratch' : List Float} → SchmidtOver s n z out scratch r out' scratch' → Schmidt s n l cap out scratch r out' scratch'
+  pub schmidt-is-over : (r : Result CutCounted Refusal) {out' scratch' : List Float} → SchmidtOver s n z out scratch r out' scratch' → Schmidt s n l cap out scratch r out' scratch'
   schmidt-is-over r w =
       let m : z.rows ≡ cut_rows n l = rw e in
-      let x = (paper r.answer).0 in
+      let x = (paper r).0 in
       record {
         answer = w.answer ∙ answer-sides;
         count = w.count ∙ ap (λ (y : List Float). if_done x (length (finish_of y)) 0) singular-sides;
         out-is = w.out-is ∙ ap₂ (λ (y : ℕ) (v : List Float). at_end x (padded y (finish_of v) out) (zeroed y out) out) m singular-sides;
         scratch-is = w.scratch-is ∙ ap (λ (y : ℕ). if_worked x (zeroed (cut_values_scratch n y) scratch) scratch) m;
-        sweeps-are = w.sweeps-are ∙ ap (kept_sweeps r.answer) sweeps-sides;
+        sweeps-are = w.sweeps-are ∙ ap (kept_sweeps r) sweeps-sides;
         exact-is = w.exact-is ∙ ap (λ (y : Bool). if_done x y false) exact-sides;
       }
 
 -- two with the same parts are the same
-pub cut-counted-one : (r q : CutCounted) → r.answer ≡ q.answer → r.count ≡ q.count → r.sweeps ≡ q.sweeps → r.exact ≡ q.exact → r ≡ q
-cut-counted-one r q e f g h = rw (← e, ← f, ← g, ← h)
+pub cut-counted-one : (r q : Result CutCounted Refusal) → paper r ≡ paper q → (given no_cut r).count ≡ (given no_cut q).count
+    → (given no_cut r).sweeps ≡ (given no_cut q).sweeps → (given no_cut r).exact ≡ (given no_cut q).exact → r ≡ q
+cut-counted-one r q e f g h = result-one r q e (λ x y a b. same x y (rw (a, b) at f) (rw (a, b) at g) (rw (a, b) at h))
+  where
+    same : (x y : CutCounted) → x.count ≡ y.count → x.sweeps ≡ y.sweeps → x.exact ≡ y.exact → x ≡ y
+    same x y f g h = rw (← f, ← g, ← h)
 
 -- ---- the turned pairs
 

@@ -1,6 +1,7 @@
 -- The Schmidt values of a cut: the singular values of the cut matrix, 9 where one is not finite, then the finish. Definitions only.
-use Rattle.std.specs.Prelude.{◌≡◌, Bool, false, not, ◌&&◌, List, ℕ, ◌+◌, ◌-◌, ◌*◌, ◌^◌, ◌≤◌, ◌<◌, ltb, eqb, length, Float}
-use Rattle.answers.specs.Paper.{Reply, paper, done, refuse, and_then, if_done, if_worked, at_end}
+use Rattle.std.specs.Prelude.{◌≡◌, Result, Bool, false, not, ◌&&◌, List, ℕ, ◌+◌, ◌-◌, ◌*◌, ◌^◌, ◌≤◌, ◌<◌, ltb, eqb, length, Float}
+use Rattle.answers.specs.declared.Refusal.{Refusal}
+use Rattle.answers.specs.Paper.{Reply, paper, given, done, refuse, and_then, if_done, if_worked, at_end}
 use Rattle.complex.specs.Cells.{cells_of, components}
 use Rattle.complex.specs.Zeros.{zeros, zeroed}
 use Rattle.cut_sides.specs.declared.Sides.{Sides}
@@ -10,8 +11,10 @@ use Rattle.svd_columns.specs.Columns.{norms_of, norms_exact}
 use Rattle.values.specs.Lists.{all_finite}
 use Rattle.finish.specs.declared.Finished.{Finished}
 use Rattle.finish.specs.Finish.{finish_of, finish_exact, finish_reply, padded}
+use Rattle.finish.specs.Outcome.{no_finish}
 use Rattle.svd_thin.specs.Thin.{swept}
 use Rattle.sweeps.specs.declared.Sweeps.{Sweeps}
+use Rattle.sweeps.specs.Sweeping.{no_sweeps}
 use Rattle.cut_values.specs.declared.CutCounted.{CutCounted}
 use Rattle.factored.specs.Factored.{kept_sweeps}
 use Rattle.svd.specs.Svd.{rows_of, side_of, work_of, s_of, svd_sweeps}
@@ -66,14 +69,18 @@ values_reply values = refuse (not (all_finite values)) (9, 0) (finish_reply valu
 unfoldable pub cut_values_answer : List Float → ℕ → List ℕ → ℕ → ℕ → ℕ → Reply
 cut_values_answer s n l cap out scratch = and_then (cut_values_tests s n l cap out scratch) (values_reply (singular_values s n l))
 
+-- of a refusal: no value, no sweep, and the mark is no
+abbrev pub no_cut : CutCounted
+no_cut = record { count = 0; sweeps = no_sweeps; exact = false }
+
 -- the answer, the count, the sweeps, the mark, and what out and scratch hold at the end
-pub record Schmidt (s : List Float) (n : ℕ) (l : List ℕ) (cap : ℕ) (out scratch : List Float) (r : CutCounted) (out' scratch' : List Float) : Type 0 where
-  pub answer : paper r.answer ≡ cut_values_answer s n l cap (length out) (length scratch)
-  pub count : r.count ≡ if_done (paper r.answer).0 (length (finish_of (singular_values s n l))) 0
-  pub out-is : out' ≡ at_end (paper r.answer).0 (padded (cut_rows n l) (finish_of (singular_values s n l)) out) (zeroed (cut_rows n l) out) out
-  pub scratch-is : scratch' ≡ if_worked (paper r.answer).0 (zeroed (cut_values_scratch n (cut_rows n l)) scratch) scratch
-  pub sweeps-are : r.sweeps ≡ kept_sweeps r.answer (cut_sweeps s n l)
-  pub exact-is : r.exact ≡ if_done (paper r.answer).0 (cut_exact s n l) false
+pub record Schmidt (s : List Float) (n : ℕ) (l : List ℕ) (cap : ℕ) (out scratch : List Float) (r : Result CutCounted Refusal) (out' scratch' : List Float) : Type 0 where
+  pub answer : paper r ≡ cut_values_answer s n l cap (length out) (length scratch)
+  pub count : (given no_cut r).count ≡ if_done (paper r).0 (length (finish_of (singular_values s n l))) 0
+  pub out-is : out' ≡ at_end (paper r).0 (padded (cut_rows n l) (finish_of (singular_values s n l)) out) (zeroed (cut_rows n l) out) out
+  pub scratch-is : scratch' ≡ if_worked (paper r).0 (zeroed (cut_values_scratch n (cut_rows n l)) scratch) scratch
+  pub sweeps-are : (given no_cut r).sweeps ≡ kept_sweeps r (cut_sweeps s n l)
+  pub exact-is : (given no_cut r).exact ≡ if_done (paper r).0 (cut_exact s n l) false
 
 -- ---- the steps, over the sides of an accepted cut
 
@@ -111,26 +118,26 @@ pub record CutValuesSettled (s : List Float) (n : ℕ) (z : Sides) (work : List 
   pub sweeps : r ≡ sweeps_of s n z
 
 -- the values finished, or 9
-pub record CutValuesFinished (values old : List Float) (r : Finished) (end : List Float) : Type 0 where
-  pub answer : paper r.answer ≡ values_reply values
-  pub count : r.count ≡ if_done (paper r.answer).0 (length (finish_of values)) 0
-  pub out-is : end ≡ if_done (paper r.answer).0 (padded (length values) (finish_of values) old) (zeroed (length values) old)
-  pub exact-is : r.exact ≡ if_done (paper r.answer).0 (finish_exact values) false
+pub record CutValuesFinished (values old : List Float) (r : Result Finished Refusal) (end : List Float) : Type 0 where
+  pub answer : paper r ≡ values_reply values
+  pub count : (given no_finish r).count ≡ if_done (paper r).0 (length (finish_of values)) 0
+  pub out-is : end ≡ if_done (paper r).0 (padded (length values) (finish_of values) old) (zeroed (length values) old)
+  pub exact-is : (given no_finish r).exact ≡ if_done (paper r).0 (finish_exact values) false
 
-pub record CutValuesMade (s : List Float) (n : ℕ) (z : Sides) (old : List Float) (r : CutCounted) (out : List Float) : Type 0 where
-  pub answer : paper r.answer ≡ values_reply (singular_of s n z)
-  pub count : r.count ≡ if_done (paper r.answer).0 (length (finish_of (singular_of s n z))) 0
-  pub out-is : out ≡ if_done (paper r.answer).0 (padded z.rows (finish_of (singular_of s n z)) old) (zeroed z.rows old)
-  pub sweeps-are : r.sweeps ≡ kept_sweeps r.answer (sweeps_of s n z)
-  pub exact-is : r.exact ≡ if_done (paper r.answer).0 (columns_exact_of s n z && finish_exact (singular_of s n z)) false
+pub record CutValuesMade (s : List Float) (n : ℕ) (z : Sides) (old : List Float) (r : Result CutCounted Refusal) (out : List Float) : Type 0 where
+  pub answer : paper r ≡ values_reply (singular_of s n z)
+  pub count : (given no_cut r).count ≡ if_done (paper r).0 (length (finish_of (singular_of s n z))) 0
+  pub out-is : out ≡ if_done (paper r).0 (padded z.rows (finish_of (singular_of s n z)) old) (zeroed z.rows old)
+  pub sweeps-are : (given no_cut r).sweeps ≡ kept_sweeps r (sweeps_of s n z)
+  pub exact-is : (given no_cut r).exact ≡ if_done (paper r).0 (columns_exact_of s n z && finish_exact (singular_of s n z)) false
 
-pub record CutValuesWorked (s : List Float) (n : ℕ) (z : Sides) (old : List Float) (r : CutCounted) (out scratch : List Float) : Type 0 where
-  pub answer : paper r.answer ≡ values_reply (singular_of s n z)
-  pub count : r.count ≡ if_done (paper r.answer).0 (length (finish_of (singular_of s n z))) 0
-  pub out-is : out ≡ if_done (paper r.answer).0 (padded z.rows (finish_of (singular_of s n z)) old) (zeroed z.rows old)
+pub record CutValuesWorked (s : List Float) (n : ℕ) (z : Sides) (old : List Float) (r : Result CutCounted Refusal) (out scratch : List Float) : Type 0 where
+  pub answer : paper r ≡ values_reply (singular_of s n z)
+  pub count : (given no_cut r).count ≡ if_done (paper r).0 (length (finish_of (singular_of s n z))) 0
+  pub out-is : out ≡ if_done (paper r).0 (padded z.rows (finish_of (singular_of s n z)) old) (zeroed z.rows old)
   pub scratch-is : scratch ≡ zeros (cut_values_scratch n z.rows)
-  pub sweeps-are : r.sweeps ≡ kept_sweeps r.answer (sweeps_of s n z)
-  pub exact-is : r.exact ≡ if_done (paper r.answer).0 (columns_exact_of s n z && finish_exact (singular_of s n z)) false
+  pub sweeps-are : (given no_cut r).sweeps ≡ kept_sweeps r (sweeps_of s n z)
+  pub exact-is : (given no_cut r).exact ≡ if_done (paper r).0 (columns_exact_of s n z && finish_exact (singular_of s n z)) false
 
 -- ---- the call over the sides of an accepted cut, which 1 to 5 do not refuse
 
@@ -138,10 +145,10 @@ pub record CutValuesWorked (s : List Float) (n : ℕ) (z : Sides) (old : List Fl
 unfoldable pub over_answer : List Float → ℕ → Sides → ℕ → ℕ → Reply
 over_answer s n z out scratch = and_then (cut_values_rest s n z.rows out scratch) (values_reply (singular_of s n z))
 
-pub record SchmidtOver (s : List Float) (n : ℕ) (z : Sides) (out scratch : List Float) (r : CutCounted) (out' scratch' : List Float) : Type 0 where
-  pub answer : paper r.answer ≡ over_answer s n z (length out) (length scratch)
-  pub count : r.count ≡ if_done (paper r.answer).0 (length (finish_of (singular_of s n z))) 0
-  pub out-is : out' ≡ at_end (paper r.answer).0 (padded z.rows (finish_of (singular_of s n z)) out) (zeroed z.rows out) out
-  pub scratch-is : scratch' ≡ if_worked (paper r.answer).0 (zeroed (cut_values_scratch n z.rows) scratch) scratch
-  pub sweeps-are : r.sweeps ≡ kept_sweeps r.answer (sweeps_of s n z)
-  pub exact-is : r.exact ≡ if_done (paper r.answer).0 (columns_exact_of s n z && finish_exact (singular_of s n z)) false
+pub record SchmidtOver (s : List Float) (n : ℕ) (z : Sides) (out scratch : List Float) (r : Result CutCounted Refusal) (out' scratch' : List Float) : Type 0 where
+  pub answer : paper r ≡ over_answer s n z (length out) (length scratch)
+  pub count : (given no_cut r).count ≡ if_done (paper r).0 (length (finish_of (singular_of s n z))) 0
+  pub out-is : out' ≡ at_end (paper r).0 (padded z.rows (finish_of (singular_of s n z)) out) (zeroed z.rows out) out
+  pub scratch-is : scratch' ≡ if_worked (paper r).0 (zeroed (cut_values_scratch n z.rows) scratch) scratch
+  pub sweeps-are : (given no_cut r).sweeps ≡ kept_sweeps r (sweeps_of s n z)
+  pub exact-is : (given no_cut r).exact ≡ if_done (paper r).0 (columns_exact_of s n z && finish_exact (singular_of s n z)) false

@@ -1,9 +1,8 @@
 // The Schmidt values of a cut of a state: the singular values of its cut matrix, and then the finish.
 #![tactic(auto)]
 
-ghost use Rattle.std.specs.Prelude.{◌≡◌, false, [], ◌+◌, ◌*◌, ◌^◌, ◌≤◌, length};
+ghost use Rattle.std.specs.Prelude.{◌≡◌, [], ◌+◌, ◌*◌, ◌^◌, ◌≤◌, length};
 ghost use Rattle.answers.specs.Paper.{paper};
-ghost use Rattle.sweeps.specs.Sweeping.{no_sweeps};
 ghost use Rattle.sweeps.specs.Sweeping as sweeping;
 ghost use Rattle.svd_pair.specs.Plain.{making};
 ghost use Rattle.svd_sweeps.specs.Sweeping.{settled_with};
@@ -11,7 +10,7 @@ ghost use Rattle.svd.specs.Svd.{work_of};
 ghost use Rattle.cut_sides.specs.Sides.{Sided};
 ghost use Rattle.cut_values.specs.Schmidt.{cut_values_lengths, cut_values_rest, norms_after, singular_of, sweeps_of, columns_exact_of, CutValuesSized, sides_matrix, CutValuesSettled, CutValuesFinished, CutValuesMade, CutValuesWorked, Schmidt, SchmidtOver};
 
-use answers::Answer;
+use answers::Refusal;
 use cut_sides::Sides;
 use finish::Finished;
 use sweeps::Sweeps;
@@ -19,11 +18,9 @@ use sweeps::Sweeps;
 // From this many rows on the plain sweeps gain more than the test of what they leave costs.
 const FEWEST: usize = 8;
 
-// The answer, how many values were kept, the sweeps, and whether every root of a column's norm and the root of the final scale
-// came out even.
+// How many values were kept, the sweeps, and whether every root of a column's norm and the root of the final scale came out even.
 #[derive(Clone, Copy)]
 pub struct CutCounted {
-    pub answer: Answer,
     pub count: usize,
     pub sweeps: Sweeps,
     pub exact: bool,
@@ -37,32 +34,37 @@ pub struct SweptNorms {
 }
 
 // The first slice of a wrong length, or too short: 6.
-fn check_lengths(n: usize, rows: usize, state: usize, out: usize, scratch: usize) -> Answer
+#[tactic(auto, unfolding(crate::specs::Schmidt::cut_values_lengths))]
+fn check_lengths(
+    n: usize,
+    rows: usize,
+    state: usize,
+    out: usize,
+    scratch: usize,
+) -> Result<(), Refusal>
     requires { (n ≤ 12) × (rows ≤ 64) }
     ensures { paper result ≡ cut_values_lengths n rows state out scratch }
 {
     let cells = submasks::bit(n);
     if state != 2 * cells {
-        return Answer::Length(0);
+        return Err(Refusal::Length(0));
     }
     if out < rows {
-        return Answer::Length(2);
+        return Err(Refusal::Length(2));
     }
     if scratch < 8 * cells + 2 * rows {
-        return Answer::Length(3);
+        return Err(Refusal::Length(3));
     }
-    Answer::Done
+    Ok(())
 }
 
 // What a cut can be refused by once its sides are known: 6 and 7.
-fn check(state: &[f64], n: usize, rows: usize, out: usize, scratch: usize) -> Answer
+#[tactic(auto, unfolding(crate::specs::Schmidt::cut_values_rest))]
+fn check(state: &[f64], n: usize, rows: usize, out: usize, scratch: usize) -> Result<(), Refusal>
     requires { (n ≤ 12) × (rows ≤ 64) }
     ensures { paper result ≡ cut_values_rest state.now n rows out scratch }
 {
-    let first = check_lengths(n, rows, state.len(), out, scratch);
-    let Answer::Done = first else {
-        return first;
-    };
+    check_lengths(n, rows, state.len(), out, scratch)?;
     components::check_components(state)
 }
 
@@ -124,7 +126,7 @@ pub fn singular_values(
 }
 
 // 9 where a singular value is not finite, before any floor is taken; else the finish decides.
-fn finish_finite(values: &[f64], out: &mut [f64]) -> Finished
+fn finish_finite(values: &[f64], out: &mut [f64]) -> Result<Finished, Refusal>
     requires { length values.now ≤ length out.old }
     ensures { CutValuesFinished values.now out.old result out.new }
 {
@@ -132,11 +134,7 @@ fn finish_finite(values: &[f64], out: &mut [f64]) -> Finished
         return finish::finish_marked(values, out);
     }
     complex::zero_first(out, values.len());
-    Finished {
-        answer: Answer::NotFinite,
-        count: 0,
-        exact: false,
-    }
+    Err(Refusal::NotFinite)
 }
 
 // Inner: the work of an accepted call, which leaves scratch as it comes: 0, 8 or 9.
@@ -146,48 +144,35 @@ pub fn values_made(
     cut: Sides,
     out: &mut [f64],
     scratch: &mut [f64],
-) -> CutCounted
+) -> Result<CutCounted, Refusal>
     requires { CutValuesSized n cut state.now × (cut.rows ≤ length out.old) × (2 * 2 ^ n ≤ length scratch.old) }
     ensures { CutValuesMade state.now n cut out.old result out.new }
 {
     let rows = cut.rows;
     let mut values = [0.0f64; 64];
     let swept = singular_values(state, n, cut, &mut values[..rows], scratch);
-    let kept = finish_finite(&values[..rows], out);
-    let exact = swept.exact & kept.exact;
-    let answer = kept.answer;
-    let begun = swept.sweeps;
-    let counted = factored::answered_count(answer, kept.count, begun);
-    let sweeps = counted.sweeps;
-    CutCounted {
-        answer,
-        count: counted.count,
-        sweeps,
-        exact,
-    }
+    let kept = finish_finite(&values[..rows], out)?;
+    Ok(CutCounted {
+        count: kept.count,
+        sweeps: swept.sweeps,
+        exact: swept.exact & kept.exact,
+    })
 }
 
 // The same over scratch of exactly the needed length, which is zeroed.
-fn work(state: &[f64], n: usize, cut: Sides, out: &mut [f64], scratch: &mut [f64]) -> CutCounted
+fn work(
+    state: &[f64],
+    n: usize,
+    cut: Sides,
+    out: &mut [f64],
+    scratch: &mut [f64],
+) -> Result<CutCounted, Refusal>
     requires { CutValuesSized n cut state.now × (cut.rows ≤ length out.old) × (length scratch.old ≡ 8 * 2 ^ n + 2 * cut.rows) }
     ensures { CutValuesWorked state.now n cut out.old result out.new scratch.new }
 {
     let made = values_made(state, n, cut, out, scratch);
     complex::zero_first(scratch, scratch.len());
     made
-}
-
-// Inner: a refusal before the work: no value, no sweep, and the mark is no.
-pub fn refused(answer: Answer) -> CutCounted
-    ensures { (result.answer ≡ answer) × (result.count ≡ 0) × (result.sweeps ≡ no_sweeps) × (result.exact ≡ false) }
-{
-    let none = sweeps::none();
-    CutCounted {
-        answer,
-        count: 0,
-        sweeps: none,
-        exact: false,
-    }
 }
 
 // Inner: the values over the sides of an accepted cut, from a list or kept in a plan: 6 and 7, then 0, 8 or 9 by the work on the needed
@@ -198,14 +183,11 @@ pub fn values_over(
     cut: Sides,
     out: &mut [f64],
     scratch: &mut [f64],
-) -> CutCounted
+) -> Result<CutCounted, Refusal>
     requires { Sided n cut }
     ensures { SchmidtOver state.now n cut out.old scratch.old result out.new scratch.new }
 {
-    let first = check(state, n, cut.rows, out.len(), scratch.len());
-    let Answer::Done = first else {
-        return refused(first);
-    };
+    check(state, n, cut.rows, out.len(), scratch.len())?;
     let need = 8 * submasks::bit(n) + 2 * cut.rows;
     work(state, n, cut, out, &mut scratch[..need])
 }
@@ -218,14 +200,11 @@ pub fn dense_schmidt_values(
     cap: usize,
     out: &mut [f64],
     scratch: &mut [f64],
-) -> CutCounted
+) -> Result<CutCounted, Refusal>
     ensures { Schmidt state.now n list.now cap out.old scratch.old result
         out.new scratch.new }
 {
-    let first = cut_sides::cut_refusal(list, n, cap);
-    let Answer::Done = first else {
-        return refused(first);
-    };
+    cut_sides::cut_refusal(list, n, cap)?;
     let cut = cut_sides::sides_of(list, n);
     values_over(state, n, cut, out, scratch)
 }

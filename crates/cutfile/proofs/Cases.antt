@@ -4,7 +4,7 @@ use mathlib.Core.List.{List, [], ◌∷◌, ◌++◌}
 use Prim.Native.Nat.{ℕ}
 use lib.ListN.{replicate}
 use Rattle.answers.specs.Paper.{Reply}
-use Rattle.cutfile.specs.Bytes.{word32, begins, all_zero}
+use Rattle.cutfile.specs.Bytes.{word32}
 use Rattle.cutfile.specs.Layout.{mark, size_answer, file_offsets_answer, length_answer, fields_answer, header_answer}
 
 u32 : ℕ → List ℕ
@@ -32,5 +32,5 @@ cases =
     ∷ []
 
 pub cases-are : cases ≡ (10, 0) ∷ (10, 0) ∷ (1, 0) ∷ (1, 0) ∷ (1, 0) ∷ (10, 0) ∷ (0, 0) ∷ (0, 0) ∷ (10, 0) ∷ (10, 0) ∷ []
-unfolding cases header_answer fields_answer size_answer file_offsets_answer length_answer word32 begins all_zero header u32 nought
+unfolding cases header_answer fields_answer size_answer file_offsets_answer length_answer word32 header u32 nought
 cases-are = refl

@@ -1,20 +1,20 @@
 -- Laws of the cut file's layout. Assumes nothing.
-use mathlib.Core.Path.{◌≡◌, sym, ap, ap₂, ◌∙◌}
+use mathlib.Core.Path.{◌≡◌, sym, ap, ◌∙◌}
 use mathlib.Core.Bool.{true, false, not}
 use Prim.Native.Nat.{ℕ, ◌+◌, ◌*◌, ◌/◌, ◌%◌, ◌^◌, ◌≤◌, ◌<◌}
-use borrow.Author.Tests.{lt-ltb, le-ltb, eq-eqb, ne_eqb, ltb-false, eqb-true, not-false}
+use borrow.Author.Tests.{lt-ltb, le-ltb, ltb-false, eqb-true, not-false}
 use lib.Dec.{T, eqb, ltb}
 use lib.Pow.{pow_mono}
-use lib.Ieee.{Float, inf, binary64, of_bits, nan_bits}
+use lib.Ieee.{Float, binary64, of_bits, nan_bits}
 use lib.Ieee.Bits.{nan_bits_above}
 use lib.ListN.{length}
 use mathlib.Core.List.{List}
 use native.Mathlib.Omega.{arith}
-use Rattle.answers.specs.declared.Answer.{Answer}
-use Rattle.answers.specs.declared.Answer.TheVariants.{Done}
-use Rattle.answers.specs.Paper.{Reply, paper, done, if_done}
+use Rattle.answers.specs.declared.Refusal.{Refusal}
+use Rattle.answers.specs.Paper.{Reply, table, done, if_done}
+use Rattle.answers.proofs.Stopped.{stopped-number}
 use Rattle.answers.proofs.PaperLaws.{refuse-done, and_then-done, done-new, done-old}
-use Rattle.cutfile.specs.declared.Header.{Header}
+use Rattle.std.specs.Prelude.{Ok, Err}
 use Rattle.cutfile.specs.Bytes.{word32, begins}
 use Rattle.cutfile.specs.Layout.{mark, file_length, size_answer, file_offsets_answer, length_answer, fields_answer, header_answer, Header·is, LongEnough, bits_at, component, component_at}
 
@@ -31,58 +31,24 @@ not-nan b h = nan_bits_above binary64 b ∙ le-ltb _ _ h
 pub no_nan : (b : ℕ) → b % 0x8000_0000_0000_0000 ≤ 0x7ff0_0000_0000_0000 → T (not (nan_bits binary64 b))
 no_nan b h = rw (not-nan b h) tt
 
-pub component-nan : (b : ℕ) → 0x7ff0_0000_0000_0000 < b % 0x8000_0000_0000_0000 → inf false ≡ component b
+pub component_nan : (b : ℕ) → 0x7ff0_0000_0000_0000 < b % 0x8000_0000_0000_0000 → of_bits binary64 0x7ff0_0000_0000_0000 ≡ component b
+unfolding of_bits component
+component_nan b h = rw (is-nan b h)
+
+pub component_else : (b : ℕ) → b % 0x8000_0000_0000_0000 ≤ 0x7ff0_0000_0000_0000 → of_bits binary64 b ≡ component b
 unfolding component
-component-nan b h = rw (is-nan b h)
+component_else b h = rw (not-nan b h)
 
-pub component-else : (b : ℕ) → b % 0x8000_0000_0000_0000 ≤ 0x7ff0_0000_0000_0000 → of_bits binary64 b ≡ component b
-unfolding component
-component-else b h = rw (not-nan b h)
+-- what is answered at a refusal, and where nothing is refused
+pub refusal : (file : List ℕ) (e : Refusal) → table e ≡ header_answer file → Header·is file (Err e)
+refusal file e h =
+    let nought : (x : ℕ) → 0 ≡ if_done (header_answer file).0 x 0 = λ x. done-old _ x 0 (λ g. stopped-number e (ap (λ (y : Reply). y.0) h ∙ g)) in
+    record { answer-is = h; n-is = nought (word32 file 4); k-is = nought (word32 file 8) }
 
--- a number x that was read as a, against b
-pub differs : {x a b : ℕ} → x ≡ a → (x ≡ b → ⊥) → not (eqb a b) ≡ true
-differs e h = ap not (ne_eqb _ _ (λ g. h (e ∙ g)))
-
-pub agrees : {x a b : ℕ} → x ≡ a → x ≡ b → not (eqb a b) ≡ false
-agrees e h = ap not (eq-eqb _ _ (sym e ∙ h))
-
--- the same where b too was worked out, as y
-pub differs-too : {x y a b : ℕ} → x ≡ a → y ≡ b → (x ≡ y → ⊥) → not (eqb a b) ≡ true
-differs-too e f h = differs e (λ g. h (g ∙ sym f))
-
-pub agrees-too : {x y a b : ℕ} → x ≡ a → y ≡ b → x ≡ y → not (eqb a b) ≡ false
-agrees-too e f h = agrees e (h ∙ f)
-
--- the header's answer, way by way
-pub header-short : (file : List ℕ) → length file < 24 → (10, 0) ≡ header_answer file
-unfolding header_answer
-header-short file h = rw (lt-ltb _ _ h)
-
-pub header-mark : (file : List ℕ) → 24 ≤ length file → begins mark file ≡ false → (10, 0) ≡ header_answer file
-unfolding header_answer
-header-mark file h e = rw (le-ltb _ _ h, e)
-
-header-fields : (file : List ℕ) → 24 ≤ length file → begins mark file ≡ true → fields_answer (word32 file 4) (word32 file 8) file ≡ header_answer file
-unfolding header_answer
-header-fields file h e = rw (le-ltb _ _ h, e)
-
--- the two fields were read, and the rest was answered x
-pub header_is : (file : List ℕ) (n k : ℕ) (x : Reply) → 24 ≤ length file → begins mark file ≡ true → n ≡ word32 file 4 → k ≡ word32 file 8
-    → x ≡ fields_answer n k file → x ≡ header_answer file
-header_is file n k x h b p q e = e ∙ ap₂ (λ (n k : ℕ). fields_answer n k file) p q ∙ header-fields file h b
-
--- what is handed back at a refusal, and where the answer is 0
-pub refusal : (file : List ℕ) (r : Header) (a : Answer) → paper a ≡ header_answer file → ((paper a).0 ≡ 0 → ⊥)
-    → (r.answer ≡ a) × (r.n ≡ 0) × (r.k ≡ 0) → Header·is file r
-refusal file r a e h p =
-    let nought : (x : ℕ) → 0 ≡ if_done (header_answer file).0 x 0 = λ x. done-old _ x 0 (λ g. h (ap (λ (y : Reply). y.0) e ∙ g)) in
-    record { answer-is = ap paper p.0 ∙ e; n-is = p.1 ∙ nought (word32 file 4); k-is = p.2 ∙ nought (word32 file 8) }
-
-pub acceptance : (file : List ℕ) (r : Header) → r.answer ≡ Done → done ≡ header_answer file
-    → r.n ≡ word32 file 4 → r.k ≡ word32 file 8 → Header·is file r
-acceptance file r d e p q =
+pub acceptance : (file : List ℕ) (n k : ℕ) → done ≡ header_answer file → n ≡ word32 file 4 → k ≡ word32 file 8 → Header·is file (Ok (record { n = n; k = k }))
+acceptance file n k e p q =
     let kept : (x : ℕ) → x ≡ if_done (header_answer file).0 x 0 = λ x. done-new _ x 0 (sym (ap (λ (y : Reply). y.0) e)) in
-    record { answer-is = ap paper d ∙ e; n-is = p ∙ kept (word32 file 4); k-is = q ∙ kept (word32 file 8) }
+    record { answer-is = e; n-is = p ∙ kept (word32 file 4); k-is = q ∙ kept (word32 file 8) }
 
 -- ---- what an answer 0 says
 

@@ -2,13 +2,14 @@
 -- which is not 0. So a reader with room for more than the longest valid file loses nothing. Assumes nothing.
 use mathlib.Core.Path.{◌≡◌, refl, ap, ap₂, sym, ◌∙◌}
 use mathlib.Core.Bool.{Bool, true, false, not}
-use mathlib.Core.List.{List, [], ◌∷◌}
-use Prim.Native.Nat.{ℕ, zero, suc, ◌+◌, ◌≤◌, ◌<◌}
+use mathlib.Core.List.{List}
+use Prim.Native.Nat.{ℕ, ◌+◌, ◌≤◌, ◌<◌}
 use native.Mathlib.Omega.{arith}
 use borrow.Author.Tests.{le-ltb, ltb-false, ne_eqb}
+use Rattle.std.specs.Cmp.Lexicographic.{pointwise}
 use lib.Dec.{eqb, ltb}
 use lib.ListN.{length, take}
-use lib.Seq.{get_or-take, length-take-le}
+use lib.Seq.{get_or-take, length-take-le, take-take}
 use Rattle.answers.specs.Paper.{Reply, refuse, and_then}
 use Rattle.cutfile.specs.Bytes.{word32, begins}
 use Rattle.cutfile.specs.Layout.{mark, amplitude_offset, file_length, size_answer, file_offsets_answer, length_answer, fields_answer, header_answer}
@@ -54,11 +55,7 @@ unfolding word32
 word-take m at file h = rw (get_or-take m file at 0 (omega arith), get_or-take m file (at + 1) 0 (omega arith), get_or-take m file (at + 2) 0 (omega arith), get_or-take m file (at + 3) 0 (omega arith))
 
 begins-take : (m : ℕ) (t file : List ℕ) → length t ≤ m → begins t (take m file) ≡ begins t file
-unfolding begins
-begins-take m [] file h = refl
-begins-take zero (x ∷ t) file h = absurd (omega arith)
-begins-take (suc m) (x ∷ t) [] h = refl
-begins-take (suc m) (x ∷ t) (b ∷ file) h = rw (begins-take m t file (omega arith))
+begins-take m t file h = ap (pointwise eqb t) (take-take (length t) m file h)
 
 -- the two last steps of an answer to a file that is too long
 long-answer : (file : List ℕ) → longest < length file → header_answer file ≡ refuse (not (begins mark file)) (10, 0) (and_then (size_answer (word32 file 4)) (10, 0))

@@ -1,8 +1,9 @@
 -- The cut file's layout: where its parts lie, and what its header is answered by. Assumes nothing.
-use Rattle.std.specs.Prelude.{◌≡◌, false, not, cond, List, [], ◌∷◌, ℕ, ◌+◌, ◌-◌, ◌*◌, ◌/◌, ◌^◌, ◌≤◌, eqb, ltb, Float, length, take, drop}
+use Rattle.std.specs.Prelude.{Result, ◌≡◌, false, not, cond, List, [], ◌∷◌, ℕ, ◌+◌, ◌-◌, ◌*◌, ◌/◌, ◌^◌, ◌≤◌, eqb, ltb, Float, length, take, drop}
 use Rattle.std.specs.Float.{inf, binary64}
 use Rattle.std.specs.Float.Ieee.{of_bits, nan_bits}
-use Rattle.answers.specs.Paper.{Reply, paper, refuse, and_then, done, if_done}
+use Rattle.answers.specs.declared.Refusal.{Refusal}
+use Rattle.answers.specs.Paper.{Reply, paper, given, refuse, and_then, done, if_done}
 use Rattle.cutfile.specs.declared.Header.{Header}
 use Rattle.cutfile.specs.Bytes.{word32, word64, begins, all_zero}
 
@@ -64,11 +65,15 @@ n_of file = if_done (header_answer file).0 (word32 file 4) 0
 abbrev pub k_of : List ℕ → ℕ
 k_of file = if_done (header_answer file).0 (word32 file 8) 0
 
--- what `check_header` hands back for every list of bytes
-pub record Header·is (file : List ℕ) (r : Header) : Type 0 where
-  pub answer-is : paper r.answer ≡ header_answer file
-  pub n-is : r.n ≡ n_of file
-  pub k-is : r.k ≡ k_of file
+-- what stands for the header of a file that is refused
+abbrev pub no_header : Header
+no_header = record { n = 0; k = 0 }
+
+-- what `check_header` answers for every list of bytes
+pub record Header·is (file : List ℕ) (r : Result Header Refusal) : Type 0 where
+  pub answer-is : paper r ≡ header_answer file
+  pub n-is : (given no_header r).n ≡ n_of file
+  pub k-is : (given no_header r).k ≡ k_of file
 
 -- the i-th entry of the list
 abbrev pub file_entry : List ℕ → ℕ → ℕ

@@ -4,46 +4,35 @@
 
 ghost use Rattle.std.specs.Prelude.{◌≡◌, ◌+◌, ◌*◌, ◌^◌, ◌<◌, ◌≤◌, length};
 ghost use Rattle.answers.specs.Paper.{paper};
-ghost use Rattle.cutfile.specs.Bytes.{word32, word64, begins, all_zero};
+ghost use Rattle.cutfile.specs.Bytes.{word32, word64, all_zero};
 ghost use Rattle.cutfile.specs.Layout.{amplitude_offset, file_length, gap, size_answer, file_offsets_answer, length_answer, fields_answer, Header·is, LongEnough, file_entry, bits_at, component};
 
-use answers::Answer;
+use answers::Refusal;
 pub use whole_numbers::bit;
 
-// What a header is answered by and, where that is 0, the register and how many qubits are listed; else noughts.
+// The register's size, and how many qubits are listed.
 #[derive(Clone, Copy)]
 pub struct Header {
-    pub answer: Answer,
     pub n: usize,
     pub k: usize,
 }
 
-fn wide(b: u8) -> u32
-    ensures { (result ≡ b) × (result < 256) }
-{
-    b as u32
-}
-
 // Inner: the number of four bytes, little-endian.
+#[tactic(auto, unfolding(crate::specs::Bytes::word32))]
 pub fn u32_at(file: &[u8], at: usize) -> u32
     requires { at + 4 ≤ length file.now }
     ensures { result ≡ word32 file.now at }
 {
-    let b0 = wide(file[at]);
-    let b1 = wide(file[at + 1]);
-    let b2 = wide(file[at + 2]);
-    let b3 = wide(file[at + 3]);
-    b0 + 256 * b1 + 65536 * b2 + 16777216 * b3
+    u32::from_le_bytes([file[at], file[at + 1], file[at + 2], file[at + 3]])
 }
 
 // Inner: the number of eight bytes, little-endian.
+#[tactic(auto, unfolding(crate::specs::Bytes::word64))]
 pub fn u64_at(file: &[u8], at: usize) -> u64
     requires { at + 8 ≤ length file.now }
     ensures { result ≡ word64 file.now at }
 {
-    let low = u32_at(file, at) as u64;
-    let high = u32_at(file, at + 4) as u64;
-    low + 4294967296 * high
+    u64::from(u32_at(file, at)) + 4294967296 * u64::from(u32_at(file, at + 4))
 }
 
 // A field of the header.
@@ -54,35 +43,6 @@ fn field(file: &[u8], at: usize) -> usize
     u32_at(file, at) as usize
 }
 
-// Whether the file begins with the bytes of mark.
-fn begins_with(file: &[u8], mark: &[u8]) -> bool
-    requires { length mark.now ≤ length file.now }
-    ensures { result ≡ begins mark.now file.now }
-{
-    let mut i = 0;
-    while i < mark.len() {
-        if file[i] != mark[i] {
-            return false;
-        }
-        i += 1;
-    }
-    true
-}
-
-// Whether every byte is zero.
-fn all_zero(s: &[u8]) -> bool
-    ensures { result ≡ all_zero s.now }
-{
-    let mut i = 0;
-    while i < s.len() {
-        if s[i] != 0 {
-            return false;
-        }
-        i += 1;
-    }
-    true
-}
-
 // Where the amplitudes begin: past the list, at a multiple of 8.
 fn amplitude_offset(k: usize) -> usize
     requires { k ≤ 64 }
@@ -91,6 +51,7 @@ fn amplitude_offset(k: usize) -> usize
     (24 + 4 * k + 7) / 8 * 8
 }
 
+#[tactic(auto, using(crate::proofs::LayoutLaws::small_power))]
 fn file_length(n: usize, k: usize) -> usize
     requires { (n ≤ 9) × (k ≤ 64) }
     ensures { result ≡ file_length n k }
@@ -103,104 +64,73 @@ fn gap_clear(file: &[u8], k: usize) -> bool
     requires { (k ≤ 64) × (amplitude_offset k ≤ length file.now) }
     ensures { result ≡ all_zero (gap k file.now) }
 {
-    let from = 24 + 4 * k;
-    let to = amplitude_offset(k);
-    all_zero(&file[from..to])
+    file[24 + 4 * k..amplitude_offset(k)]
+        .iter()
+        .all(|b| *b == 0)
 }
 
 // The register: 1 unless it has 1 to 9 qubits.
-fn answer_size(n: usize) -> Answer
+#[tactic(auto, unfolding(crate::specs::Layout::size_answer))]
+fn answer_size(n: usize) -> Result<(), Refusal>
     ensures { paper result ≡ size_answer n }
 {
-    if n < 1 {
-        return Answer::Size;
+    if n < 1 || 9 < n {
+        Err(Refusal::Size)
+    } else {
+        Ok(())
     }
-    if 9 < n {
-        return Answer::Size;
-    }
-    Answer::Done
 }
 
 // The list's length and the two offsets.
-fn answer_offsets(file: &[u8], k: usize) -> Answer
+#[tactic(auto, unfolding(crate::specs::Layout::file_offsets_answer))]
+fn answer_offsets(file: &[u8], k: usize) -> Result<(), Refusal>
     requires { 24 ≤ length file.now }
     ensures { paper result ≡ file_offsets_answer k file.now }
 {
-    if 64 < k {
-        return Answer::Malformed;
+    if k <= 64 && field(file, 12) == 24 && field(file, 16) == amplitude_offset(k) {
+        Ok(())
+    } else {
+        Err(Refusal::Malformed)
     }
-    if field(file, 12) != 24 {
-        return Answer::Malformed;
-    }
-    if field(file, 16) != amplitude_offset(k) {
-        return Answer::Malformed;
-    }
-    Answer::Done
 }
 
 // The length, as the header has it and as it is, and the gap.
-fn answer_length(file: &[u8], n: usize, k: usize) -> Answer
+#[tactic(auto, unfolding(crate::specs::Layout::length_answer))]
+fn answer_length(file: &[u8], n: usize, k: usize) -> Result<(), Refusal>
     requires { (24 ≤ length file.now) × (n ≤ 9) × (k ≤ 64) }
     ensures { paper result ≡ length_answer n k file.now }
 {
     let length = file_length(n, k);
-    if field(file, 20) != length {
-        return Answer::Malformed;
-    }
-    if file.len() != length {
-        return Answer::Malformed;
-    }
-    if gap_clear(file, k) {
-        Answer::Done
+    if field(file, 20) == length && file.len() == length && gap_clear(file, k) {
+        Ok(())
     } else {
-        Answer::Malformed
+        Err(Refusal::Malformed)
     }
 }
 
 // The fields past the mark: n first, by 1; any other misfit is 10.
-fn answer_fields(file: &[u8], n: usize, k: usize) -> Answer
+#[tactic(auto, unfolding(crate::specs::Layout::fields_answer))]
+fn answer_fields(file: &[u8], n: usize, k: usize) -> Result<(), Refusal>
     requires { 24 ≤ length file.now }
     ensures { paper result ≡ fields_answer n k file.now }
 {
-    let size = answer_size(n);
-    let Answer::Done = size else {
-        return size;
-    };
-    let offsets = answer_offsets(file, k);
-    let Answer::Done = offsets else {
-        return offsets;
-    };
+    answer_size(n)?;
+    answer_offsets(file, k)?;
     answer_length(file, n, k)
 }
 
-fn refused(answer: Answer) -> Header
-    ensures { (result.answer ≡ answer) × (result.n ≡ 0) × (result.k ≡ 0) }
-{
-    Header { answer, n: 0, k: 0 }
-}
-
-// What a file's header is answered by: 10 under 24 bytes or at a wrong mark, 1 by n, 10 at any other misfit.
-pub fn check_header(file: &[u8]) -> Header
+// A file's header, or what it is refused by: 10 under 24 bytes or at a wrong mark, 1 by n, 10 at any other misfit.
+#[tactic(auto, using(crate::proofs::LayoutLaws::refusal, crate::proofs::LayoutLaws::acceptance), unfolding(crate::specs::Layout::header_answer))]
+pub fn check_header(file: &[u8]) -> Result<Header, Refusal>
     ensures { Header·is file.now result }
 {
-    if file.len() < 24 {
-        return refused(Answer::Malformed);
+    if file.len() < 24 || !file.starts_with(b"CUT1") {
+        return Err(Refusal::Malformed);
     }
-    if begins_with(file, b"CUT1") {
-        let n = field(file, 4);
-        let k = field(file, 8);
-        let answer = answer_fields(file, n, k);
-        let Answer::Done = answer else {
-            return refused(answer);
-        };
-        Header {
-            answer: Answer::Done,
-            n,
-            k,
-        }
-    } else {
-        refused(Answer::Malformed)
-    }
+    let n = field(file, 4);
+    let k = field(file, 8);
+    answer_fields(file, n, k)?;
+    Ok(Header { n, k })
 }
 
 // Inner: the i-th entry of the list.
@@ -221,12 +151,13 @@ pub fn amplitude_at(file: &[u8], n: usize, k: usize, i: usize, part: usize) -> u
 
 // The number of a bit pattern, with +infinity for a NaN's: `f64::from_bits` is undefined there, and the library refuses
 // either by 7 at the same cell.
+#[tactic(auto, using(crate::proofs::LayoutLaws::no_nan, crate::proofs::LayoutLaws::component_nan, crate::proofs::LayoutLaws::component_else))]
 pub fn component_of(bits: u64) -> f64
     ensures { result ≡ component bits }
 {
     let digits = bits % 0x8000_0000_0000_0000;
     if 0x7ff0_0000_0000_0000 < digits {
-        return f64::from_bits(0x7ff0_0000_0000_0000);
+        return f64::INFINITY;
     }
     f64::from_bits(bits)
 }

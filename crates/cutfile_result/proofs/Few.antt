@@ -2,14 +2,14 @@
 use mathlib.Core.Path.{◌≡◌, sym, ap₂, ◌∙◌}
 use mathlib.Core.Bool.{false}
 use mathlib.Core.List.{List, ◌++◌}
-use Prim.Native.Nat.{ℕ, zero, suc, ◌-◌, ◌≤◌}
+use Prim.Native.Nat.{ℕ, ◌-◌, ◌≤◌}
 use native.Mathlib.Nat.{min-le_left, min-le_right}
 use native.Mathlib.Omega.{arith}
 use lib.Ieee.{Float}
 use lib.ListN.{length, take, drop, length-append}
 use lib.Pow.{pow_mono}
 use lib.Seq.{take-append-le, take-append_seam}
-use Rattle.answers.specs.Paper.{if_done}
+use Rattle.answers.specs.Paper.{given}
 use Rattle.answers.proofs.PaperLaws.{and_then-done, done-new, end-new}
 use Rattle.complex.specs.Zeros.{zeros, zeroed}
 use Rattle.cut_sides.specs.Sides.{cut_refusal, side}
@@ -20,7 +20,7 @@ use Rattle.tables.specs.Tables.{filled}
 use Rattle.tables.proofs.TablesLaws.{take-filled}
 use Rattle.finish.specs.Finish.{padded}
 use Rattle.sweeps.specs.Sweeping.{no_sweeps}
-use Rattle.cut_values.specs.Schmidt.{cut_rows, singular_values, cut_values_rest, cut_values_tests, values_reply, cut_values_answer}
+use Rattle.cut_values.specs.Schmidt.{cut_rows, singular_values, cut_values_rest, cut_values_tests, values_reply, cut_values_answer, no_cut}
 use Rattle.cut_values.proofs.Few.{few-left, few-singular}
 use Rattle.cutfile_result.specs.declared.CutResult.{CutResult}
 use Rattle.cutfile_result.specs.Result.{state_of, cut_reply, values_at, library_reply, file_reply, file_list, file_values, file_sweeps, file_exact, Result}
@@ -32,10 +32,6 @@ few-rows n l h =
     let high : side l n ≤ n - length l = min-le_right (length l) (n - length l) in
     let four : side l n ≤ 4 = omega arith in
     pow_mono {i = side l n} {j = 4} four
-
-at_most : (x a : ℕ) → a ≤ 16 → if_done x a 0 ≤ 16
-at_most zero a h = h
-at_most (suc x) a h = omega arith
 
 -- and they stand at the front
 front : (n : ℕ) (l old : List Float) → take (length l) (padded n l old) ≡ l
@@ -64,16 +60,16 @@ module _ (file list : List ℕ) (values : List Float) (r : CutResult) (list' : L
   pub fits : LongEnough file (word32 file 4) (word32 file 8)
   fits = (accepted file header-done).0
 
-  pub count-is : r.count ≡ length (file_values file)
+  pub count-is : (given no_cut r.cut).count ≡ length (file_values file)
   count-is = is.count ∙ sym (done-new (file_reply file).0 (length (file_values file)) 0 e)
 
-  pub sweeps-is : r.sweeps ≡ file_sweeps file
+  pub sweeps-is : (given no_cut r.cut).sweeps ≡ file_sweeps file
   sweeps-is = is.sweeps-are ∙ sym (done-new (file_reply file).0 (file_sweeps file) no_sweeps e)
 
-  pub exact-file : r.exact ≡ file_exact file
+  pub exact-file : (given no_cut r.cut).exact ≡ file_exact file
   exact-file = is.exact-is ∙ sym (done-new (file_reply file).0 (file_exact file) false e)
 
-  pub count-few : r.count ≤ 16
+  pub count-few : (given no_cut r.cut).count ≤ 16
   count-few =
       let n = word32 file 4 in
       let s = state_of file n (word32 file 8) in
@@ -85,7 +81,7 @@ module _ (file list : List ℕ) (values : List Float) (r : CutResult) (list' : L
       (is.list-is ∙ sym (done-new (header_answer file).0 (filled (word32 file 8) (file_entry file) list) list header-done))
       ∙ take-filled (word32 file 8) (file_entry file) list
 
-  pub values-front : take r.count values' ≡ file_values file
+  pub values-front : take (given no_cut r.cut).count values' ≡ file_values file
   values-front =
       let n = word32 file 4 in
       let s = state_of file n (word32 file 8) in

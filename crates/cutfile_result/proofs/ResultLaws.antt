@@ -6,7 +6,11 @@ use Prim.Native.Nat.{ℕ, zero, suc, ◌*◌, ◌^◌}
 use native.Mathlib.Omega.{arith}
 use lib.Ieee.{Float}
 use lib.ListN.{length, take}
+use Rattle.std.specs.Prelude.{Ok, Err}
+use Rattle.std.specs.Prelude as Std
+use Rattle.answers.specs.declared.Refusal.{Refusal}
 use Rattle.answers.specs.Paper.{Reply, paper, after, if_done, at_end}
+use Rattle.answers.proofs.Stopped.{stopped-number}
 use Rattle.answers.proofs.PaperLaws.{stays, done-new, done-old}
 use Rattle.complex.specs.Zeros.{zeroed}
 use Rattle.cutfile.specs.Bytes.{word32}
@@ -23,13 +27,13 @@ use Rattle.cutfile_result.specs.Result.{list_of, state_of, cut_reply, values_of,
 
 -- ---- the library's call over the room that is lent here
 
-pub valued : (state : List Float) (n : ℕ) (list : List ℕ) (values scratch : List Float) → length values ≡ 16 → length scratch ≡ 4128 → (r : CutCounted)
+pub valued : (state : List Float) (n : ℕ) (list : List ℕ) (values scratch : List Float) → length values ≡ 16 → length scratch ≡ 4128 → (r : Std.Result CutCounted Refusal)
     (end scratch' : List Float) → Schmidt state n list 10 values scratch r end scratch'
     → Valued state n list values r end
 unfolding cut_reply
 valued state n list values scratch lv ls r end scratch' is =
-    let e : paper r.answer ≡ cut_reply state n list = is.answer ∙ ap₂ (cut_values_answer state n list 10) lv ls in
-    let x : (paper r.answer).0 ≡ (cut_reply state n list).0 = ap (λ (a : Reply). a.0) e in
+    let e : paper r ≡ cut_reply state n list = is.answer ∙ ap₂ (cut_values_answer state n list 10) lv ls in
+    let x : (paper r).0 ≡ (cut_reply state n list).0 = ap (λ (a : Reply). a.0) e in
     record {
       answer = e;
       count = is.count ∙ ap (λ (a : ℕ). if_done a (length (values_of state n list)) 0) x;
@@ -41,7 +45,7 @@ valued state n list values scratch lv ls r end scratch' is =
     }
 
 -- what was decoded is what the file holds
-pub file-valued : (file : List ℕ) (n k m : ℕ) (old list : List ℕ) (before state : List Float) (values : List Float) (r : CutCounted) (end : List Float) → m ≡ 2 * 2 ^ n
+pub file-valued : (file : List ℕ) (n k m : ℕ) (old list : List ℕ) (before state : List Float) (values : List Float) (r : Std.Result CutCounted Refusal) (end : List Float) → m ≡ 2 * 2 ^ n
     → list ≡ filled k (file_entry file) old → state ≡ filled (2 * 2 ^ n) (component_at file k) before
     → Valued (take m state) n (take k list) values r end → FileValued file n k old values r list end
 file-valued file n k m old list before state values r end l e f v =
@@ -59,59 +63,63 @@ passes : (k : ℕ) (x b : Reply) → k ≡ 0 → after k x b ≡ b
 passes zero x b e = refl
 passes (suc k) x b e = absurd (omega arith)
 
-module _ (file : List ℕ) (h : Header) (is : Header·is file h) where
-  -- it is refused: nothing was touched
-  pub header_refused : (list : List ℕ) (values : List Float) → ((paper h.answer).0 ≡ 0 → ⊥)
-      → Result file list values (record { answer = h.answer; n = h.n; k = h.k; count = 0; sweeps = no_sweeps; exact = false }) list values
+-- it is refused: nothing was touched
+pub header_refused : (file : List ℕ) (e : Refusal) → Header·is file (Err e) → (list : List ℕ) (values : List Float)
+    → Result file list values (record { n = 0; k = 0; cut = Err e }) list values
+unfolding file_reply
+header_refused file e is list values =
+    let g : (header_answer file).0 ≡ 0 → ⊥ = λ z. stopped-number e (ap (λ (r : Reply). r.0) is.answer-is ∙ z) in
+    let s : header_answer file ≡ file_reply file = stays (header_answer file) (library_reply file (word32 file 4) (word32 file 8)) g in
+    let f : (file_reply file).0 ≡ 0 → ⊥ = λ z. g (ap (λ (r : Reply). r.0) s ∙ z) in
+    record {
+      answer = is.answer-is ∙ s;
+      n-is = is.n-is;
+      k-is = is.k-is;
+      count = done-old (file_reply file).0 (length (file_values file)) 0 f;
+      sweeps-are = done-old (file_reply file).0 (file_sweeps file) no_sweeps f;
+      exact-is = done-old (file_reply file).0 (file_exact file) false f;
+      list-is = done-old (header_answer file).0 (filled (word32 file 8) (file_entry file) list) list g;
+      values-are = done-old (header_answer file).0 (values_at (state_of file (word32 file 4) (word32 file 8)) (word32 file 4) (file_list file) values) values g;
+      list-long = refl;
+      values-long = refl;
+    }
+
+-- it is not
+module _ (file : List ℕ) (h : Header) (is : Header·is file (Ok h)) where
+  answered : (header_answer file).0 ≡ 0
+  answered = ap (λ (r : Reply). r.0) (sym is.answer-is)
+
+  n-word : h.n ≡ word32 file 4
+  n-word = is.n-is ∙ sym (done-new (header_answer file).0 (word32 file 4) 0 answered)
+
+  k-word : h.k ≡ word32 file 8
+  k-word = is.k-is ∙ sym (done-new (header_answer file).0 (word32 file 8) 0 answered)
+
+  pub header-fits : LongEnough file h.n h.k
+  header-fits = rw (n-word, k-word) (accepted file answered).0
+
+  -- the library's call decides
+  pub header-done : (list : List ℕ) (values : List Float) (r : Std.Result CutCounted Refusal) (list' : List ℕ) (values' : List Float)
+      → FileValued file h.n h.k list values r list' values' → length list' ≡ length list → length values' ≡ length values
+      → Result file list values (record { n = h.n; k = h.k; cut = r }) list' values'
   unfolding file_reply
-  header_refused list values f =
-      let g : (header_answer file).0 ≡ 0 → ⊥ = λ e. f (ap (λ (r : Reply). r.0) is.answer-is ∙ e) in
-      let s : header_answer file ≡ file_reply file = stays (header_answer file) (library_reply file (word32 file 4) (word32 file 8)) g in
+  header-done list values r list' values' v ll lv =
+      let w : FileValued file (word32 file 4) (word32 file 8) list values r list' values'
+      = subst (λ (k : ℕ). FileValued file (word32 file 4) k list values r list' values') k-word
+      (subst (λ (n : ℕ). FileValued file n h.k list values r list' values') n-word v) in
+      let L = library_reply file (word32 file 4) (word32 file 8) in
+      let s : file_reply file ≡ L = passes (header_answer file).0 (header_answer file) L answered in
       record {
-        answer = is.answer-is ∙ s;
+        answer = w.valued.answer ∙ sym s;
         n-is = is.n-is;
         k-is = is.k-is;
-        count = done-old (file_reply file).0 (length (file_values file)) 0 (λ e. g (ap (λ (r : Reply). r.0) s ∙ e));
-        sweeps-are = done-old (file_reply file).0 (file_sweeps file) no_sweeps (λ e. g (ap (λ (r : Reply). r.0) s ∙ e));
-        exact-is = done-old (file_reply file).0 (file_exact file) false (λ e. g (ap (λ (r : Reply). r.0) s ∙ e));
-        list-is = done-old (header_answer file).0 (filled (word32 file 8) (file_entry file) list) list g;
-        values-are = done-old (header_answer file).0 (values_at (state_of file (word32 file 4) (word32 file 8)) (word32 file 4) (file_list file) values) values g;
-        list-long = refl;
-        values-long = refl;
+        count = w.valued.count ∙ ap (λ (a : Reply). if_done a.0 (length (file_values file)) 0) (sym s);
+        sweeps-are = w.valued.sweeps-are ∙ ap (λ (a : Reply). if_done a.0 (file_sweeps file) no_sweeps) (sym s);
+        exact-is = w.valued.exact-is ∙ ap (λ (a : Reply). if_done a.0 (file_exact file) false) (sym s);
+        list-is = w.list-is ∙ done-new (header_answer file).0 (filled (word32 file 8) (file_entry file) list) list answered;
+        values-are =
+            w.valued.values-are
+            ∙ done-new (header_answer file).0 (values_at (state_of file (word32 file 4) (word32 file 8)) (word32 file 4) (file_list file) values) values answered;
+        list-long = ll;
+        values-long = lv;
       }
-
-  module _ (e : (header_answer file).0 ≡ 0) where
-    n-word : h.n ≡ word32 file 4
-    n-word = is.n-is ∙ sym (done-new (header_answer file).0 (word32 file 4) 0 e)
-
-    k-word : h.k ≡ word32 file 8
-    k-word = is.k-is ∙ sym (done-new (header_answer file).0 (word32 file 8) 0 e)
-
-    pub header-fits : LongEnough file h.n h.k
-    header-fits = rw (n-word, k-word) (accepted file e).0
-
-    -- it is answered 0: the library's call decides
-    pub header-done : (list : List ℕ) (values : List Float) (r : CutCounted) (list' : List ℕ) (values' : List Float)
-        → FileValued file h.n h.k list values r list' values' → length list' ≡ length list → length values' ≡ length values
-        → Result file list values (record { answer = r.answer; n = h.n; k = h.k; count = r.count; sweeps = r.sweeps; exact = r.exact }) list' values'
-    unfolding file_reply
-    header-done list values r list' values' v ll lv =
-        let w : FileValued file (word32 file 4) (word32 file 8) list values r list' values'
-        = subst (λ (k : ℕ). FileValued file (word32 file 4) k list values r list' values') k-word
-        (subst (λ (n : ℕ). FileValued file n h.k list values r list' values') n-word v) in
-        let L = library_reply file (word32 file 4) (word32 file 8) in
-        let s : file_reply file ≡ L = passes (header_answer file).0 (header_answer file) L e in
-        record {
-          answer = w.valued.answer ∙ sym s;
-          n-is = is.n-is;
-          k-is = is.k-is;
-          count = w.valued.count ∙ ap (λ (a : Reply). if_done a.0 (length (file_values file)) 0) (sym s);
-          sweeps-are = w.valued.sweeps-are ∙ ap (λ (a : Reply). if_done a.0 (file_sweeps file) no_sweeps) (sym s);
-          exact-is = w.valued.exact-is ∙ ap (λ (a : Reply). if_done a.0 (file_exact file) false) (sym s);
-          list-is = w.list-is ∙ done-new (header_answer file).0 (filled (word32 file 8) (file_entry file) list) list e;
-          values-are =
-              w.valued.values-are
-              ∙ done-new (header_answer file).0 (values_at (state_of file (word32 file 4) (word32 file 8)) (word32 file 4) (file_list file) values) values e;
-          list-long = ll;
-          values-long = lv;
-        }

@@ -1,22 +1,22 @@
 -- What a reader may want to know of the result of a file. Assumes nothing.
 use mathlib.Core.Path.{◌≡◌, sym, ap, ◌∙◌, refl}
 use mathlib.Core.List.{List, [], ◌∷◌}
-use Prim.Native.Nat.{ℕ, ◌-◌, ◌≤◌, ◌<◌, zero, suc, ◌+◌, ◌*◌, ◌/◌, ◌^◌, min}
+use Prim.Native.Nat.{ℕ, ◌≤◌, ◌<◌, zero, suc, ◌+◌, ◌*◌, ◌/◌, ◌^◌, min}
 use lib.Ieee.{Float}
-use Rattle.answers.specs.declared.Answer.{Answer}
-use Rattle.answers.proofs.Theorems.{paper-one}
-use Rattle.sweeps.specs.declared.Sweeps.{Sweeps}
+use Rattle.answers.specs.Paper.{Reply, given, done, refuse, after, and_then}
+use Rattle.answers.proofs.Theorems.{result-one}
+use Rattle.cut_values.specs.declared.CutCounted.{CutCounted}
 use Rattle.cutfile_result.specs.declared.CutResult.{CutResult}
 use Rattle.cutfile_result.specs.Result.{list_of, state_of, cut_reply, library_reply, file_reply, file_list, file_values, Result}
 use native.Mathlib.Omega.{arith}
 use Rattle.answers.proofs.PaperLaws.{stays, and_then-done, refuse-done}
 use lib.ListN.{length, take}
-use Rattle.answers.specs.Paper.{Reply, done, refuse, after, and_then}
 use Rattle.cutfile.specs.Layout.{LongEnough, component_at, mark, amplitude_offset, file_length, gap, size_answer, file_offsets_answer, length_answer, fields_answer, header_answer}
 use Rattle.cutfile.specs.Bytes.{word32, begins, all_zero}
 use Rattle.cutfile.proofs.LayoutLaws.{accepted}
 use Rattle.cutfile.proofs.Longer.{longest, longer-same, longer-refused}
 use mathlib.Core.Bool.{Bool, true, false, not}
+use borrow.Author.Tests.{le-ltb, eq-eqb}
 use lib.Dec.{leb, ltb, eqb}
 use lib.Pow.{pow_mono}
 use Rattle.numbers.specs.Numbers.{allowed}
@@ -27,24 +27,22 @@ use Rattle.values.specs.Lists.{all_finite}
 use Rattle.values.specs.Sort.{sorted_down}
 use Rattle.finish.specs.Finish.{kept_values, finish_sorted, sorted_reply, finish_reply}
 use Rattle.tables.proofs.TablesLaws.{length-table}
-use Rattle.cut_values.specs.Schmidt.{cut_rows, singular_values, cut_values_lengths, cut_values_rest, cut_values_tests, values_reply, cut_values_answer}
-use Rattle.cut_values.proofs.SchmidtLaws.{lengths-good}
+use Rattle.cut_values.specs.Schmidt.{cut_rows, singular_values, cut_values_scratch, cut_values_lengths, cut_values_rest, cut_values_tests, values_reply, cut_values_answer, no_cut}
 use Rattle.cut_values.proofs.Few.{few-left, few-singular, some-kept}
 use Rattle.cutfile_result.proofs.Few.{few-rows}
 
-same-result : {a a' : Answer} {n n' k k' c c' : ℕ} {w w' : Sweeps} {x x' : Bool} → a ≡ a' → n ≡ n' → k ≡ k' → c ≡ c' → w ≡ w' → x ≡ x'
-    → ◌≡◌ {A = CutResult} (record { answer = a; n = n; k = k; count = c; sweeps = w; exact = x }) (record { answer = a'; n = n'; k = k'; count = c'; sweeps = w'; exact = x' })
-same-result e f g h i j = cc
+same-cut : {x y : CutCounted} → x.count ≡ y.count → x.sweeps ≡ y.sweeps → x.exact ≡ y.exact → x ≡ y
+same-cut e f g = λ i. record { count = e i; sweeps = f i; exact = g i }
 
--- Only one outcome meets the contract of `cut_result`: its answer, n, k, count, sweeps and mark, and every cell of the list and the values.
+-- Only one outcome meets the contract of `cut_result`: its n, k and cut, and every cell of the list and the values.
 pub cut-result-one : (file list : List ℕ) (values : List Float) (r s : CutResult) (list' list'' : List ℕ) (values' values'' : List Float)
     → Result file list values r list' values' → Result file list values s list'' values'' → (r ≡ s) × (list' ≡ list'') × (values' ≡ values'')
-cut-result-one file list values r s list' list'' values' values'' x y = (
-  same-result (paper-one r.answer s.answer (x.answer ∙ sym y.answer)) (x.n-is ∙ sym y.n-is) (x.k-is ∙ sym y.k-is) (x.count ∙ sym y.count)
-      (x.sweeps-are ∙ sym y.sweeps-are) (x.exact-is ∙ sym y.exact-is),
-  x.list-is ∙ sym y.list-is,
-  x.values-are ∙ sym y.values-are,
-)
+cut-result-one file list values r s list' list'' values' values'' x y =
+    let counts : given no_cut r.cut ≡ given no_cut s.cut = same-cut (x.count ∙ sym y.count) (x.sweeps-are ∙ sym y.sweeps-are) (x.exact-is ∙ sym y.exact-is) in
+    let n : r.n ≡ s.n = x.n-is ∙ sym y.n-is in
+    let k : r.k ≡ s.k = x.k-is ∙ sym y.k-is in
+    let cut : r.cut ≡ s.cut = result-one r.cut s.cut (x.answer ∙ sym y.answer) (λ u v e f. ap (given no_cut) (sym e) ∙ counts ∙ ap (given no_cut) f) in
+    (λ i. record { n = n i; k = k i; cut = cut i }, x.list-is ∙ sym y.list-is, x.values-are ∙ sym y.values-are)
 
 -- a number to 10, and other than 6
 abbrev Other : Reply → Type 0
@@ -93,12 +91,16 @@ values_other values =
     (refuse-other (eqb (length (kept_values s)) 0) 8 0 (refuse (not (all_finite (finish_sorted s))) (9, 0) done) (omega arith, λ e. omega arith)
     (refuse-other (not (all_finite (finish_sorted s))) 9 0 done (omega arith, λ e. omega arith) done-other))
 
+lengths-fit : (n rows state : ℕ) → state ≡ 2 * 2 ^ n → rows ≤ 16 → 2 ^ n ≤ 512 → cut_values_lengths n rows state 16 4128 ≡ done
+unfolding cut_values_lengths
+lengths-fit n rows state e h c = rw (eq-eqb state (2 * 2 ^ n) e, le-ltb 16 rows h, le-ltb 4128 (cut_values_scratch n rows) (omega arith))
+
 library-other : (state : List Float) (n : ℕ) (list : List ℕ) → n ≤ 9 → length state ≡ 2 * 2 ^ n → Other (cut_reply state n list)
 unfolding cut_reply cut_values_answer cut_values_tests cut_values_rest
 library-other state n list h l =
     let cells : 2 ^ n ≤ 2 ^ 9 = pow_mono h in
     let rows = few-rows n list h in
-    let fits : cut_values_lengths n (cut_rows n list) (length state) 16 4128 ≡ done = sym (lengths-good n (cut_rows n list) (length state) 16 4128 refl l rows (omega arith)) in
+    let fits : cut_values_lengths n (cut_rows n list) (length state) 16 4128 ≡ done = lengths-fit n (cut_rows n list) (length state) l rows (omega arith) in
     let t = cut_values_lengths n (cut_rows n list) (length state) 16 4128 in
     let zero : t.0 ≡ 0 = ap (λ (x : Reply). x.0) fits in
     let none : Other t = (omega (arith, zero), λ e. omega (arith, zero)) in

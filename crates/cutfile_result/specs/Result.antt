@@ -1,6 +1,8 @@
 -- What a cut file gives, for every list of bytes. Definitions only.
 use Rattle.std.specs.Prelude.{◌≡◌, Bool, false, List, ℕ, ◌*◌, ◌^◌, Float, length}
-use Rattle.answers.specs.Paper.{Reply, paper, and_then, if_done, at_end}
+use Rattle.std.specs.Prelude as Std
+use Rattle.answers.specs.declared.Refusal.{Refusal}
+use Rattle.answers.specs.Paper.{Reply, paper, given, and_then, if_done, at_end}
 use Rattle.complex.specs.Zeros.{zeroed}
 use Rattle.cutfile.specs.Bytes.{word32}
 use Rattle.cutfile.specs.Layout.{header_answer, n_of, k_of, file_entry, component_at}
@@ -9,7 +11,7 @@ use Rattle.sweeps.specs.declared.Sweeps.{Sweeps}
 use Rattle.sweeps.specs.Sweeping.{no_sweeps}
 use Rattle.finish.specs.Finish.{finish_of, padded}
 use Rattle.cut_values.specs.declared.CutCounted.{CutCounted}
-use Rattle.cut_values.specs.Schmidt.{cut_rows, singular_values, cut_sweeps, cut_exact, cut_values_answer}
+use Rattle.cut_values.specs.Schmidt.{cut_rows, singular_values, cut_sweeps, cut_exact, cut_values_answer, no_cut}
 use Rattle.cutfile_result.specs.declared.CutResult.{CutResult}
 
 -- the list and the state that a file of k entries and n qubits holds
@@ -59,12 +61,12 @@ file_exact file = cut_exact (state_of file (word32 file 4) (word32 file 8)) (wor
 
 -- the answer; n and k, 0 where the header is refused; the count, the sweeps and the mark; the lent list and values, as they were where the header is refused
 pub record Result (file : List ℕ) (list : List ℕ) (values : List Float) (r : CutResult) (list' : List ℕ) (values' : List Float) : Type 0 where
-  pub answer : paper r.answer ≡ file_reply file
+  pub answer : paper r.cut ≡ file_reply file
   pub n-is : r.n ≡ n_of file
   pub k-is : r.k ≡ k_of file
-  pub count : r.count ≡ if_done (file_reply file).0 (length (file_values file)) 0
-  pub sweeps-are : r.sweeps ≡ if_done (file_reply file).0 (file_sweeps file) no_sweeps
-  pub exact-is : r.exact ≡ if_done (file_reply file).0 (file_exact file) false
+  pub count : (given no_cut r.cut).count ≡ if_done (file_reply file).0 (length (file_values file)) 0
+  pub sweeps-are : (given no_cut r.cut).sweeps ≡ if_done (file_reply file).0 (file_sweeps file) no_sweeps
+  pub exact-is : (given no_cut r.cut).exact ≡ if_done (file_reply file).0 (file_exact file) false
   pub list-is : list' ≡ if_done (header_answer file).0 (filled (word32 file 8) (file_entry file) list) list
   pub values-are : values' ≡ if_done (header_answer file).0 (values_at (state_of file (word32 file 4) (word32 file 8)) (word32 file 4) (file_list file) values) values
   pub list-long : length list' ≡ length list
@@ -73,14 +75,14 @@ pub record Result (file : List ℕ) (list : List ℕ) (values : List Float) (r :
 -- ---- the steps
 
 -- the cut values over the room that is lent here
-pub record Valued (state : List Float) (n : ℕ) (list : List ℕ) (values : List Float) (r : CutCounted) (values' : List Float) : Type 0 where
-  pub answer : paper r.answer ≡ cut_reply state n list
-  pub count : r.count ≡ if_done (cut_reply state n list).0 (length (values_of state n list)) 0
-  pub sweeps-are : r.sweeps ≡ if_done (cut_reply state n list).0 (cut_sweeps state n list) no_sweeps
-  pub exact-is : r.exact ≡ if_done (cut_reply state n list).0 (cut_exact state n list) false
+pub record Valued (state : List Float) (n : ℕ) (list : List ℕ) (values : List Float) (r : Std.Result CutCounted Refusal) (values' : List Float) : Type 0 where
+  pub answer : paper r ≡ cut_reply state n list
+  pub count : (given no_cut r).count ≡ if_done (cut_reply state n list).0 (length (values_of state n list)) 0
+  pub sweeps-are : (given no_cut r).sweeps ≡ if_done (cut_reply state n list).0 (cut_sweeps state n list) no_sweeps
+  pub exact-is : (given no_cut r).exact ≡ if_done (cut_reply state n list).0 (cut_exact state n list) false
   pub values-are : values' ≡ values_at state n list values
 
 -- of a file whose header was answered 0
-pub record FileValued (file : List ℕ) (n k : ℕ) (list : List ℕ) (values : List Float) (r : CutCounted) (list' : List ℕ) (values' : List Float) : Type 0 where
+pub record FileValued (file : List ℕ) (n k : ℕ) (list : List ℕ) (values : List Float) (r : Std.Result CutCounted Refusal) (list' : List ℕ) (values' : List Float) : Type 0 where
   pub list-is : list' ≡ filled k (file_entry file) list
   pub valued : Valued (state_of file n k) n (list_of file k) values r values'

@@ -7,24 +7,24 @@ ghost use Rattle.std.specs.Prelude.{◌≡◌, length};
 ghost use Rattle.cutfile.specs.Layout.{LongEnough};
 ghost use Rattle.cutfile_result.specs.Result.{Valued, FileValued, Result};
 
-use answers::Answer;
+use answers::Refusal;
 use cut_values::CutCounted;
-use sweeps::Sweeps;
 
-// The answer; the register's size and the list's length, 0 where the header is refused; how many values were kept; how the
-// sweeps went; and the mark of the roots, no on a refusal.
+// The register's size and the list's length, 0 where the header is refused; and what the cut gives, or what the file is refused by.
 #[derive(Clone, Copy)]
 pub struct CutResult {
-    pub answer: Answer,
     pub n: usize,
     pub k: usize,
-    pub count: usize,
-    pub sweeps: Sweeps,
-    pub exact: bool,
+    pub cut: Result<CutCounted, Refusal>,
 }
 
 // The cut values of a state.
-fn values_of(state: &[f64], n: usize, list: &[usize], values: &mut [f64]) -> CutCounted
+fn values_of(
+    state: &[f64],
+    n: usize,
+    list: &[usize],
+    values: &mut [f64],
+) -> Result<CutCounted, Refusal>
     requires { length values.old ≡ 16 }
     ensures { Valued state.now n list.now values.old result values.new }
 {
@@ -33,7 +33,13 @@ fn values_of(state: &[f64], n: usize, list: &[usize], values: &mut [f64]) -> Cut
 }
 
 // The list and the values of a file whose header was answered 0.
-fn of_file(file: &[u8], n: usize, k: usize, list: &mut [usize], values: &mut [f64]) -> CutCounted
+fn of_file(
+    file: &[u8],
+    n: usize,
+    k: usize,
+    list: &mut [usize],
+    values: &mut [f64],
+) -> Result<CutCounted, Refusal>
     requires { LongEnough file.now n k × (length list.old ≡ 64) × (length values.old ≡ 16) }
     ensures { FileValued file.now n k list.old values.old result list.new values.new }
 {
@@ -48,34 +54,16 @@ fn of_file(file: &[u8], n: usize, k: usize, list: &mut [usize], values: &mut [f6
 pub fn cut_result(file: &[u8], list: &mut [usize; 64], values: &mut [f64; 16]) -> CutResult
     ensures { Result file.now list.old values.old result list.new values.new }
 {
-    let header = cutfile::check_header(file);
-    let answer = header.answer;
-    let n = header.n;
-    let k = header.k;
-    let Answer::Done = answer else {
-        let none = Sweeps {
-            begun: 0,
-            quiet: false,
-            turned: 0,
-        };
-        return CutResult {
-            answer,
-            n,
-            k,
-            count: 0,
-            sweeps: none,
-            exact: false,
-        };
-    };
-    let kept = of_file(file, n, k, list, values);
-    let after = kept.answer;
-    let sweeps = kept.sweeps;
-    CutResult {
-        answer: after,
-        n,
-        k,
-        count: kept.count,
-        sweeps,
-        exact: kept.exact,
+    match cutfile::check_header(file) {
+        Ok(header) => CutResult {
+            n: header.n,
+            k: header.k,
+            cut: of_file(file, header.n, header.k, list, values),
+        },
+        Err(refusal) => CutResult {
+            n: 0,
+            k: 0,
+            cut: Err(refusal),
+        },
     }
 }

@@ -23,11 +23,9 @@ pub fn view<'a>(bytes: &'a [u8], n: usize, k: usize) -> CutFile<'a>
 pub fn open<'a>(bytes: &'a [u8]) -> CutFile<'a>
     ensures { (result.bytes ≡ bytes.entry) × (result.n ≡ n_of bytes.now) × (result.k ≡ k_of bytes.now) }
 {
-    let h = cutfile::check_header(bytes);
-    CutFile {
-        bytes,
-        n: h.n,
-        k: h.k,
+    match cutfile::check_header(bytes) {
+        Ok(header) => view(bytes, header.n, header.k),
+        Err(_) => view(bytes, 0, 0),
     }
 }
 

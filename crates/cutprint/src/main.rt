@@ -2,20 +2,9 @@
 // valid file, so a file that is longer still is read as one that is too long, and is not cut to fit: its certificate is the same.
 #![tactic(auto)]
 
-ghost use Rattle.io.specs.Counts.{IsPrefixLen};
-
-use std::rt::Files;
-
-// The bytes of `state.bin` at the front of buf, and how many there are: none where there is no such file.
-fn read_file(files: &impl Files, buf: &mut [u8]) -> usize
-    ensures { IsPrefixLen result buf.new }
-{
-    inputs::read_file(files, "state.bin", buf)
-}
-
 fn main(rt: HostRuntime) -> std::io::Result<()> {
     let mut file = [0u8; 8480];
-    let got = read_file(&rt, &mut file);
+    let got = inputs::read_file(&rt, "state.bin", &mut file);
     let mut text = [0u8; 2048];
     let length = certificates::certificate(&file[..got], &mut text);
     rt.write_all(&text[..length])

@@ -14,9 +14,8 @@ use lib.Dec.{eqb, ltb}
 use lib.Ieee.{Float}
 use lib.ListN.{length, length-set}
 use lib.Pow.{pow_pos}
-use Rattle.answers.specs.declared.Answer.{Answer}
-use Rattle.answers.specs.Paper.{Reply, paper, done, refuse, after, if_done}
-use Rattle.answers.proofs.PaperLaws.{refuse-done, done-new, done-old}
+use Rattle.answers.specs.Paper.{Answer, Reply, done, refuse, after, if_done}
+use Rattle.answers.proofs.PaperLaws.{refuse-done}
 use Rattle.whole_numbers.proofs.WholeLaws.{column_fits}
 use Rattle.submasks.specs.Submasks.{submask_at, next_submask}
 use Rattle.submasks.proofs.SubmaskLaws.{next-submask_at, submask_at-first, submask_at-lt}
@@ -97,9 +96,6 @@ module _ (n row rows bits at : ℕ) (s o : List Float) (p : ColumnReady n row ro
     pub source_in : 2 * bit_or row-bits bits + 1 < length s
     source_in = row_inside n row rows bits at s o j p i.row_is
 
-    pub cell_in : 2 * (at + j) + 1 < length out
-    cell_in = omega (arith, p.last, p.room, i.long)
-
     pub column-step : (end : List Float) (z : Complex) (next : ℕ) → z ≡ cell_at s (bit_or row-bits bits) → end ≡ set_cell out (at + j) z
         → next ≡ next_submask row-bits row → Column n row rows bits at s o end (j + 1) next
     column-step end z next ez ee en = record {
@@ -111,12 +107,6 @@ module _ (n row rows bits at : ℕ) (s o : List Float) (p : ColumnReady n row ro
           ∙ ap₂ (λ (a : List Float) (y : Complex). set_cell a (at + j) y) i.cells (ez ∙ ap (λ (x : ℕ). cell_at s (bit_or x bits)) i.row_is)
           ∙ set_more at (λ (x : ℕ). cell_at s (bit_or (submask_at n row x) bits)) j o;
     }
-
-  pub column-end : (out : List Float) (j row-bits : ℕ) → Column n row rows bits at s o out j row-bits → rows ≤ j
-      → out ≡ set_cells at (λ (i : ℕ). cell_at s (bit_or (submask_at n row i) bits)) rows o
-  column-end out j row-bits i h =
-      let e : j ≡ rows = omega (arith, i.more) in
-      i.cells ∙ ap (λ (m : ℕ). set_cells at (λ (x : ℕ). cell_at s (bit_or (submask_at n row x) bits)) m o) e
 
 -- ---- the matrix
 
@@ -158,12 +148,6 @@ module _ (n row column rows columns : ℕ) (s o : List Float) (p : CutReady n ro
           (omega (arith, column-ready.last, p.room));
     }
 
-  pub columns-end : (out : List Float) (c at bits : ℕ) → Columns n row column rows columns s o out c at bits → columns ≤ c
-      → out ≡ written (2 ^ n) (cell_of n row column rows s) o
-  columns-end out c at bits i h =
-      let e : c ≡ columns = omega (arith, i.more) in
-      i.cells ∙ ap (λ (m : ℕ). written m (cell_of n row column rows s) o) (i.number ∙ ap (λ (x : ℕ). x * rows) e ∙ p.product)
-
 -- ---- the sides of an accepted cut
 
 pub ready : (s : List Float) (n : ℕ) (l : List ℕ) (o : List Float) → Parted l n → length s ≡ 2 * 2 ^ n → 2 * 2 ^ n ≤ length o
@@ -196,19 +180,9 @@ lengths-done n s o e =
       ltb-false o (2 * 2 ^ n) (refuse-done (ltb o (2 * 2 ^ n)) 5 2 done a.1).0,
     )
 
-module _ (s : List Float) (n : ℕ) (z : Sides) (o : List Float) (r : Answer) (e : paper r ≡ cut_rest s n (length o)) where
-  pub over-refused : ((paper r).0 ≡ 0 → ⊥) → CutOver s n z o r o
-  over-refused h = record { answer = e; cells = done-old _ _ o (λ y. h (ap (λ (x : Reply). x.0) e ∙ y)) }
-
-  pub over_done : (end : List Float) → (paper r).0 ≡ 0 → end ≡ written (2 ^ n) (cell_of n z.row z.column z.rows s) o → CutOver s n z o r end
-  over_done end h c = record { answer = e; cells = c ∙ done-new _ _ o (sym (ap (λ (x : Reply). x.0) e) ∙ h) }
-
 -- ---- the call
 
 module _ (s : List Float) (n : ℕ) (l : List ℕ) (cap : ℕ) (o : List Float) (r : Answer) where
-  pub cut-refused : paper r ≡ cut_answer s n l cap (length o) → ((paper r).0 ≡ 0 → ⊥) → CutMatrix s n l cap o r o
-  cut-refused e h = record { answer = e; cells = done-old _ _ o (λ z. h (ap (λ (x : Reply). x.0) e ∙ z)) }
-
   -- THE CALL IS ITS WORK over the list's sides, where 1 to 5 do not refuse
   pub cut-is-over : (z : Sides) (end : List Float) → (cut_refusal l n cap).0 ≡ 0 → z ≡ sides_of l n → CutOver s n z o r end → CutMatrix s n l cap o r end
   cut-is-over z end h q c =

@@ -1,8 +1,7 @@
 -- The cut matrix: its cells, its answer, and what a call leaves behind. Assumes nothing.
 use Rattle.std.specs.Prelude.{not, ◌≡◌, List, ℕ, zero, suc, ◌+◌, ◌*◌, ◌/◌, ◌%◌, ◌^◌, ◌≤◌, ◌<◌, ltb, eqb, Float, length}
 use Rattle.std.specs.Int.Bits.{bit_or}
-use Rattle.answers.specs.declared.Answer.{Answer}
-use Rattle.answers.specs.Paper.{Reply, paper, done, refuse, and_then, if_done}
+use Rattle.answers.specs.Paper.{Answer, Reply, paper, done, refuse, and_then, if_done}
 use Rattle.submasks.specs.Submasks.{submask_at}
 use Rattle.complex.specs.declared.Complex.{Complex}
 use Rattle.complex.specs.Cells.{cell_at, set_cell, written, components}

@@ -7,12 +7,11 @@ use native.Mathlib.Omega.{arith}
 use borrow.Author.Tests.{eqb-true, ltb-false, not-false}
 use lib.Dec.{eqb, ltb}
 use lib.Ieee.{Float}
-use lib.ListN.{length}
+use lib.ListN.{length, get_or}
 use lib.Pow.{pow_mono}
 use native.Mathlib.Nat.{pow-suc}
-use Rattle.answers.specs.declared.Answer.{Answer}
-use Rattle.answers.specs.Paper.{Reply, paper, done, refuse, after, if_done}
-use Rattle.answers.proofs.PaperLaws.{refuse-done, and_then-done, done-new, done-old}
+use Rattle.answers.specs.Paper.{Answer, Reply, done, refuse, after, if_done}
+use Rattle.answers.proofs.PaperLaws.{refuse-done, and_then-done}
 use Rattle.complex.specs.Cells.{components, written}
 use Rattle.complex.specs.Zeros.{zeroed}
 use Rattle.components.proofs.EveryLaws.{every-from-done}
@@ -20,14 +19,13 @@ use Rattle.submasks.specs.Submasks.{others}
 use Rattle.submasks.proofs.SubmaskLaws.{others-lt}
 use Rattle.qubits.specs.Lists.{density_sizes, qubit_set}
 use Rattle.qubits.proofs.NamedLaws.{not-empty, pow_small, sizes-product}
-use Rattle.qubits.specs.Spread.{named}
+use Rattle.qubits.specs.Spread.{named, row_offset}
 use Rattle.qubits.proofs.SpreadLaws.{spread-lt}
 use Rattle.qubit_offsets.specs.Calls.{density_refusal}
 use Rattle.qubit_offsets.proofs.CallLaws.{density-listed}
 use Rattle.density_entries.specs.Squares.{Square, entry_at, mirrored}
 use Rattle.density_entries.specs.Entries.{lower_entry, density_cell}
 use Rattle.density_entries.specs.Filled.{EntriesReady, LowerSteps, table_entry}
-use Rattle.density_entries.specs.OffsetLoop.{OffsetSteps}
 use Rattle.density_entries.proofs.EntryLaws.{table-entry, mirrored-density}
 use Rattle.densities.specs.Density.{density_lengths, density_rest, density_answer, density_list, Density, DensityListed, DensityOver, DensityAccepted}
 
@@ -84,49 +82,30 @@ module _ (s : List Float) (n : ℕ) (l : List ℕ) (o : List Float) (p : Density
   pub density-few : (dim groups : ℕ) → dim ≡ 2 ^ length l → groups ≡ 2 ^ (n - length l) → groups * dim ≤ 4096
   density-few dim groups e eg = rw (e, eg, sizes-product n (length l) p.listed.short) (pow_small n p.listed.small)
 
-  pub density-ready : (dim rest : ℕ) (old table : List ℕ) → dim ≡ 2 ^ length l → OffsetSteps l dim old table dim → dim ≤ length old
+  pub density-ready : (dim rest : ℕ) (table : List ℕ) → dim ≡ 2 ^ length l → ((k : ℕ) → k < dim → get_or table k 0 ≡ row_offset l k) → dim ≤ length table
       → rest ≡ others n (named l) → EntriesReady n s rest table dim
-  density-ready dim rest old table e t room em = record {
+  density-ready dim rest table e t room em = record {
     small = p.listed.small;
     long = p.state;
     mask_lt = rw em (others-lt n (named l));
     even = rw e (even_power (length l) p.some);
-    table = omega (arith, t.long);
-    below = λ k h. rw (t.are k h) (spread-lt n l k p.listed.below);
+    table = room;
+    below = λ k h. rw (t k h) (spread-lt n l k p.listed.below);
   }
 
   -- the lower half filled and mirrored
-  pub density-end : (dim rest groups : ℕ) (old table : List ℕ) (mid end : List Float) → dim ≡ 2 ^ length l → OffsetSteps l dim old table dim
+  pub density-end : (dim rest groups : ℕ) (table : List ℕ) (mid end : List Float) → dim ≡ 2 ^ length l → ((k : ℕ) → k < dim → get_or table k 0 ≡ row_offset l k)
       → rest ≡ others n (named l) → groups ≡ 2 ^ (n - length l)
       → LowerSteps dim (table_entry n s rest groups table) o mid (dim / 2) → end ≡ mirrored mid dim → end ≡ density_list n l s o
-  density-end dim rest groups old table mid end e t em eg i ee =
+  density-end dim rest groups table mid end e t em eg i ee =
       let ev : dim % 2 ≡ 0 = rw e (even_power (length l) p.some) in
       let rows : (r c : ℕ) → r < dim → c ≤ r → entry_at mid dim r c ≡ lower_entry n l s r c
-      = λ r c hr hc. i.rows r c (omega arith) hc ∙ rw (em, eg) (table-entry n l s old table dim r c p.listed t hr (omega arith)) in
+      = λ r c hr hc. i.rows r c (omega arith) hc ∙ rw (em, eg) (table-entry n l s table dim r c p.listed t hr (omega arith)) in
       ee ∙ mirrored-density n l s o mid dim e i.surplus rows ∙ ap (λ (d : ℕ). written (d * d) (density_cell n l s) o) e
 
--- ---- the ways out
+-- ---- the call
 
--- of the inner call
-module _ (s : List Float) (n : ℕ) (l : List ℕ) (o w : List Float) (r : Answer) (e : paper r ≡ density_rest s n (length l) (length o) (length w)) where
-  pub over-refused : ((paper r).0 ≡ 0 → ⊥) → DensityOver s n l o w r o w
-  over-refused h =
-      let z : (density_rest s n (length l) (length o) (length w)).0 ≡ 0 → ⊥ = λ x. h (ap (λ (y : Reply). y.0) e ∙ x) in
-      record { answer = e; matrix = done-old _ (density_list n l s o) o z; cleared = done-old _ (zeroed (2 * 2 ^ length l) w) w z }
-
-  pub over_done : (out scratch : List Float) → (paper r).0 ≡ 0 → out ≡ density_list n l s o → scratch ≡ zeroed (2 * 2 ^ length l) w
-      → DensityOver s n l o w r out scratch
-  over_done out scratch h eo ew =
-      let z : (density_rest s n (length l) (length o) (length w)).0 ≡ 0 = sym (ap (λ (y : Reply). y.0) e) ∙ h in
-      record { answer = e; matrix = eo ∙ done-new _ (density_list n l s o) o z; cleared = ew ∙ done-new _ (zeroed (2 * 2 ^ length l) w) w z }
-
--- of the call
 module _ (s : List Float) (n : ℕ) (l : List ℕ) (cap : ℕ) (o w : List Float) (r : Answer) where
-  pub density-refused : paper r ≡ density_answer s n l cap (length o) (length w) → ((paper r).0 ≡ 0 → ⊥) → Density s n l cap o w r o w
-  density-refused e h =
-      let z : (density_answer s n l cap (length o) (length w)).0 ≡ 0 → ⊥ = λ x. h (ap (λ (y : Reply). y.0) e ∙ x) in
-      record { answer = e; matrix = done-old _ (density_list n l s o) o z; cleared = done-old _ (zeroed (2 * 2 ^ length l) w) w z }
-
   -- THE CALL IS ITS WORK, where 1 to 4 do not refuse
   pub density-is-over : (out scratch : List Float) → (density_refusal n cap l).0 ≡ 0 → DensityOver s n l o w r out scratch → Density s n l cap o w r out scratch
   density-is-over out scratch h c =

@@ -1,7 +1,6 @@
 -- `dense_reduced_density`: its answer, and what it leaves in the lent slices. Assumes nothing.
 use Rattle.std.specs.Prelude.{◌≡◌, not, true, List, ℕ, ◌*◌, ◌^◌, ◌≤◌, ltb, eqb, Float, length}
-use Rattle.answers.specs.declared.Answer.{Answer}
-use Rattle.answers.specs.Paper.{Reply, paper, done, refuse, and_then, if_done}
+use Rattle.answers.specs.Paper.{Answer, Reply, paper, done, refuse, and_then, if_done}
 use Rattle.complex.specs.Cells.{written, components}
 use Rattle.complex.specs.Zeros.{zeroed}
 use Rattle.components.specs.Every.{every_allowed}

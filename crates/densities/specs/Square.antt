@@ -1,7 +1,6 @@
 -- The answer that refuses a square matrix, and what a call that works on its own input leaves. Assumes nothing.
 use Rattle.std.specs.Prelude.{◌≡◌, not, List, ℕ, ◌*◌, ltb, eqb, Float, length}
-use Rattle.answers.specs.declared.Answer.{Answer}
-use Rattle.answers.specs.Paper.{Reply, paper, refuse, if_done}
+use Rattle.answers.specs.Paper.{Answer, Reply, paper, refuse, if_done}
 use Rattle.complex.specs.Cells.{components}
 
 -- 1: the side; 6: a cell for each row and column, and no more; 7

@@ -9,66 +9,68 @@ ghost use Rattle.density_entries.specs.Squares.{mirrored};
 ghost use Rattle.densities.specs.Square.{square_answer, InPlace};
 ghost use Rattle.densities.specs.Density.{density_lengths, density_rest, density_list, Density, DensityListed, DensityOver, DensityAccepted};
 
-use answers::Answer;
+use answers::Refusal;
 
 // Inner: a square matrix among a call's own arguments: 1 by its side, 6 by its length, 7 by its components.
-pub fn square_refusal(rho: &[f64], dim: usize) -> Answer
+pub fn square_refusal(rho: &[f64], dim: usize) -> Result<(), Refusal>
     ensures { paper result ≡ square_answer rho.now dim }
 {
-    if dim < 1 {
-        return Answer::Size;
+    if dim < 1 || 64 < dim {
+        return Err(Refusal::Size);
     }
-    if 64 < dim {
-        return Answer::Size;
-    }
-    let need = 2 * (dim * dim);
-    if rho.len() != need {
-        return Answer::Length(0);
+    if rho.len() != 2 * (dim * dim) {
+        return Err(Refusal::Length(0));
     }
     components::check_components(rho)
 }
 
 // The upper half of a square matrix becomes the conjugate of the lower; the diagonal stays as it is.
-pub fn mirror_lower_triangle(rho: &mut [f64], dim: usize) -> Answer
+pub fn mirror_lower_triangle(rho: &mut [f64], dim: usize) -> Result<(), Refusal>
     ensures { InPlace (square_answer rho.old dim) (mirrored rho.old dim) rho.old result rho.new }
 {
-    let first = square_refusal(rho, dim);
-    let Answer::Done = first else {
-        return first;
-    };
+    square_refusal(rho, dim)?;
     density_entries::mirror(rho, dim);
-    Answer::Done
+    Ok(())
 }
 
 // Answer 6: the state, slice 0, is exact; out, slice 2, and scratch, slice 3, may be longer.
-fn density_lengths(size: usize, dim: usize, state: usize, out: usize, scratch: usize) -> Answer
+fn density_lengths(
+    size: usize,
+    dim: usize,
+    state: usize,
+    out: usize,
+    scratch: usize,
+) -> Result<(), Refusal>
     requires { (size ≤ 4096) × (dim ≤ 64) }
     ensures { paper result ≡ density_lengths size dim state out scratch }
 {
     let cells = dim * dim;
     if state != 2 * size {
-        return Answer::Length(0);
+        return Err(Refusal::Length(0));
     }
     if out < 2 * cells {
-        return Answer::Length(2);
+        return Err(Refusal::Length(2));
     }
     if scratch < 2 * dim {
-        return Answer::Length(3);
+        return Err(Refusal::Length(3));
     }
-    Answer::Done
+    Ok(())
 }
 
 // Answers 6 and 7 of a density of k qubits whose out and scratch have so many numbers.
-fn density_rest(state: &[f64], n: usize, k: usize, out: usize, scratch: usize) -> Answer
+fn density_rest(
+    state: &[f64],
+    n: usize,
+    k: usize,
+    out: usize,
+    scratch: usize,
+) -> Result<(), Refusal>
     requires { (n ≤ 12) × (k ≤ 6) }
     ensures { paper result ≡ density_rest state.now n k out scratch }
 {
     let size = submasks::bit(n);
     let dim = submasks::bit(k);
-    let first = density_lengths(size, dim, state.len(), out, scratch);
-    let Answer::Done = first else {
-        return first;
-    };
+    density_lengths(size, dim, state.len(), out, scratch)?;
     components::check_components(state)
 }
 
@@ -81,7 +83,7 @@ fn fill_density(state: &[f64], n: usize, list: &[usize], rest: usize, out: &mut 
     let dim = submasks::bit(k);
     let groups = submasks::bit(n - k);
     let mut offsets = [0usize; 64];
-    density_entries::fill_offsets(list, n, dim, &mut offsets);
+    qubit_offsets::fill_offsets(list, n, dim, &mut offsets);
     density_diagonal::fill_lower(state, n, rest, groups, &offsets, dim, out);
     density_entries::mirror(out, dim);
 }
@@ -95,18 +97,15 @@ pub fn density_over(
     rest: usize,
     out: &mut [f64],
     scratch: &mut [f64],
-) -> Answer
+) -> Result<(), Refusal>
     requires { DensityListed n list.now rest }
     ensures { DensityOver state.now n list.now out.old scratch.old result out.new scratch.new }
 {
-    let answer = density_rest(state, n, list.len(), out.len(), scratch.len());
-    let Answer::Done = answer else {
-        return answer;
-    };
+    density_rest(state, n, list.len(), out.len(), scratch.len())?;
     fill_density(state, n, list, rest, out);
     let need = 2 * submasks::bit(list.len());
     complex::zero_first(scratch, need);
-    Answer::Done
+    Ok(())
 }
 
 // The unscaled density of the listed qubits, row after row: refused by 1 to 4, 6 and 7.
@@ -117,13 +116,10 @@ pub fn dense_reduced_density(
     cap: usize,
     out: &mut [f64],
     scratch: &mut [f64],
-) -> Answer
+) -> Result<(), Refusal>
     ensures { Density state.now n list.now cap out.old scratch.old result out.new scratch.new }
 {
-    let first = qubit_offsets::density_refusal(list, n, cap);
-    let Answer::Done = first else {
-        return first;
-    };
+    qubit_offsets::density_refusal(list, n, cap)?;
     let mask = qubits::mask_of(list, n);
     let rest = submasks::bit(n) - 1 - mask;
     density_over(state, n, list, rest, out, scratch)

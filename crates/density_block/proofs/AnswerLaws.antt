@@ -4,7 +4,7 @@ use mathlib.Core.Bool.{not}
 use mathlib.Core.List.{List}
 use Prim.Native.Nat.{ℕ, ◌*◌, ◌^◌, ◌≤◌, ◌<◌}
 use native.Mathlib.Omega.{arith}
-use borrow.Author.Tests.{eq-eqb, ne_eqb, eqb-true, not-false}
+use borrow.Author.Tests.{eqb-true, not-false}
 use lib.Dec.{eqb}
 use lib.Ieee.{Float}
 use lib.ListN.{length, get_or}
@@ -20,15 +20,6 @@ use Rattle.density_block.proofs.FactorLaws.{width_power}
 -- ---- answer 1
 
 module _ (dim : ℕ) (l : List ℕ) (side : ℕ) where
-  pub sizes-places : ((qubit_set (width_of 6 dim) l).0 ≡ 0 → ⊥) → block_sizes dim l side ≡ (1, 0)
-  sizes-places n = rw (ne_eqb (qubit_set (width_of 6 dim) l).0 0 n)
-
-  pub sizes-side : (qubit_set (width_of 6 dim) l).0 ≡ 0 → (side ≡ 2 ^ length l → ⊥) → block_sizes dim l side ≡ (1, 0)
-  sizes-side e n = rw (eq-eqb (qubit_set (width_of 6 dim) l).0 0 e, ne_eqb side (2 ^ length l) n)
-
-  pub sizes-good : (qubit_set (width_of 6 dim) l).0 ≡ 0 → side ≡ 2 ^ length l → block_sizes dim l side ≡ done
-  sizes-good e h = rw (eq-eqb (qubit_set (width_of 6 dim) l).0 0 e, eq-eqb side (2 ^ length l) h)
-
   sizes-done : (block_sizes dim l side).0 ≡ 0 → ((qubit_set (width_of 6 dim) l).0 ≡ 0) × (side ≡ 2 ^ length l)
   sizes-done e =
       let a = refuse-done (not (eqb (qubit_set (width_of 6 dim) l).0 0)) 0 0 (refuse (not (eqb side (2 ^ length l))) (1, 0) done) e in

@@ -1,5 +1,5 @@
 -- Laws of what `specs/FactorLaws.antt` defines. Assumes nothing.
-use mathlib.Core.Path.{◌≡◌, refl, sym, ap, subst, ◌∙◌}
+use mathlib.Core.Path.{◌≡◌, refl, sym, ap, ◌∙◌}
 use mathlib.Core.Bool.{Bool, true, false, cond}
 use mathlib.Core.List.{List, [], ◌∷◌}
 use mathlib.Core.Logic.{⊎_elim}
@@ -87,9 +87,6 @@ index-step l j t index h g e =
     let s : j ≡ suc k = omega arith in
     ap (λ (x : ℕ). t / 2 ^ get_or l k 0 % 2 + 2 * x) (e ∙ ap (λ (x : ℕ). block_index (drop x l) t) s) ∙ index-more l k t (omega arith)
 
-pub index-all : (l : List ℕ) (j t index : ℕ) → j ≤ 0 → index ≡ block_index (drop j l) t → index ≡ block_index l t
-index-all l j t index h e = let z : j ≡ 0 = omega arith in e ∙ ap (λ (x : ℕ). block_index (drop x l) t) z
-
 -- the factor's cell of two indices lies in the factor
 pub factor-in : (s : List Float) (dim : ℕ) (l : List ℕ) (f : List Float) (side t u : ℕ) → Factored s dim l f side
     → 2 * (block_index l t * side + block_index l u) + 1 < length f
@@ -119,10 +116,6 @@ pub record AllSteps (dim : ℕ) (g : ℕ → ℕ → Complex) (s end : List Floa
   pub reached : (r c : ℕ) → r < t → c < dim → entry_at end dim r c ≡ product (entry_at s dim r c) (g r c)
   pub kept : (r c : ℕ) → r < dim → c < dim → t ≤ r → entry_at end dim r c ≡ entry_at s dim r c
 
-pub row-begin : (dim t : ℕ) (g : ℕ → Complex) (s : List Float) → FactorSteps dim t g s s 0
-row-begin dim t g s =
-    record { within = omega arith; long = refl; surplus = refl; reached = λ c h. absurd (omega arith); kept = λ r c a b n. refl }
-
 pub row_step : (dim t : ℕ) (g : ℕ → Complex) (s now end : List Float) (u : ℕ) (z : Complex) → Square dim s → t < dim → FactorSteps dim t g s now u → u < dim
     → z ≡ product (entry_at now dim t u) (g u) → end ≡ set_cell now (t * dim + u) z → FactorSteps dim t g s end (u + 1)
 row_step dim t g s now end u z p ht i hu ez ee =
@@ -143,29 +136,6 @@ row_step dim t g s now end u z p ht i hu ez ee =
           ∙ cell_other now (t * dim + u) (r * dim + c) z (λ e. n (same_row dim r c t u hc hu e) (omega (arith, same-column dim r c t u hc hu e)))
           ∙ i.kept r c hr hc (λ e h. n e (omega arith));
     }
-
-pub row-end : (dim t : ℕ) (g : ℕ → Complex) (s end : List Float) (u : ℕ) → FactorSteps dim t g s end u → dim ≤ u → FactorSteps dim t g s end dim
-row-end dim t g s end u i h = let e : u ≡ dim = omega (arith, i.within) in subst (λ (x : ℕ). FactorSteps dim t g s end x) e i
-
-pub all-begin : (dim : ℕ) (g : ℕ → ℕ → Complex) (s : List Float) → AllSteps dim g s s 0
-all-begin dim g s =
-    record { within = omega arith; long = refl; surplus = refl; reached = λ r c h k. absurd (omega arith); kept = λ r c a b h. refl }
-
-pub all-step : (dim : ℕ) (g : ℕ → ℕ → Complex) (s now end : List Float) (t : ℕ) → AllSteps dim g s now t → t < dim → FactorSteps dim t (g t) now end dim
-    → AllSteps dim g s end (t + 1)
-all-step dim g s now end t i h j = record {
-  within = omega arith;
-  long = j.long ∙ i.long;
-  surplus = j.surplus ∙ i.surplus;
-  reached = λ r c hr hc.
-      ⊎_elim
-      (λ (e : r ≡ t).
-      ap (λ (x : ℕ). entry_at end dim x c) e ∙ j.reached c hc ∙ ap (λ (x : Complex). product x (g t c)) (i.kept t c h hc (omega arith))
-      ∙ ap (λ (x : ℕ). product (entry_at s dim x c) (g x c)) (sym e))
-      (λ (q : r < t). j.kept r c (omega arith) hc (λ e k. omega arith) ∙ i.reached r c q hc)
-      (eq-or-lt_of_le (omega arith));
-  kept = λ r c hr hc q. j.kept r c hr hc (λ e k. omega arith) ∙ i.kept r c hr hc (omega arith);
-}
 
 pub all_end : (s : List Float) (dim : ℕ) (l : List ℕ) (f : List Float) (side : ℕ) (end : List Float) (t : ℕ) → length s ≡ 2 * (dim * dim)
     → AllSteps dim (factor_entry l f side) s end t → dim ≤ t → end ≡ multiplied s dim l f side

@@ -7,14 +7,13 @@ use native.Mathlib.Omega.{arith}
 use lib.Arith.{digits_lt}
 use lib.Ieee.{Float}
 use lib.ListN.{length}
-use Rattle.answers.specs.Paper.{and_then}
+use Rattle.answers.specs.Paper.{and_then, Answer}
 use Rattle.answers.proofs.PaperLaws.{and_then-done}
 use Rattle.numbers.specs.Numbers.{is_finite}
 use Rattle.complex.specs.Cells.{components}
 use Rattle.finite_products.proofs.Allowed.{cell-allowed}
 use Rattle.finite_products.proofs.Theorems.{product-finite}
 use Rattle.density_entries.specs.Squares.{entry_at}
-use Rattle.answers.specs.declared.Answer.{Answer}
 use Rattle.densities.specs.Square.{InPlace}
 use Rattle.densities.proofs.SquareLaws.{place-one}
 use Rattle.density_block.specs.Factor.{block_index, block_sizes, block_lengths, block_answer, factor_entry, multiplied_entry, multiplied}

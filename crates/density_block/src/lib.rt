@@ -7,18 +7,16 @@ ghost use Rattle.densities.specs.Square.{InPlace};
 ghost use Rattle.density_block.specs.Factor.{width_of, block_index, block_sizes, block_lengths, block_answer, factor_entry, multiplied, Below, Factored};
 ghost use Rattle.density_block.specs.FactorLoops.{FactorSteps};
 
-use answers::Answer;
+use answers::Refusal;
 
 // log2 of a power of two from 2 to 64; any other number gives 0, below which there is no position.
 fn width_of(dim: usize) -> usize
     ensures { result ≡ width_of 6 dim }
 {
-    let mut q: usize = 6;
-    while 0 < q {
+    for q in (1..7usize).rev() {
         if dim == submasks::bit(q) {
             return q;
         }
-        q -= 1;
     }
     0
 }
@@ -29,43 +27,37 @@ fn block_index(positions: &[usize], t: usize) -> usize
     ensures { result ≡ block_index positions.now t }
 {
     let mut index: usize = 0;
-    let mut j = positions.len();
-    while 0 < j {
-        j -= 1;
-        let p = positions[j];
-        index = (t >> p) % 2 + 2 * index;
+    for j in (0..positions.len()).rev() {
+        index = (t >> positions[j]) % 2 + 2 * index;
     }
     index
 }
 
 // Answer 1: dim a power of two, distinct positions below its logarithm, the factor's side 2 to their number.
-fn block_sizes(dim: usize, positions: &[usize], side: usize) -> Answer
+fn block_sizes(dim: usize, positions: &[usize], side: usize) -> Result<(), Refusal>
     ensures { paper result ≡ block_sizes dim positions.now side }
 {
-    let places = qubits::validate_qubit_set(positions, width_of(dim));
-    let Answer::Done = places else {
-        return Answer::Size;
+    let Ok(()) = qubits::validate_qubit_set(positions, width_of(dim)) else {
+        return Err(Refusal::Size);
     };
     if side != submasks::bit(positions.len()) {
-        return Answer::Size;
+        return Err(Refusal::Size);
     }
-    Answer::Done
+    Ok(())
 }
 
 // Answer 6: the matrix, slice 0, and the factor, slice 2, are exact.
-fn block_lengths(dim: usize, side: usize, rho: usize, factor: usize) -> Answer
+fn block_lengths(dim: usize, side: usize, rho: usize, factor: usize) -> Result<(), Refusal>
     requires { (dim ≤ 64) × (side ≤ 64) }
     ensures { paper result ≡ block_lengths dim side rho factor }
 {
-    let cells = dim * dim;
-    let entries = side * side;
-    if rho != 2 * cells {
-        return Answer::Length(0);
+    if rho != 2 * (dim * dim) {
+        return Err(Refusal::Length(0));
     }
-    if factor != 2 * entries {
-        return Answer::Length(2);
+    if factor != 2 * (side * side) {
+        return Err(Refusal::Length(2));
     }
-    Answer::Done
+    Ok(())
 }
 
 // The row t, each entry times the factor's at the two block indices.
@@ -81,13 +73,11 @@ fn multiply_row(
     ensures { FactorSteps dim t (factor_entry positions.now factor.now side t) rho.old rho.new dim }
 {
     let row = block_index(positions, t) * side;
-    let mut u: usize = 0;
-    while u < dim {
+    for u in 0..dim {
         let at = t * dim + u;
         let y = complex::read_cell(factor, row + block_index(positions, u));
         let x = complex::read_cell(rho, at);
         complex::write_cell(rho, at, x.mul(y));
-        u += 1;
     }
 }
 
@@ -96,29 +86,24 @@ fn multiply_rows(rho: &mut [f64], dim: usize, positions: &[usize], factor: &[f64
     requires { Factored rho.old dim positions.now factor.now side }
     ensures { rho.new ≡ multiplied rho.old dim positions.now factor.now side }
 {
-    let mut t: usize = 0;
-    while t < dim {
+    for t in 0..dim {
         multiply_row(rho, dim, t, positions, factor, side);
-        t += 1;
     }
 }
 
 // Answers 1 to 7.
-fn block_answer(rho: &[f64], dim: usize, positions: &[usize], factor: &[f64], side: usize) -> Answer
+fn block_answer(
+    rho: &[f64],
+    dim: usize,
+    positions: &[usize],
+    factor: &[f64],
+    side: usize,
+) -> Result<(), Refusal>
     ensures { paper result ≡ block_answer rho.now dim positions.now factor.now side }
 {
-    let first = block_sizes(dim, positions, side);
-    let Answer::Done = first else {
-        return first;
-    };
-    let second = block_lengths(dim, side, rho.len(), factor.len());
-    let Answer::Done = second else {
-        return second;
-    };
-    let third = components::check_components(rho);
-    let Answer::Done = third else {
-        return third;
-    };
+    block_sizes(dim, positions, side)?;
+    block_lengths(dim, side, rho.len(), factor.len())?;
+    components::check_components(rho)?;
     components::check_components(factor)
 }
 
@@ -129,13 +114,10 @@ pub fn multiply_block_factor(
     positions: &[usize],
     factor: &[f64],
     side: usize,
-) -> Answer
+) -> Result<(), Refusal>
     ensures { InPlace (block_answer rho.old dim positions.now factor.now side) (multiplied rho.old dim positions.now factor.now side) rho.old result rho.new }
 {
-    let answer = block_answer(rho, dim, positions, factor, side);
-    let Answer::Done = answer else {
-        return answer;
-    };
+    block_answer(rho, dim, positions, factor, side)?;
     multiply_rows(rho, dim, positions, factor, side);
-    Answer::Done
+    Ok(())
 }

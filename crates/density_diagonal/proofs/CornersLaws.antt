@@ -24,9 +24,6 @@ use Rattle.density_diagonal.specs.declared.Corner.{Corner}
 use Rattle.density_diagonal.proofs.OwnProduct.{own-product, zero-zero}
 use Rattle.density_diagonal.specs.Corners.{corner_of, corner_step, CornerSums}
 
-pub corner-same : {p p' q q' : Float} {z z' : Complex} → p ≡ p' → z ≡ z' → q ≡ q' → corner_of p z q ≡ corner_of p' z' q'
-corner-same {p} {p'} {q} {q'} {z} {z'} e f g = ap₂ (λ (x : Float) (y : Complex). corner_of x y q) e f ∙ ap (corner_of p' z') g
-
 pub record CornerSteps (n : ℕ) (s : List Float) (mask m a0 a1 : ℕ) (k : Corner) (base e : ℕ) : Type 0 where
   pub within : e ≤ m
   pub base-is : base ≡ submask_at n mask e
@@ -71,6 +68,3 @@ module _ (n : ℕ) (s : List Float) (mask m a0 a1 : ℕ) where
         (sym (ek ∙ ap (λ (x : ℕ). corner_step k (cell_at s (bit_or a0 x)) (cell_at s (bit_or a1 x))) i.base-is))
         (more k e ev (reached n s mask a0 a1 a0 a1 (submask_at n mask e) e a0 p refl p.a0-lt) (reached n s mask a0 a1 a0 a1 (submask_at n mask e) e a1 p refl p.a1-lt) i.sums);
   }
-
-  pub corner-end : (k : Corner) (base e : ℕ) → CornerSteps n s mask m a0 a1 k base e → m ≤ e → CornerSums n s mask m a0 a1 k
-  corner-end k base e i h = let g : e ≡ m = omega (arith, i.within) in subst (λ (x : ℕ). CornerSums n s mask x a0 a1 k) g i.sums

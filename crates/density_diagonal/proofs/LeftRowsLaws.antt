@@ -1,7 +1,7 @@
 -- Laws of what `specs/LeftRows.antt` defines. Assumes nothing.
 use mathlib.Core.Path.{◌≡◌, refl, sym, ap, ap₂, subst, ◌∙◌}
 use mathlib.Core.List.{List}
-use Prim.Native.Nat.{ℕ, ◌+◌, ◌*◌, ◌≤◌, ◌<◌}
+use Prim.Native.Nat.{ℕ, ◌+◌, ◌*◌, ◌<◌}
 use native.Mathlib.Omega.{arith}
 use lib.Ieee.{Float}
 use Rattle.complex.specs.declared.Complex.{Complex}
@@ -22,16 +22,6 @@ unfolding across_set
 across-written dim r c b old mid end {x} {y} {v} {w} em ee ex ey ev ew =
     ee ∙ ap₂ (λ (s : List Float) (z : Complex). set_pair s dim (c + 1) r z w) (em ∙ ap₂ (set_pair old dim c r) ex ey) ev
     ∙ ap (set_pair (set_pair old dim c r (complex_of b.first.re b.fourth.re) (complex_of b.first.im b.fourth.im)) dim (c + 1) r (complex_of b.second.re b.third.re)) ew
-
-pub left-begin : (dim t : ℕ) (f : ℕ → ℕ → Complex) (s : List Float) → LeftSteps dim t f s s 0
-left-begin dim t f s = record {
-  within = omega arith;
-  long = refl;
-  surplus = refl;
-  upper = record { at = λ c h. absurd (omega arith) };
-  lower = record { at = λ c h. absurd (omega arith) };
-  kept = λ r c h g. refl;
-}
 
 module _ (dim t : ℕ) (f : ℕ → ℕ → Complex) (s now : List Float) (u : ℕ) (h : 2 * t + 1 < dim) (i : LeftSteps dim t f s now u) where
   -- a pair right of the diagonal, above the two rows
@@ -74,7 +64,3 @@ module _ (dim t : ℕ) (f : ℕ → ℕ → Complex) (s now mid end : List Float
       (right_kept dim t f s _ (u + 1) h
       (right_kept dim t f s mid (u + 1) h j (2 * u) (complex_of b.first.re b.fourth.re) (complex_of b.first.im b.fourth.im) (omega arith))
       (2 * u + 1) (complex_of b.second.re b.third.re) (complex_of b.second.im b.third.im) (omega arith))
-
--- the loop's last step
-pub left_end : (dim t : ℕ) (f : ℕ → ℕ → Complex) (s end : List Float) (u : ℕ) → LeftSteps dim t f s end u → t ≤ u → LeftSteps dim t f s end t
-left_end dim t f s end u i h = let e : u ≡ t = omega (arith, i.within) in subst (λ (x : ℕ). LeftSteps dim t f s end x) e i

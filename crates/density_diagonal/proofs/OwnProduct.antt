@@ -1,7 +1,7 @@
 -- A number with allowed components times its own conjugate: the imaginary part is +0.0, always. Assumes nothing.
 use mathlib.Core.Path.{◌≡◌, refl, sym, ap, ap₂, ◌∙◌}
 use mathlib.Core.Bool.{true, false}
-use Prim.Native.Nat.{◌-◌, ◌*◌}
+use Prim.Native.Nat.{◌*◌}
 use native.Mathlib.Nat.{mul-pos}
 use lib.Ieee.{Float, nan, inf, fin, binary64, add, mul, neg, sum, up, down, of_bits}
 use Rattle.numbers.specs.Numbers.{allowed, is_finite}

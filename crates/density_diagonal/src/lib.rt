@@ -23,13 +23,13 @@ pub struct Corner {
 }
 
 impl Corner {
+    #[tactic(auto, unfolding(crate::specs::Corners::corner_step))]
     fn step(self, a0: Complex, a1: Complex) -> Corner
         ensures { result ≡ corner_step self a0 a1 }
     {
-        let between = self.between;
         Corner {
             first: self.first + a0.norm_sqr(),
-            between: between.add_term(a1, a0),
+            between: self.between.add_term(a1, a0),
             last: self.last + a1.norm_sqr(),
         }
     }
@@ -47,13 +47,11 @@ fn corner_sums(state: &[f64], n: usize, mask: usize, groups: usize, a0: usize, a
         last: 0.0,
     };
     let mut base: usize = 0;
-    let mut e: usize = 0;
-    while e < groups {
+    for _ in 0..groups {
         let x0 = complex::read_cell(state, a0 | base);
         let x1 = complex::read_cell(state, a1 | base);
         corner = corner.step(x0, x1);
         base = submasks::next_submask(base, mask);
-        e += 1;
     }
     corner
 }
@@ -92,17 +90,18 @@ fn write_across(out: &mut [f64], dim: usize, r: usize, c: usize, block: Block)
     requires { Square dim out.old × (c + 1 < dim) × (r + 1 < dim) }
     ensures { out.new ≡ across_set out.old dim r c block }
 {
-    let p = block.first;
-    let q = block.second;
-    let s = block.third;
-    let z = block.fourth;
-    let next = c + 1;
+    let Block {
+        first: p,
+        second: q,
+        third: s,
+        fourth: z,
+    } = block;
     let x = Complex::new(p.re, z.re);
     let y = Complex::new(p.im, z.im);
     density_entries::write_pair(out, dim, c, r, x, y);
     let v = Complex::new(q.re, s.re);
     let w = Complex::new(q.im, s.im);
-    density_entries::write_pair(out, dim, next, r, v, w);
+    density_entries::write_pair(out, dim, c + 1, r, v, w);
 }
 
 // The rows 2t and 2t + 1 left of the diagonal block, a block at a time.
@@ -124,8 +123,7 @@ fn fill_left(
     let below = r + 1;
     let a0 = offsets[r];
     let a1 = offsets[below];
-    let mut u: usize = 0;
-    while u < t {
+    for u in 0..t {
         let c = 2 * u;
         let next = c + 1;
         let block = density_entries::block_sums(
@@ -141,7 +139,6 @@ fn fill_left(
         density_entries::write_pair(out, dim, r, c, block.first, block.second);
         density_entries::write_pair(out, dim, below, c, block.third, block.fourth);
         write_across(out, dim, r, c, block);
-        u += 1;
     }
 }
 
@@ -159,12 +156,9 @@ fn fill_blocks(
     requires square { Square dim out.old }
     ensures { LowerSteps dim (table_entry n state.now mask groups offsets.now) out.old out.new (dim / 2) }
 {
-    let half = dim / 2;
-    let mut t: usize = 0;
-    while t < half {
+    for t in 0..dim / 2 {
         fill_left(state, n, mask, groups, offsets, dim, t, out);
         fill_corner(state, n, mask, groups, offsets, dim, t, out);
-        t += 1;
     }
 }
 
@@ -183,13 +177,9 @@ pub fn fill_lower(
     requires square { Square dim out.old × (groups * dim ≤ 4096) }
     ensures { LowerSteps dim (table_entry n state.now mask groups offsets.now) out.old out.new (dim / 2) }
 {
-    if n < 10 {
+    if n < 10 || dim < 16 {
         fill_blocks(state, n, mask, groups, offsets, dim, out);
-        return;
+    } else {
+        density_rows::fill_lower(state, n, mask, groups, offsets, dim, out);
     }
-    if dim < 16 {
-        fill_blocks(state, n, mask, groups, offsets, dim, out);
-        return;
-    }
-    density_rows::fill_lower(state, n, mask, groups, offsets, dim, out);
 }

@@ -2,16 +2,13 @@
 use mathlib.Core.Path.{◌≡◌, refl, sym, ap, ap₂, ◌∙◌}
 use mathlib.Core.Bool.{Bool, true, false}
 use mathlib.Core.List.{List, ◌++◌}
-use mathlib.Core.Logic.{⊎_elim}
-use Prim.Native.Nat.{ℕ, zero, suc, ◌+◌, ◌-◌, ◌*◌, ◌/◌, ◌%◌, ◌≤◌, ◌<◌, ◌^◌}
-use native.Mathlib.Nat.{eq-or-lt_of_le}
+use Prim.Native.Nat.{ℕ, zero, suc, ◌-◌, ◌*◌, ◌/◌, ◌%◌, ◌≤◌, ◌<◌, ◌^◌}
 use native.Mathlib.Omega.{arith}
 use borrow.Author.Tests.{leb-true, leb-false}
 use lib.Bits.{bit_or}
 use lib.Dec.{leb}
 use lib.Ieee.{Float}
-use lib.ListN.{length, get_or, set, drop, length-set}
-use lib.Seq.{get_or-set_same, get_or-set_other}
+use lib.ListN.{length, get_or, drop}
 use Rattle.complex.specs.declared.Complex.{Complex}
 use Rattle.complex.specs.Arithmetic.{sum_of, product, conjugate}
 use Rattle.complex.specs.Cells.{cell_at, written}
@@ -25,7 +22,6 @@ use Rattle.density_entries.specs.Squares.{entry_at, mirror_cell, mirrored, mirro
 use Rattle.density_entries.proofs.MirroredLaws.{row_of, column-of}
 use Rattle.density_entries.specs.Entries.{total, lower_entry, density_cell, entry_sum}
 use Rattle.density_entries.specs.Filled.{table_entry}
-use Rattle.density_entries.specs.OffsetLoop.{OffsetSteps}
 
 -- two sums of the same terms
 pub total-same : (m : ℕ) (f g : ℕ → Complex) → ((e : ℕ) → f e ≡ g e) → total m f ≡ total m g
@@ -41,29 +37,11 @@ lower-by-submasks n l s t u p =
     (λ e.
     ap (λ (x : ℕ). product (cell_at s (bit_or (row_offset l t) x)) (conjugate (cell_at s (bit_or (row_offset l u) x)))) (traced-submask n l p e))
 
-pub offset-begin : (l : List ℕ) (dim : ℕ) (old : List ℕ) → OffsetSteps l dim old old 0
-offset-begin l dim old = record { within = omega arith; long = refl; are = λ k h. absurd (omega arith) }
-
-pub offset_step : (l : List ℕ) (dim : ℕ) (old now : List ℕ) (t x : ℕ) → OffsetSteps l dim old now t → t < dim → dim ≤ length old → x ≡ row_offset l t
-    → OffsetSteps l dim old (set now t x) (t + 1)
-offset_step l dim old now t x i h room e = record {
-  within = omega arith;
-  long = length-set now t x ∙ i.long;
-  are = λ k g.
-      ⊎_elim
-      (λ (q : k ≡ t). ap (λ (y : ℕ). get_or (set now t x) y 0) q ∙ get_or-set_same now t x 0 (omega (arith, i.long)) ∙ e ∙ ap (row_offset l) (sym q))
-      (λ (q : k < t). get_or-set_other now t k x 0 (λ y. omega arith) ∙ i.are k q)
-      (eq-or-lt_of_le (omega arith));
-}
-
-pub offset-end : (l : List ℕ) (dim : ℕ) (old end : List ℕ) (t : ℕ) → OffsetSteps l dim old end t → dim ≤ t → OffsetSteps l dim old end dim
-offset-end l dim old end t i h = record { within = omega arith; long = i.long; are = λ k g. i.are k (omega arith) }
-
 -- an entry by the table
-pub table-entry : (n : ℕ) (l : List ℕ) (s : List Float) (old table : List ℕ) (dim t u : ℕ) → Listed n l → OffsetSteps l dim old table dim → t < dim → u < dim
+pub table-entry : (n : ℕ) (l : List ℕ) (s : List Float) (table : List ℕ) (dim t u : ℕ) → Listed n l → ((k : ℕ) → k < dim → get_or table k 0 ≡ row_offset l k) → t < dim → u < dim
     → table_entry n s (others n (named l)) (2 ^ (n - length l)) table t u ≡ lower_entry n l s t u
-table-entry n l s old table dim t u p o ht hu =
-    ap₂ (entry_sum n s (others n (named l)) (2 ^ (n - length l))) (o.are t ht) (o.are u hu) ∙ sym (lower-by-submasks n l s t u p)
+table-entry n l s table dim t u p o ht hu =
+    ap₂ (entry_sum n s (others n (named l)) (2 ^ (n - length l))) (o t ht) (o u hu) ∙ sym (lower-by-submasks n l s t u p)
 
 -- ---- the lower half filled, and then mirrored
 

@@ -1,8 +1,8 @@
 -- Laws of what `specs/Filled.antt` defines. Assumes nothing.
-use mathlib.Core.Path.{◌≡◌, refl, sym, ap, subst, ◌∙◌}
+use mathlib.Core.Path.{◌≡◌, sym, ap, subst, ◌∙◌}
 use mathlib.Core.List.{List}
 use mathlib.Core.Logic.{⊎_elim}
-use Prim.Native.Nat.{ℕ, ◌+◌, ◌*◌, ◌/◌, ◌%◌, ◌≤◌, ◌<◌}
+use Prim.Native.Nat.{ℕ, ◌+◌, ◌*◌, ◌<◌}
 use native.Mathlib.Nat.{eq-or-lt_of_le}
 use native.Mathlib.Omega.{arith}
 use lib.Ieee.{Float}
@@ -26,16 +26,6 @@ ready-reach n s mask offsets dim r c p hr hc = record {
   a1-lt = p.below (r + 1) hr;
   b0-lt = p.below c (omega arith);
   b1-lt = p.below (c + 1) hc;
-}
-
-pub pair-begin : (dim t : ℕ) (f : ℕ → ℕ → Complex) (s : List Float) → PairSteps dim t f s s 0
-pair-begin dim t f s = record {
-  within = omega arith;
-  long = refl;
-  surplus = refl;
-  upper = record { at = λ c h. absurd (omega arith) };
-  lower = record { at = λ c h. absurd (omega arith) };
-  kept = λ r c h g. refl;
 }
 
 module _ (dim t : ℕ) (f : ℕ → ℕ → Complex) (s now end : List Float) (u : ℕ) (b : Block) (p : Square dim s) (ht : 2 * t + 1 < dim) where
@@ -71,21 +61,6 @@ module _ (dim t : ℕ) (f : ℕ → ℕ → Complex) (s now end : List Float) (u
       } in
       subst (λ (x : List Float). PairSteps dim t f s x (u + 1)) (sym ee) whole
 
--- a loop's last step
-pub pair_end : (dim t : ℕ) (f : ℕ → ℕ → Complex) (s end : List Float) (u stop : ℕ) → PairSteps dim t f s end u → stop ≤ u → stop ≤ t + 1
-    → PairSteps dim t f s end stop
-pair_end dim t f s end u stop i h g = record {
-  within = g;
-  long = i.long;
-  surplus = i.surplus;
-  upper = record { at = λ c l. i.upper.at c (omega arith) };
-  lower = record { at = λ c l. i.lower.at c (omega arith) };
-  kept = i.kept;
-}
-
-pub lower-begin : (dim : ℕ) (f : ℕ → ℕ → Complex) (s : List Float) → LowerSteps dim f s s 0
-lower-begin dim f s = record { within = omega arith; long = refl; surplus = refl; rows = λ r c h g. absurd (omega arith) }
-
 pub lower-step : (dim : ℕ) (f : ℕ → ℕ → Complex) (s now end : List Float) (t : ℕ) → LowerSteps dim f s now t → 2 * t + 1 < dim
     → PairSteps dim t f now end (t + 1) → LowerSteps dim f s end (t + 1)
 lower-step dim f s now end t i h j = record {
@@ -102,7 +77,3 @@ lower-step dim f s now end t i h j = record {
       (eq-or-lt_of_le (omega arith)))
       (eq-or-lt_of_le (omega arith));
 }
-
-pub lower-end : (dim : ℕ) (f : ℕ → ℕ → Complex) (s end : List Float) (t : ℕ) → dim % 2 ≡ 0 → LowerSteps dim f s end t → dim / 2 ≤ t
-    → LowerSteps dim f s end (dim / 2)
-lower-end dim f s end t ev i h = let e : t ≡ dim / 2 = omega (arith, i.within) in subst (λ (x : ℕ). LowerSteps dim f s end x) e i

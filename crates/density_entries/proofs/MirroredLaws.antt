@@ -44,9 +44,6 @@ pub record MirrorSteps (dim : ℕ) (s end : List Float) (t : ℕ) : Type 0 where
   pub mirrored : (r c : ℕ) → r < c → c < t → entry_at end dim r c ≡ conjugate (entry_at s dim c r)
   pub kept : (r c : ℕ) → r < dim → c < dim → (r < c → c < t → ⊥) → entry_at end dim r c ≡ entry_at s dim r c
 
-pub column-begin : (dim t : ℕ) (s : List Float) → ColumnSteps dim t s s 0
-column-begin dim t s = record { within = omega arith; long = refl; surplus = refl; mirrored = λ r h. absurd (omega arith); kept = λ r c a b n. refl }
-
 pub column-step : (dim t : ℕ) (s now end : List Float) (u : ℕ) (z : Complex) → Square dim s → t < dim → ColumnSteps dim t s now u → u < t
     → z ≡ conjugate (entry_at now dim t u) → end ≡ set_cell now (u * dim + t) z → ColumnSteps dim t s end (u + 1)
 column-step dim t s now end u z p ht i hu ez ee =
@@ -69,30 +66,8 @@ column-step dim t s now end u z p ht i hu ez ee =
           ∙ i.kept r c hr hc (λ e h. n e (omega arith));
     }
 
--- a loop's last step
-pub column-end : (dim t : ℕ) (s end : List Float) (u : ℕ) → ColumnSteps dim t s end u → t ≤ u → ColumnSteps dim t s end t
-column-end dim t s end u i h = let e : u ≡ t = omega (arith, i.within) in subst (λ (x : ℕ). ColumnSteps dim t s end x) e i
-
 pub row-end : (dim : ℕ) (s end : List Float) (t : ℕ) → MirrorSteps dim s end t → dim ≤ t → MirrorSteps dim s end dim
 row-end dim s end t i h = let e : t ≡ dim = omega (arith, i.within) in subst (λ (x : ℕ). MirrorSteps dim s end x) e i
-
-pub row-begin : (dim : ℕ) (s : List Float) → MirrorSteps dim s s 0
-row-begin dim s = record { within = omega arith; long = refl; surplus = refl; mirrored = λ r c g h. absurd (omega arith); kept = λ r c a b n. refl }
-
-pub row_step : (dim : ℕ) (s now end : List Float) (t : ℕ) → MirrorSteps dim s now t → t < dim → ColumnSteps dim t now end t → MirrorSteps dim s end (t + 1)
-row_step dim s now end t i ht j = record {
-  within = omega arith;
-  long = j.long ∙ i.long;
-  surplus = j.surplus ∙ i.surplus;
-  mirrored = λ r c g h.
-      ⊎_elim
-      (λ (e : c ≡ t).
-      let gt : r < t = omega arith in
-      ap (λ (x : ℕ). entry_at end dim r x) e ∙ j.mirrored r gt ∙ ap conjugate (i.kept t r ht (omega arith) (λ a b. omega arith)) ∙ ap (λ (x : ℕ). conjugate (entry_at s dim x r)) (sym e))
-      (λ (l : c < t). j.kept r c (omega arith) (omega arith) (λ e q. omega arith) ∙ i.mirrored r c g l)
-      (eq-or-lt_of_le (omega arith));
-  kept = λ r c hr hc n. j.kept r c hr hc (λ e q. n (omega arith) (omega arith)) ∙ i.kept r c hr hc (λ a b. n a (omega arith));
-}
 
 -- when the rows are done, each entry is the mirrored one
 entry-end : (dim : ℕ) (s end : List Float) (r c : ℕ) → MirrorSteps dim s end dim → r < dim → c < dim → (b : Bool) → leb c r ≡ b

@@ -5,4 +5,3 @@ pub mod Entries
 pub mod Blocks
 pub mod Pairs
 pub mod Filled
-pub mod OffsetLoop

@@ -2,12 +2,10 @@
 #![tactic(auto)]
 
 ghost use Rattle.std.specs.Prelude.{◌≡◌, ◌+◌, ◌*◌, ◌/◌, ◌<◌, ◌≤◌, length};
-ghost use Rattle.qubits.specs.Lists.{Listed};
 ghost use Rattle.density_entries.specs.Squares.{mirrored, Square};
 ghost use Rattle.density_entries.specs.Blocks.{block_step, block_sums, Reach};
 ghost use Rattle.density_entries.specs.Pairs.{set_pair};
 ghost use Rattle.density_entries.specs.Filled.{table_entry, EntriesReady, PairSteps, LowerSteps};
-ghost use Rattle.density_entries.specs.OffsetLoop.{OffsetSteps};
 ghost use Rattle.density_entries.specs.Mirrored.{ColumnSteps};
 
 use complex::Complex;
@@ -22,18 +20,15 @@ pub struct Block {
 }
 
 impl Block {
+    #[tactic(auto, unfolding(crate::specs::Blocks::block_step))]
     fn step(self, a0: Complex, a1: Complex, b0: Complex, b1: Complex) -> Block
         ensures { result ≡ block_step self a0 a1 b0 b1 }
     {
-        let p = self.first;
-        let q = self.second;
-        let r = self.third;
-        let s = self.fourth;
         Block {
-            first: p.add_term(a0, b0),
-            second: q.add_term(a0, b1),
-            third: r.add_term(a1, b0),
-            fourth: s.add_term(a1, b1),
+            first: self.first.add_term(a0, b0),
+            second: self.second.add_term(a0, b1),
+            third: self.third.add_term(a1, b0),
+            fourth: self.fourth.add_term(a1, b1),
         }
     }
 }
@@ -60,15 +55,13 @@ pub fn block_sums(
         fourth: zero,
     };
     let mut base: usize = 0;
-    let mut e: usize = 0;
-    while e < groups {
+    for _ in 0..groups {
         let x0 = complex::read_cell(state, a0 | base);
         let x1 = complex::read_cell(state, a1 | base);
         let y0 = complex::read_cell(state, b0 | base);
         let y1 = complex::read_cell(state, b1 | base);
         block = block.step(x0, x1, y0, y1);
         base = submasks::next_submask(base, mask);
-        e += 1;
     }
     block
 }
@@ -102,15 +95,12 @@ fn fill_row_pair(
     let below = r + 1;
     let a0 = offsets[r];
     let a1 = offsets[below];
-    let stop = t + 1;
-    let mut u: usize = 0;
-    while u < stop {
+    for u in 0..t + 1 {
         let c = 2 * u;
         let next = c + 1;
         let block = block_sums(state, n, mask, groups, a0, a1, offsets[c], offsets[next]);
         write_pair(out, dim, r, c, block.first, block.second);
         write_pair(out, dim, below, c, block.third, block.fourth);
-        u += 1;
     }
 }
 
@@ -128,24 +118,8 @@ pub fn fill_lower(
     requires square { Square dim out.old }
     ensures { LowerSteps dim (table_entry n state.now mask groups offsets.now) out.old out.new (dim / 2) }
 {
-    let half = dim / 2;
-    let mut t: usize = 0;
-    while t < half {
+    for t in 0..dim / 2 {
         fill_row_pair(state, n, mask, groups, offsets, dim, t, out);
-        t += 1;
-    }
-}
-
-// The table of the row offsets below dim.
-pub fn fill_offsets(list: &[usize], n: usize, dim: usize, offsets: &mut [usize])
-    requires listed { Listed n list.now }
-    requires dim_in_bounds { dim ≤ length offsets.old }
-    ensures { OffsetSteps list.now dim offsets.old offsets.new dim }
-{
-    let mut t: usize = 0;
-    while t < dim {
-        offsets[t] = qubits::row_offset(list, n, t);
-        t += 1;
     }
 }
 
@@ -154,11 +128,9 @@ fn mirror_column(rho: &mut [f64], dim: usize, t: usize)
     requires { Square dim rho.old × (t < dim) }
     ensures { ColumnSteps dim t rho.old rho.new t }
 {
-    let mut u: usize = 0;
-    while u < t {
+    for u in 0..t {
         let z = complex::read_cell(rho, t * dim + u);
         complex::write_cell(rho, u * dim + t, z.conj());
-        u += 1;
     }
 }
 
@@ -167,9 +139,7 @@ pub fn mirror(rho: &mut [f64], dim: usize)
     requires { Square dim rho.old }
     ensures { rho.new ≡ mirrored rho.old dim }
 {
-    let mut t: usize = 0;
-    while t < dim {
+    for t in 0..dim {
         mirror_column(rho, dim, t);
-        t += 1;
     }
 }

@@ -17,9 +17,8 @@ use lib.Seq.{get_or-set_same, get_or-set_other}
 use lib.Pow.{pow_pos, pow_mono, shr-shr}
 use Rattle.submasks.specs.Submasks.{submask_at, submask_number}
 use Rattle.submasks.proofs.SubmaskLaws.{submask_at-zero, submask_at-even, submask_at-odd, submask_at-first, submask_number-even, submask_number-odd, submask_number-zero, submask_number-lt, submask_count-le, digit, le-or-lt}
-use Rattle.answers.specs.declared.Answer.{Answer}
-use Rattle.answers.specs.Paper.{Reply, paper, done, refuse, and_then}
-use Rattle.answers.proofs.PaperLaws.{refuse-done, and_then-done, done-new, done-old}
+use Rattle.answers.specs.Paper.{done, refuse, and_then}
+use Rattle.answers.proofs.PaperLaws.{refuse-done, and_then-done}
 use Rattle.qubits.specs.Lists.{qubit_set, subsystem}
 use Rattle.qubits.proofs.NamedLaws.{sizes-product, is-listed, not-empty}
 use Rattle.complex.specs.declared.Complex.{Complex}
@@ -38,7 +37,7 @@ use Rattle.cut_sides.proofs.SideLaws.{named-yes, named-no}
 use Rattle.agreement.specs.FromCut.{number_of, pair_place, cut_entry}
 use Rattle.agreement.proofs.SameDensity.{number_lt, total-same}
 use Rattle.density_recount.specs.declared.Layout.{Layout}
-use Rattle.density_recount.specs.Recount.{recount_sizes, recount_lengths, recount_answer, recounted, DensityFromCut, layout_of, RecountAccepted, Numbers}
+use Rattle.density_recount.specs.Recount.{recount_sizes, recount_lengths, recount_answer, recounted, layout_of, RecountAccepted, Numbers}
 
 -- ---- the submasks of the lowest bits, and of all others
 
@@ -193,9 +192,6 @@ scaled_small n mask x y scale h e g =
     mul-le-mul a g
 
 module _ (l : List ℕ) (n scale dim : ℕ) (old : List ℕ) where
-  pub numbers-begin : Numbers l n scale dim old old 0
-  numbers-begin = record { within = omega arith; long = refl; are = λ k h. absurd (omega arith) }
-
   pub numbers-step : (now : List ℕ) (t x : ℕ) → Numbers l n scale dim old now t → t < dim → dim ≤ length old → x ≡ number_of n l t * scale
       → Numbers l n scale dim old (set now t x) (t + 1)
   numbers-step now t x i h room e = record {
@@ -208,9 +204,6 @@ module _ (l : List ℕ) (n scale dim : ℕ) (old : List ℕ) where
         (λ (q : k < t). get_or-set_other now t k x 0 (λ y. omega arith) ∙ i.are k q)
         (eq-or-lt_of_le (omega arith));
   }
-
-  pub numbers-end : (end : List ℕ) (t : ℕ) → Numbers l n scale dim old end t → dim ≤ t → Numbers l n scale dim old end dim
-  numbers-end end t i h = record { within = omega arith; long = i.long; are = λ k g. i.are k (omega arith) }
 
 -- ---- the stages
 
@@ -308,12 +301,3 @@ recount-accepted m n l cap o e =
       matrix = eqb-true (length m) (2 * 2 ^ n) (not-false (eqb (length m) (2 * 2 ^ n)) d.0);
       room = ltb-false o (2 * (2 ^ length l * 2 ^ length l)) (refuse-done (ltb o (2 * (2 ^ length l * 2 ^ length l))) 5 2 done d.1).0;
     }
-
--- ---- the call
-
-module _ (m : List Float) (n : ℕ) (l : List ℕ) (cap : ℕ) (o : List Float) (r : Answer) (e : paper r ≡ recount_answer m n l cap (length o)) where
-  pub recount-refused : ((paper r).0 ≡ 0 → ⊥) → DensityFromCut m n l cap o r o
-  recount-refused h = record { answer = e; cells = done-old _ _ o (λ x. h (ap (λ (y : Reply). y.0) e ∙ x)) }
-
-  pub recount-done : (end : List Float) → (paper r).0 ≡ 0 → end ≡ recounted n l m o → DensityFromCut m n l cap o r end
-  recount-done end h c = record { answer = e; cells = c ∙ done-new _ _ o (sym (ap (λ (y : Reply). y.0) e) ∙ h) }

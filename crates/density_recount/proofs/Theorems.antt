@@ -1,13 +1,12 @@
 -- What a reader may want to know of this crate's definitions and calls. Assumes nothing.
 use mathlib.Core.Path.{◌≡◌, sym, ◌∙◌, ap}
 use mathlib.Core.List.{List, []}
-use Prim.Native.Nat.{ℕ, ◌-◌, ◌*◌, ◌^◌}
+use Prim.Native.Nat.{ℕ, ◌*◌, ◌^◌}
 use lib.Ieee.{Float}
-use Rattle.answers.specs.declared.Answer.{Answer}
+use Rattle.answers.specs.Paper.{Answer, Reply, paper}
 use Rattle.answers.proofs.PaperLaws.{done-new}
 use Rattle.answers.proofs.Theorems.{paper-one}
 use lib.ListN.{length, take}
-use Rattle.answers.specs.Paper.{Reply, paper}
 use Rattle.complex.specs.Cells.{written}
 use Rattle.cuts.specs.Cut.{cut_cell, CutMatrix}
 use Rattle.densities.specs.Density.{Density}

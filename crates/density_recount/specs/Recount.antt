@@ -1,7 +1,6 @@
 -- The call that sums the density from a lent cut matrix alone: its answer, and what it leaves behind. Assumes nothing.
 use Rattle.std.specs.Prelude.{Bool, true, false, not, ◌≡◌, List, ℕ, ◌+◌, ◌-◌, ◌*◌, ◌^◌, ◌≤◌, ◌<◌, min, ltb, eqb, Float, length, get_or}
-use Rattle.answers.specs.declared.Answer.{Answer}
-use Rattle.answers.specs.Paper.{Reply, paper, done, refuse, and_then, if_done}
+use Rattle.answers.specs.Paper.{Answer, Reply, paper, done, refuse, and_then, if_done}
 use Rattle.qubits.specs.Lists.{register, subsystem}
 use Rattle.complex.specs.Cells.{written, components}
 use Rattle.cut_sides.specs.Sides.{Parted}

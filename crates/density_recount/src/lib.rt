@@ -8,43 +8,30 @@ ghost use Rattle.qubits.specs.Lists.{Listed};
 ghost use Rattle.qubits.specs.Spread.{named};
 ghost use Rattle.density_recount.specs.Recount.{recount_sizes, recount_lengths, recount_answer, recounted, DensityFromCut, layout_of, RecountAccepted, Numbers};
 
-use answers::Answer;
+use answers::Refusal;
 
 // Inner. Answer 1: the register, then a cut's n+1 and a density's 2k against the cap.
-pub fn recount_size(n: usize, k: usize, cap: usize) -> Answer
+pub fn recount_size(n: usize, k: usize, cap: usize) -> Result<(), Refusal>
     ensures { paper result ≡ recount_sizes n k cap }
 {
-    if n < 1 {
-        return Answer::Size;
+    if n < 1 || 12 < n || cap < n + 1 || 6 < k || cap < 2 * k {
+        return Err(Refusal::Size);
     }
-    if 12 < n {
-        return Answer::Size;
-    }
-    if cap < n + 1 {
-        return Answer::Size;
-    }
-    if 6 < k {
-        return Answer::Size;
-    }
-    if cap < 2 * k {
-        return Answer::Size;
-    }
-    Answer::Done
+    Ok(())
 }
 
 // Answer 6: the matrix, slice 0, is exact; out, slice 2, may be longer.
-fn recount_lengths(size: usize, dim: usize, matrix: usize, out: usize) -> Answer
+fn recount_lengths(size: usize, dim: usize, matrix: usize, out: usize) -> Result<(), Refusal>
     requires { (size ≤ 4096) × (dim ≤ 64) }
     ensures { paper result ≡ recount_lengths size dim matrix out }
 {
-    let cells = dim * dim;
     if matrix != 2 * size {
-        return Answer::Length(0);
+        return Err(Refusal::Length(0));
     }
-    if out < 2 * cells {
-        return Answer::Length(2);
+    if out < 2 * (dim * dim) {
+        return Err(Refusal::Length(2));
     }
-    Answer::Done
+    Ok(())
 }
 
 // The number of the submask x & mask among the submasks of the mask, rising: the bits of x that the mask has, packed.
@@ -53,9 +40,7 @@ fn number_in(x: usize, mask: usize, n: usize) -> usize
     ensures { result ≡ submask_number n mask x }
 {
     let mut number: usize = 0;
-    let mut q = n;
-    while 0 < q {
-        q -= 1;
+    for q in (0..n).rev() {
         if (mask >> q) & 1 == 1 {
             number = number * 2 + ((x >> q) & 1);
         }
@@ -76,14 +61,15 @@ pub fn layout_of(named: bool, rows: usize, size: usize) -> Layout
     ensures { result ≡ layout_of named rows size }
 {
     if named {
-        return Layout {
+        Layout {
             mask: size - rows,
             scale: 1,
-        };
-    }
-    Layout {
-        mask: rows - 1,
-        scale: rows,
+        }
+    } else {
+        Layout {
+            mask: rows - 1,
+            scale: rows,
+        }
     }
 }
 
@@ -100,10 +86,8 @@ pub fn fill_numbers(
     requires mask_value { (mask ≡ named list.now) × (scale ≤ 4096) × (dim ≤ length table.old) }
     ensures { Numbers list.now n scale dim table.old table.new dim }
 {
-    let mut t: usize = 0;
-    while t < dim {
+    for t in 0..dim {
         table[t] = number_in(qubits::row_offset(list, n, t), mask, n) * scale;
-        t += 1;
     }
 }
 
@@ -125,22 +109,19 @@ pub fn sum_from_cut(matrix: &[f64], n: usize, list: &[usize], out: &mut [f64])
 }
 
 // Answers 1 to 7 where out has so many numbers.
-fn recount_answer(matrix: &[f64], n: usize, list: &[usize], cap: usize, out: usize) -> Answer
+fn recount_answer(
+    matrix: &[f64],
+    n: usize,
+    list: &[usize],
+    cap: usize,
+    out: usize,
+) -> Result<(), Refusal>
     ensures { paper result ≡ recount_answer matrix.now n list.now cap out }
 {
     let k = list.len();
-    let first = recount_size(n, k, cap);
-    let Answer::Done = first else {
-        return first;
-    };
-    let second = qubits::validate_subsystem(list, n);
-    let Answer::Done = second else {
-        return second;
-    };
-    let third = recount_lengths(submasks::bit(n), submasks::bit(k), matrix.len(), out);
-    let Answer::Done = third else {
-        return third;
-    };
+    recount_size(n, k, cap)?;
+    qubits::validate_subsystem(list, n)?;
+    recount_lengths(submasks::bit(n), submasks::bit(k), matrix.len(), out)?;
     components::check_components(matrix)
 }
 
@@ -151,13 +132,10 @@ pub fn density_from_cut(
     list: &[usize],
     cap: usize,
     out: &mut [f64],
-) -> Answer
+) -> Result<(), Refusal>
     ensures { DensityFromCut matrix.now n list.now cap out.old result out.new }
 {
-    let answer = recount_answer(matrix, n, list, cap, out.len());
-    let Answer::Done = answer else {
-        return answer;
-    };
+    recount_answer(matrix, n, list, cap, out.len())?;
     sum_from_cut(matrix, n, list, out);
-    Answer::Done
+    Ok(())
 }

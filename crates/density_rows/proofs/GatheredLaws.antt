@@ -1,9 +1,9 @@
 -- Laws of what `specs/Gathered.antt` defines. Assumes nothing.
-use mathlib.Core.Path.{◌≡◌, refl, sym, ap, subst, ◌∙◌}
+use mathlib.Core.Path.{◌≡◌, sym, ap, ◌∙◌}
 use mathlib.Core.List.{List}
 use mathlib.Core.Logic.{⊎_elim}
 use Prim.Native.Nat.{ℕ, ◌+◌, ◌*◌, ◌≤◌, ◌<◌, ◌^◌}
-use native.Mathlib.Nat.{eq-or-lt_of_le, suc-mul, mul-le-mul_right}
+use native.Mathlib.Nat.{eq-or-lt_of_le}
 use native.Mathlib.Numerals.{add-one}
 use native.Mathlib.Omega.{arith}
 use lib.Arith.{digits_lt}
@@ -21,9 +21,6 @@ use Rattle.density_rows.proofs.PlaneChanges.{plane-same, plane-other}
 use Rattle.density_rows.specs.Gathered.{amplitude_of, reach, OneSteps, Gathered}
 
 module _ (s : List Float) (offsets : List ℕ) (base at : ℕ) (old : List Float) where
-  pub one-begin : OneSteps s offsets base at old old 0
-  one-begin = record { long = refl; are = λ k h. absurd (omega arith); kept = λ j h. refl }
-
   pub one-step : (now end : List Float) (t dim : ℕ) (z : Complex) → OneSteps s offsets base at old now t → t < dim → at + dim ≤ 4096 → length old ≡ 8192
       → z ≡ cell_at s (bit_or (get_or offsets t 0) base) → end ≡ set_plane now 4096 (at + t) z → OneSteps s offsets base at old end (t + 1)
   one-step now end t dim z i h room l ez ee = record {
@@ -41,17 +38,10 @@ module _ (s : List Float) (offsets : List ℕ) (base at : ℕ) (old : List Float
         ∙ plane-other now 4096 (at + t) j z (omega arith) (omega arith) (λ e. omega arith) ∙ i.kept j g;
   }
 
-  pub one_end : (end : List Float) (t dim : ℕ) → OneSteps s offsets base at old end t → dim ≤ t → OneSteps s offsets base at old end dim
-  one_end end t dim i h = record { long = i.long; are = λ k g. i.are k (omega arith); kept = i.kept }
-
 pub record GatherSteps (n : ℕ) (s : List Float) (mask : ℕ) (offsets : List ℕ) (dim m : ℕ) (planes : List Float) (base e : ℕ) : Type 0 where
   pub within : e ≤ m
   pub base-is : base ≡ submask_at n mask e
   pub gathered : Gathered (amplitude_of n s mask offsets) dim planes e
-
--- a step's cells end below 4,096
-pub gather-room : (dim m e : ℕ) → e < m → m * dim ≤ 4096 → e * dim + dim ≤ 4096
-gather-room dim m e h room = omega (arith, suc-mul e dim, mul-le-mul_right dim h)
 
 pub gather-reach : (n : ℕ) (s : List Float) (mask : ℕ) (offsets : List ℕ) (dim base e t : ℕ) → EntriesReady n s mask offsets dim → base ≡ submask_at n mask e → t < dim
     → reach n s (get_or offsets t 0) base
@@ -83,8 +73,3 @@ module _ (n : ℕ) (s : List Float) (mask : ℕ) (offsets : List ℕ) (dim m : �
           (eq-or-lt_of_le (omega arith));
     };
   }
-
-  pub gather-end : (planes : List Float) (base e : ℕ) → GatherSteps n s mask offsets dim m planes base e → m ≤ e → Gathered (amplitude_of n s mask offsets) dim planes m
-  gather-end planes base e i h =
-      let g : e ≡ m = omega (arith, i.within) in
-      subst (λ (x : ℕ). Gathered (amplitude_of n s mask offsets) dim planes x) g i.gathered

@@ -1,5 +1,5 @@
 -- Laws of what `specs/RowSums.antt` defines. Assumes nothing.
-use mathlib.Core.Path.{◌≡◌, refl, sym, ap, ap₂, subst, ◌∙◌}
+use mathlib.Core.Path.{◌≡◌, refl, sym, ap, ap₂, ◌∙◌}
 use mathlib.Core.List.{List}
 use mathlib.Core.Logic.{⊎_elim}
 use Prim.Native.Nat.{ℕ, zero, suc, ◌+◌, ◌*◌, ◌≤◌, ◌<◌}
@@ -78,15 +78,9 @@ module _ (planes : List Float) (dim r m : ℕ) where
         lower = are-more (r + 1) 64 now end e _ i.lower t.lower (ap (plane_at planes 4096) next);
       }
 
-  pub sums-end : (sums : List Float) (e groups : ℕ) → PairSums planes dim r m sums e → e ≤ groups → groups ≤ e → PairSums planes dim r m sums groups
-  sums-end sums e groups i g h = let q : e ≡ groups = omega arith in subst (λ (x : ℕ). PairSums planes dim r m sums x) q i
-
 -- ---- a row written
 
 module _ (sums : List Float) (w dim r : ℕ) (old : List Float) where
-  pub row-begin : RowSumSteps sums w dim r old old 0
-  row-begin = record { long = refl; surplus = refl; row = record { at = λ c h. absurd (omega arith) }; kept = λ r' c h n. refl }
-
   pub row_step : (now end : List Float) (u m : ℕ) (z : Complex) → Square dim old → r < dim → m ≤ dim → RowSumSteps sums w dim r old now u → u < m
       → z ≡ plane_at sums 128 (w + u) → end ≡ set_cell now (r * dim + u) z → RowSumSteps sums w dim r old end (u + 1)
   row_step now end u m z p hr hm i h ez ee =
@@ -108,9 +102,6 @@ module _ (sums : List Float) (w dim r : ℕ) (old : List Float) where
             ap (λ (x : List Float). entry_at x dim r' c) ee
             ∙ cell_other now (r * dim + u) (r' * dim + c) z (λ e. n (same_row dim r' c r u hc hu e)) ∙ i.kept r' c hc n;
       }
-
-  pub row-end : (end : List Float) (u m : ℕ) → RowSumSteps sums w dim r old end u → m ≤ u → RowSumSteps sums w dim r old end m
-  row-end end u m i h = record { long = i.long; surplus = i.surplus; row = record { at = λ k g. i.row.at k (omega arith) }; kept = i.kept }
 
 -- both rows
 pub pair-written : (planes : List Float) (groups dim t : ℕ) (sums old mid end : List Float) → 2 * t + 1 < dim → PairSums planes dim (2 * t) (2 * t + 2) sums groups

@@ -41,13 +41,6 @@ added-kept a b w old now u i z p hi h hw n = record {
 }
 
 module _ (planes : List Float) (at r : ℕ) (old : List Float) where
-  pub term-begin : TermSteps planes at r old old 0
-  term-begin = record {
-    long = refl;
-    upper = record { more = λ k h. absurd (omega arith); left = λ k g h. refl };
-    lower = record { more = λ k h. absurd (omega arith); left = λ k g h. refl };
-  }
-
   pub term-step : (now end : List Float) (u : ℕ) (x y : Complex) → length old ≡ 256 → TermSteps planes at r old now u → u < 64
       → x ≡ added (plane_at now 128 u) (plane_at planes 4096 (at + r)) (plane_at planes 4096 (at + u))
       → y ≡ added (plane_at now 128 (64 + u)) (plane_at planes 4096 (at + r + 1)) (plane_at planes 4096 (at + u))
@@ -73,6 +66,3 @@ module _ (planes : List Float) (at r : ℕ) (old : List Float) where
             refl h (omega arith) lm (ey ∙ ap (λ (s : Complex). added s a1 (b u)) (i.lower.left u (omega arith) h));
       } in
       subst (λ (s : List Float). TermSteps planes at r old s (u + 1)) (sym ee) whole
-
-  pub term-end : (end : List Float) (u m : ℕ) → TermSteps planes at r old end u → u ≤ m → m ≤ u → TermSteps planes at r old end m
-  term-end end u m i g h = let e : u ≡ m = omega arith in subst (λ (x : ℕ). TermSteps planes at r old end x) e i

@@ -23,12 +23,9 @@ fn gather_one(
     requires dim_bound { (at + dim ≤ 4096) × (length planes.old ≡ 8192) }
     ensures { OneSteps state.now offsets.now base at planes.old planes.new dim }
 {
-    let mut t: usize = 0;
-    while t < dim {
-        let offset = offsets[t];
-        let z = complex::read_cell(state, offset | base);
+    for t in 0..dim {
+        let z = complex::read_cell(state, offsets[t] | base);
         complex::write_plane(planes, 4096, at + t, z);
-        t += 1;
     }
 }
 
@@ -47,11 +44,9 @@ fn gather(
     ensures { Gathered (amplitude_of n state.now mask offsets.now) dim planes.new groups }
 {
     let mut base: usize = 0;
-    let mut e: usize = 0;
-    while e < groups {
+    for e in 0..groups {
         gather_one(state, n, offsets, dim, base, e * dim, planes);
         base = submasks::next_submask(base, mask);
-        e += 1;
     }
 }
 
@@ -64,15 +59,13 @@ fn add_terms(planes: &[f64], at: usize, r: usize, m: usize, sums: &mut [f64])
     let here = at + r;
     let a0 = complex::read_plane(planes, 4096, here);
     let a1 = complex::read_plane(planes, 4096, here + 1);
-    let mut u: usize = 0;
-    while u < m {
+    for u in 0..m {
         let b = complex::read_plane(planes, 4096, at + u);
         let below = 64 + u;
         let p = complex::read_plane(sums, 128, u);
         let q = complex::read_plane(sums, 128, below);
         complex::write_plane(sums, 128, u, p.add_term(a0, b));
         complex::write_plane(sums, 128, below, q.add_term(a1, b));
-        u += 1;
     }
 }
 
@@ -82,10 +75,8 @@ fn pair_sums(planes: &[f64], groups: usize, dim: usize, r: usize, m: usize, sums
     requires r_bound { (r + 1 < m) × (m ≤ dim) × (m ≤ 64) }
     ensures { PairSums planes.now dim r m sums.new groups }
 {
-    let mut e: usize = 0;
-    while e < groups {
+    for e in 0..groups {
         add_terms(planes, e * dim, r, m, sums);
-        e += 1;
     }
 }
 
@@ -95,11 +86,9 @@ fn write_row(sums: &[f64], w: usize, dim: usize, r: usize, m: usize, out: &mut [
     requires square { Square dim out.old × (r < dim) }
     ensures { RowSumSteps sums.now w dim r out.old out.new m }
 {
-    let mut u: usize = 0;
-    while u < m {
+    for u in 0..m {
         let z = complex::read_plane(sums, 128, w + u);
         complex::write_cell(out, r * dim + u, z);
-        u += 1;
     }
 }
 
@@ -124,11 +113,8 @@ fn fill_rows(planes: &[f64], groups: usize, dim: usize, out: &mut [f64])
     requires square { Square dim out.old × (dim % 2 ≡ 0) }
     ensures { LowerSteps dim (plane_entry planes.now dim groups) out.old out.new (dim / 2) }
 {
-    let half = dim / 2;
-    let mut t: usize = 0;
-    while t < half {
+    for t in 0..dim / 2 {
         fill_pair(planes, groups, dim, t, out);
-        t += 1;
     }
 }
 

@@ -1,9 +1,9 @@
 -- What a reader may want to know of this crate's definitions and calls. Assumes nothing.
 use mathlib.Core.Path.{◌≡◌}
 use mathlib.Core.List.{List}
-use Prim.Native.Nat.{ℕ, ◌-◌}
+use Prim.Native.Nat.{ℕ}
 use lib.Ieee.{Float}
-use Rattle.answers.specs.declared.Answer.{Answer}
+use Rattle.answers.specs.Paper.{Answer}
 use Rattle.densities.specs.Square.{InPlace}
 use Rattle.densities.proofs.SquareLaws.{place-one}
 use Rattle.density_trace.specs.Trace.{normalize_answer, normalized}

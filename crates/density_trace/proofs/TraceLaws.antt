@@ -12,14 +12,12 @@ use lib.Ieee.{Float, binary64}
 use lib.ListN.{length, get_or, drop}
 use lib.Seq.{get_or-append-add, get_or-drop}
 use Rattle.numbers.specs.Numbers.{is_finite}
-use Rattle.answers.specs.Paper.{done}
 use Rattle.complex.specs.declared.Complex.{Complex}
 use Rattle.complex.specs.Arithmetic.{complex_of, scaled}
 use Rattle.complex.specs.Cells.{cell_at, set_cell, cells_of, written}
 use Rattle.complex.proofs.CellLaws.{length-cells, written-more}
-use Rattle.complex.specs.Zeros.{zero_float}
 use Rattle.density_entries.specs.Squares.{entry_at}
-use Rattle.density_trace.specs.Trace.{trace_to, trace_of, reciprocal, scaled_cell, finite_cells, scaling_answer}
+use Rattle.density_trace.specs.Trace.{trace_to, scaled_cell, finite_cells}
 
 -- a step of the trace's loop
 pub trace-more : (s : List Float) (dim t : ℕ) → Ieee.add binary64 (trace_to s dim t) (entry_at s dim t t).re ≡ trace_to s dim (t + 1)
@@ -36,9 +34,9 @@ module _ (f : ℕ → Complex) where
   unfolding finite_cells
   finite-none = refl
 
-  pub finite-more : (k : ℕ) → finite_cells k f ≡ true → is_finite (f k).re ≡ true → is_finite (f k).im ≡ true → finite_cells (k + 1) f ≡ true
+  pub finite-more : (k : ℕ) → finite_cells k f ≡ true → (is_finite (f k).re && is_finite (f k).im) ≡ true → finite_cells (k + 1) f ≡ true
   unfolding finite_cells
-  finite-more k e a b = rw (add-one k, e, a, b)
+  finite-more k e a = rw (add-one k, e, a)
 
   and-false : (x : Bool) → (x && false) ≡ false
   and-false true = refl
@@ -81,16 +79,3 @@ scale-step s now x k z en h ez =
     ap₂ (λ (l : List Float) (w : Complex). set_cell l k w) en
     (ez ∙ ap (λ (w : Complex). scaled w x) (ap (λ (l : List Float). cell_at l k) en ∙ cell-past k (scaled_cell s x) s))
     ∙ written-more k (scaled_cell s x) s h
-
--- the three ways out past the matrix's own refusals
-module _ (s : List Float) (dim : ℕ) where
-  pub scaling-none : Ieee.eq (trace_of s dim) zero_float ≡ true → scaling_answer s dim ≡ (8, 0)
-  scaling-none e = rw e
-
-  pub scaling-wild : Ieee.eq (trace_of s dim) zero_float ≡ false → finite_cells (dim * dim) (scaled_cell s (reciprocal (trace_of s dim))) ≡ false
-      → scaling_answer s dim ≡ (9, 0)
-  scaling-wild e g = rw (e, g)
-
-  pub scaling-done : Ieee.eq (trace_of s dim) zero_float ≡ false → finite_cells (dim * dim) (scaled_cell s (reciprocal (trace_of s dim))) ≡ true
-      → scaling_answer s dim ≡ done
-  scaling-done e g = rw (e, g)

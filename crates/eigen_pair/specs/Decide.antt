@@ -1,5 +1,5 @@
 -- The decision on a pair of a Hermitian matrix: leave it, or turn it with a real cosine, a real sine and a phase. Assumes nothing.
-use Rattle.std.specs.Prelude.{Bool, true, cond, Float}
+use Rattle.std.specs.Prelude.{None, Some, Bool, true, cond, Float}
 use Rattle.std.specs.Float.Ieee as Ieee
 use Rattle.std.specs.Float.{binary64}
 use Rattle.std.specs.Float.Ieee.{of_bits}
@@ -7,9 +7,7 @@ use Rattle.numbers.specs.Numbers.{magnitude_of, sign_of}
 use Rattle.numbers.specs.Root.{sqrt_of}
 use Rattle.complex.specs.declared.Complex.{Complex}
 use Rattle.modulus.specs.Modulus.{modulus_of}
-use Rattle.svd_pair.specs.declared.Decision.{Decision}
-use Rattle.svd_pair.specs.declared.Decision.TheVariants.{Leave}
-use Rattle.svd_pair.specs.Decisions.{two, hypotenuse, turn_at}
+use Rattle.svd_pair.specs.Decisions.{Decision, two, hypotenuse, turn_at}
 
 -- 1e-15, EIGEN_PAIR_TOL
 abbrev pub eigen_tolerance : Float
@@ -33,5 +31,5 @@ left_alone modulus app aqq largest =
 unfoldable pub eigen_decision : Complex → Float → Float → Float → Decision
 eigen_decision apq app aqq largest =
     cond (left_alone (modulus_of apq) app aqq largest)
-    Leave
-    (turn_at apq (modulus_of apq) (eigen_tangent (theta_of app aqq (modulus_of apq))))
+    None
+    (Some (turn_at apq (modulus_of apq) (eigen_tangent (theta_of app aqq (modulus_of apq)))))

@@ -4,14 +4,13 @@
 #![tactic(auto)]
 
 ghost use Rattle.std.specs.Prelude.{◌≡◌, ◌+◌, ◌*◌, ◌<◌, ◌≤◌, length};
-ghost use Rattle.svd_pair.specs.Decisions.{verdict};
 ghost use Rattle.eigen_pair.specs.Decide.{eigen_tangent, left_alone, eigen_decision};
 ghost use Rattle.eigen_pair.specs.CellPlanes.{as_planes};
 ghost use Rattle.eigen_pair.specs.Turn.{eigen_new_p, eigen_new_q, turn_two, turn_line, turned, eigen_applied};
 
 use complex::Complex;
 use root_guesses::Guesses;
-use svd_pair::Decision;
+use svd_pair::Turn;
 
 const EIGEN_PAIR_TOL: f64 = 1e-15;
 
@@ -27,68 +26,60 @@ fn tangent(theta: f64, near: Guesses) -> f64
 }
 
 // Whether the pair's own tolerance leaves it, or that of the largest diagonal entry, which is asked first: it needs no root.
+#[tactic(auto, unfolding(crate::specs::Decide::left_alone))]
 fn left_alone(modulus: f64, app: f64, aqq: f64, largest: f64) -> bool
     ensures { result ≡ left_alone modulus app aqq largest }
 {
-    if modulus <= EIGEN_PAIR_TOL * largest {
-        return true;
-    }
-    let root = root_guesses::root_of(numbers::magnitude(app * aqq));
-    modulus <= EIGEN_PAIR_TOL * root
+    modulus <= EIGEN_PAIR_TOL * largest
+        || modulus <= EIGEN_PAIR_TOL * root_guesses::root_of(numbers::magnitude(app * aqq))
 }
 
 // The decision on a pair with the entry apq and the diagonal entries app and aqq.
-pub fn decide(apq: Complex, app: f64, aqq: f64, largest: f64) -> Decision
-    ensures { verdict result ≡ verdict (eigen_decision apq app aqq largest) }
+pub fn decide(apq: Complex, app: f64, aqq: f64, largest: f64) -> Option<Turn>
+    ensures { result ≡ eigen_decision apq app aqq largest }
 {
     let near = root_guesses::guess_roots(aqq - app, apq.norm_sqr());
     let modulus = modulus::modulus_near(apq, near.modulus);
     if left_alone(modulus, app, aqq, largest) {
-        return Decision::Leave;
+        return None;
     }
     let theta = (aqq - app) / (2.0 * modulus);
-    svd_pair::turn_at(apq, modulus, tangent(theta, near), near)
+    Some(svd_pair::turn_at(apq, modulus, tangent(theta, near), near))
 }
 
 // ---- the turn
 
-// What two cells are turned by.
-#[derive(Clone, Copy)]
-pub struct Angle {
-    pub cosine: f64,
-    pub sine: f64,
-    pub phase: Complex,
+// The new cell of p by a turn of the cells x of p and y of q.
+#[tactic(auto, unfolding(crate::specs::Turn::eigen_new_p))]
+fn new_p(w: Turn, x: Complex, y: Complex) -> Complex
+    ensures { result ≡ eigen_new_p w x y }
+{
+    x.real_times(w.cosine)
+        .sub(w.phase.real_times(w.sine).mul(y))
 }
 
-impl Angle {
-    pub fn new_p(self, x: Complex, y: Complex) -> Complex
-        ensures { result ≡ eigen_new_p self x y }
-    {
-        x.real_times(self.cosine)
-            .sub(self.phase.real_times(self.sine).mul(y))
-    }
-
-    pub fn new_q(self, x: Complex, y: Complex) -> Complex
-        ensures { result ≡ eigen_new_q self x y }
-    {
-        x.real_times(self.sine)
-            .add(self.phase.real_times(self.cosine).mul(y))
-    }
+// The new cell of q.
+#[tactic(auto, unfolding(crate::specs::Turn::eigen_new_q))]
+fn new_q(w: Turn, x: Complex, y: Complex) -> Complex
+    ensures { result ≡ eigen_new_q w x y }
+{
+    x.real_times(w.sine)
+        .add(w.phase.real_times(w.cosine).mul(y))
 }
 
 // The cells i and j of a matrix of c cells are turned, both from their old values.
-fn turn_two(xs: &mut [f64], c: usize, i: usize, j: usize, w: Angle)
+fn turn_two(xs: &mut [f64], c: usize, i: usize, j: usize, w: Turn)
     requires { (length xs.old ≡ 2 * c) × (i < c) × (j < c) }
     ensures { as_planes c xs.new ≡ turn_two w c i j (as_planes c xs.old) }
 {
     let x = complex::read_cell(xs, i);
     let y = complex::read_cell(xs, j);
-    complex::write_cell(xs, i, w.new_p(x, y));
-    complex::write_cell(xs, j, w.new_q(x, y));
+    complex::write_cell(xs, i, new_p(w, x, y));
+    complex::write_cell(xs, j, new_q(w, x, y));
 }
 
 // The columns p and q.
-fn turn_columns(xs: &mut [f64], n: usize, p: usize, q: usize, w: Angle)
+fn turn_columns(xs: &mut [f64], n: usize, p: usize, q: usize, w: Turn)
     requires { (length xs.old ≡ 2 * (n * n)) × (p < n) × (q < n) }
     ensures { as_planes (n * n) xs.new ≡ turn_line w (n * n) n p q n (as_planes (n * n) xs.old) }
 {
@@ -99,7 +90,7 @@ fn turn_columns(xs: &mut [f64], n: usize, p: usize, q: usize, w: Angle)
 }
 
 // The rows that start at the cells i and j.
-fn turn_rows(xs: &mut [f64], n: usize, i: usize, j: usize, w: Angle)
+fn turn_rows(xs: &mut [f64], n: usize, i: usize, j: usize, w: Turn)
     requires { (length xs.old ≡ 2 * (n * n)) × (i + n ≤ n * n) × (j + n ≤ n * n) }
     ensures { as_planes (n * n) xs.new ≡ turn_line w (n * n) 1 i j n (as_planes (n * n) xs.old) }
 {
@@ -110,7 +101,7 @@ fn turn_rows(xs: &mut [f64], n: usize, i: usize, j: usize, w: Angle)
 }
 
 // The columns p and q with the conjugate of the phase, and then the rows with the phase.
-fn turn_pair(xs: &mut [f64], n: usize, p: usize, q: usize, w: Angle)
+fn turn_pair(xs: &mut [f64], n: usize, p: usize, q: usize, w: Turn)
     requires { (length xs.old ≡ 2 * (n * n)) × (p < n) × (q < n) }
     ensures { as_planes (n * n) xs.new ≡ turned w n p q (as_planes (n * n) xs.old) }
 {
@@ -120,7 +111,7 @@ fn turn_pair(xs: &mut [f64], n: usize, p: usize, q: usize, w: Angle)
         n,
         p,
         q,
-        Angle {
+        Turn {
             cosine: w.cosine,
             sine: w.sine,
             phase: back,
@@ -130,26 +121,12 @@ fn turn_pair(xs: &mut [f64], n: usize, p: usize, q: usize, w: Angle)
 }
 
 // What is decided is done to the pair p, q.
-pub fn apply(xs: &mut [f64], n: usize, p: usize, q: usize, d: Decision)
+#[tactic(auto, unfolding(crate::specs::Turn::eigen_applied))]
+pub fn apply(xs: &mut [f64], n: usize, p: usize, q: usize, d: Option<Turn>)
     requires { (length xs.old ≡ 2 * (n * n)) × (p < n) × (q < n) }
     ensures { as_planes (n * n) xs.new ≡ eigen_applied d n p q (as_planes (n * n) xs.old) }
 {
-    match d {
-        Decision::Leave => {}
-        Decision::Turn {
-            cosine,
-            sine,
-            phase,
-        } => turn_pair(
-            xs,
-            n,
-            p,
-            q,
-            Angle {
-                cosine,
-                sine,
-                phase,
-            },
-        ),
+    if let Some(w) = d {
+        turn_pair(xs, n, p, q, w);
     }
 }

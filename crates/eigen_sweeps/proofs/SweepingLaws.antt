@@ -1,14 +1,14 @@
 -- Laws of what `specs/Sweeping.antt` defines. Assumes nothing.
 use mathlib.Core.Path.{◌≡◌, refl}
-use mathlib.Core.Bool.{true, false}
 use mathlib.Core.List.{List, []}
 use Prim.Native.Nat.{ℕ, ◌+◌, ◌*◌}
 use native.Mathlib.Numerals.{add-one}
-use lib.Ieee.{Float, lt}
+use lib.Ieee.{Float}
 use Rattle.complex.specs.declared.Complex.{Complex}
 use Rattle.complex.specs.Planes.{plane_at}
 use Rattle.complex.specs.Zeros.{zero_float}
-use Rattle.svd_pair.specs.declared.Decision.{Decision}
+use Rattle.numbers.specs.Numbers.{larger_of}
+use Rattle.svd_pair.specs.Decisions.{Decision}
 use Rattle.sweeps.specs.declared.Sweeps.{Sweeps}
 use Rattle.sweeps.specs.Sweeping.{counted, no_sweeps, pair_step, sweeps_to}
 use Rattle.sweeps.proofs.SweepingLaws.{pair_made as made, settled-start as start}
@@ -23,13 +23,9 @@ pub largest-none : (xs : List Float) (n : ℕ) → zero_float ≡ largest_to xs 
 unfolding largest_to
 largest-none xs n = refl
 
-pub largest-more : (xs : List Float) (n k : ℕ) {m x : Float} → m ≡ largest_to xs n k → x ≡ diagonal xs n k → lt m x ≡ true → x ≡ largest_to xs n (k + 1)
+pub largest-more : (xs : List Float) (n k : ℕ) {m x y : Float} → m ≡ largest_to xs n k → x ≡ diagonal xs n k → y ≡ larger_of m x → y ≡ largest_to xs n (k + 1)
 unfolding largest_to
-largest-more xs n k e f t = rw (add-one, ← e, ← f, t)
-
-pub largest-same : (xs : List Float) (n k : ℕ) {m x : Float} → m ≡ largest_to xs n k → x ≡ diagonal xs n k → lt m x ≡ false → m ≡ largest_to xs n (k + 1)
-unfolding largest_to
-largest-same xs n k {m} e f t = rw (add-one, ← e, ← f, t)
+largest-more xs n k e f g = rw (add-one, ← e, ← f) g
 
 pub pair_made : (n : ℕ) (largest : Float) (p q : ℕ) (xs : List Float) (s : Sweeps) (d : Decision) (z : Complex) (x y : Float) (work : List Float) (t : Sweeps)
     → z ≡ plane_at xs (n * n) (p * n + q) → x ≡ diagonal xs n p → y ≡ diagonal xs n q → d ≡ eigen_decision z x y largest

@@ -19,10 +19,7 @@ fn largest_diagonal(xs: &[f64], n: usize) -> f64
     let mut largest = 0.0;
     for i in 0..n {
         let at = 2 * (i * n + i);
-        let x = xs[at];
-        if x > largest {
-            largest = x;
-        }
+        largest = numbers::larger_of(largest, xs[at]);
     }
     largest
 }

@@ -2,15 +2,16 @@
 use mathlib.Core.Path.{◌≡◌, refl, sym, ap, subst, ◌∙◌}
 use mathlib.Core.Bool.{true, false, not}
 use mathlib.Core.List.{List, [], ◌∷◌, ◌++◌}
-use Prim.Native.Nat.{ℕ, zero, suc, ◌+◌, ◌-◌, ◌*◌, ◌^◌, ◌≤◌, ◌<◌}
+use Prim.Native.Nat.{ℕ, zero, suc, ◌-◌, ◌*◌, ◌^◌, ◌≤◌, ◌<◌}
 use native.Mathlib.Omega.{arith}
 use borrow.Author.Tests.{eq-eqb, ne_eqb, eqb-true, ltb-false, not-false, le-ltb}
 use lib.Dec.{eqb, ltb}
 use lib.Ieee.{Float}
 use lib.ListN.{length, replicate}
-use Rattle.answers.specs.declared.Answer.TheVariants.{Done, NoWeight}
-use Rattle.answers.specs.Paper.{Reply, paper, done, refuse, after, and_then, exactly, room}
-use Rattle.answers.proofs.PaperLaws.{refuse-done, and_then-done, refuse-small, after_small, both}
+use Rattle.std.proofs.Common.{Ok, Err}
+use Rattle.answers.specs.Paper.{Reply, done, refuse, after, and_then, exactly, room}
+use Rattle.answers.specs.declared.Refusal.TheVariants.{NoWeight}
+use Rattle.answers.proofs.PaperLaws.{refuse-done, and_then-done, refuse-small, after_small}
 use Rattle.complex.specs.Cells.{components}
 use Rattle.complex.proofs.CellLaws.{components-small}
 use Rattle.cut_sides.specs.Sides.{cut_refusal}
@@ -22,16 +23,9 @@ use Rattle.entropy_powers.specs.Powers.{powers_of}
 use Rattle.entropy_sums.specs.declared.Sums.{Sums}
 use Rattle.entropy_sums.specs.Sums.{weights_left, whole_weight, bands_of, FillReady, Filled}
 use Rattle.entropy_sums.proofs.SumLaws.{none_left, some_left, whole-less}
-use Rattle.entropy_bands.specs.declared.Entropy.{Entropy}
-use Rattle.entropy_bands.specs.Bands.{entropy_lengths, entropy_rest, entropy_tests, bands_left, NoBands, SumReady, SummedUp}
+use Rattle.entropy_bands.specs.Bands.{entropy_lengths, entropy_rest, entropy_tests, bands_left, SumReady, SummedUp}
 
 -- ---- the tests
-
-pub lengths-made : (n rows state bands scratch : ℕ) {cells : ℕ} {a b d x y : Reply} → cells ≡ 2 ^ n → a ≡ exactly 0 state (2 * cells) → b ≡ room 2 bands (3 * rows)
-    → d ≡ room 3 scratch (8 * cells + 2 * rows) → x ≡ and_then b d → y ≡ and_then a x → y ≡ entropy_lengths n rows state bands scratch
-unfolding entropy_lengths
-lengths-made n rows state bands scratch e f g h i j =
-    both j (f ∙ ap (λ (z : ℕ). exactly 0 state (2 * z)) e) (both i g (h ∙ ap (λ (z : ℕ). room 3 scratch (8 * z + 2 * rows)) e))
 
 -- what lengths that are not refused are
 pub lengths-done : (n rows state bands scratch : ℕ) → (entropy_lengths n rows state bands scratch).0 ≡ 0
@@ -109,18 +103,14 @@ no-weight n h = let e : eqb n 0 ≡ true = eq-eqb n 0 h in rw e
 a-weight : (n : ℕ) → 0 < n → refuse (eqb n 0) (8, 0) done ≡ done
 a-weight n h = let e : eqb n 0 ≡ false = ne_eqb n 0 (λ z. absurd (omega (arith, z, h))) in rw e
 
-pub sum-none : (values : List Float) (sweeps : Sweeps) (bands : List ℕ) (all : ℕ) (r : Entropy) → SumReady values bands → all ≡ whole_weight values → all ≡ 0
-    → NoBands NoWeight r → SummedUp values sweeps (length bands) r bands
-sum-none values sweeps bands all r ready e z n =
+pub sum-none : (values : List Float) (sweeps : Sweeps) (bands : List ℕ) (all : ℕ) → SumReady values bands → all ≡ whole_weight values → all ≡ 0
+    → SummedUp values sweeps (length bands) (Err NoWeight) bands
+sum-none values sweeps bands all ready e z =
     let f : length (weights_left values) ≡ 0 = ap length (none_left values (sym e ∙ z)) in
-    let a : paper r.answer ≡ (8, 0) = ap paper n.answer in
-    rw-all a f
-  where
-    rw-all : paper r.answer ≡ (8, 0) → length (weights_left values) ≡ 0 → SummedUp values sweeps (length bands) r bands
-    rw-all a f = record {
-      answer = a ∙ sym (no-weight (length (weights_left values)) f);
-      told = rw a (record { count = n.count; low = n.low; high = n.high; whole = n.whole; sweeps-are = n.sweeps-are });
-      bands-are = rw a ready.blank;
+    record {
+      answer = sym (no-weight (length (weights_left values)) f);
+      told = record { count = refl; low = refl; high = refl; whole = refl; sweeps-are = refl };
+      bands-are = ready.blank;
     }
 
 pub some-whole : (all : ℕ) → (all ≡ 0 → ⊥) → 0 < all
@@ -128,7 +118,7 @@ some-whole zero n = absurd (n refl)
 some-whole (suc k) n = omega arith
 
 pub sum-some : (values : List Float) (sweeps : Sweeps) (long all : ℕ) (t : Sums) (end : List ℕ) → all ≡ whole_weight values → (all ≡ 0 → ⊥) → Filled values long t end
-    → SummedUp values sweeps long (record { answer = Done; count = t.count; low = t.low; high = t.high; whole = 4096 * all; sweeps = sweeps }) end
+    → SummedUp values sweeps long (Ok (record { count = t.count; low = t.low; high = t.high; whole = 4096 * all; sweeps = sweeps })) end
 sum-some values sweeps long all t end e z f =
     let p : 0 < length (weights_left values) = some_left (weights_left values) (subst (λ (y : ℕ). 0 < y) e (some-whole all z)) in
     record {

@@ -5,8 +5,10 @@ use Prim.Native.Nat.{ℕ, ◌+◌, ◌-◌, ◌*◌, ◌^◌, ◌≤◌, ◌<◌
 use native.Mathlib.Omega.{arith}
 use lib.Ieee.{Float}
 use lib.ListN.{length, get_or, drop, replicate, get_or-append}
-use Rattle.answers.specs.Paper.{paper, if_done, at_end}
-use Rattle.answers.proofs.Theorems.{paper-one}
+use Rattle.std.proofs.Common.{Result}
+use Rattle.answers.specs.declared.Refusal.{Refusal}
+use Rattle.answers.specs.Paper.{paper, given, if_done, at_end}
+use Rattle.answers.proofs.Theorems.{result-one}
 use Rattle.answers.proofs.PaperLaws.{and_then-done}
 use Rattle.cut_sides.specs.Sides.{cut_refusal}
 use Rattle.cut_sides.proofs.SideLaws.{is-parted}
@@ -19,27 +21,31 @@ use Rattle.entropy_sums.specs.Sums.{weights_left, whole_weight, low_sum, high_su
 use Rattle.entropy_sums.proofs.Product.{cell-weight, cell-low, cell-high}
 use Rattle.entropy_sums.proofs.Theorems.{weights-lower, weights-upper, weights-narrow, entropy-lower, entropy-upper}
 use Rattle.entropy_bands.specs.declared.Entropy.{Entropy}
-use Rattle.entropy_bands.specs.Bands.{entropy_rest, entropy_tests, entropy_reply, entropy_answer, cut_values, padded_cells, bands_left, EntropyBand}
+use Rattle.entropy_bands.specs.Bands.{entropy_rest, entropy_tests, entropy_reply, entropy_answer, cut_values, padded_cells, bands_left, no_entropy, EntropyBand}
 use Rattle.entropy_bands.proofs.BandsLaws.{bands-length}
 
+same-entropy : (x y : Entropy) → x.count ≡ y.count → x.low ≡ y.low → x.high ≡ y.high → x.whole ≡ y.whole → x.sweeps ≡ y.sweeps → x ≡ y
+same-entropy x y c d f g h = rw (← c, ← d, ← f, ← g, ← h)
+
 -- Only one outcome meets the contract of `entropy_band`: its answer, its count, its sums, its sweeps, and every cell of bands and scratch.
-pub entropy-band-one : (s : List Float) (n : ℕ) (l : List ℕ) (cap : ℕ) (bands : List ℕ) (scratch : List Float) (r q : Entropy) (bands' bands'' : List ℕ) (scratch' scratch'' : List Float)
-    → EntropyBand s n l cap bands scratch r bands' scratch' → EntropyBand s n l cap bands scratch q bands'' scratch''
+pub entropy-band-one : (s : List Float) (n : ℕ) (l : List ℕ) (cap : ℕ) (bands : List ℕ) (scratch : List Float) (r q : Result Entropy Refusal) (bands' bands'' : List ℕ)
+    (scratch' scratch'' : List Float) → EntropyBand s n l cap bands scratch r bands' scratch' → EntropyBand s n l cap bands scratch q bands'' scratch''
     → (r ≡ q) × (bands' ≡ bands'') × (scratch' ≡ scratch'')
 entropy-band-one s n l cap bands scratch r q bands' bands'' scratch' scratch'' x y =
-    let e : r.answer ≡ q.answer = paper-one r.answer q.answer (x.answer ∙ sym y.answer) in
-    let c : r.count ≡ q.count = x.count ∙ rw e (sym y.count) in
-    let d : r.low ≡ q.low = x.low ∙ rw e (sym y.low) in
-    let f : r.high ≡ q.high = x.high ∙ rw e (sym y.high) in
-    let g : r.whole ≡ q.whole = x.whole ∙ rw e (sym y.whole) in
-    let h : r.sweeps ≡ q.sweeps = x.sweeps-are ∙ rw e (sym y.sweeps-are) in (
-      rw (← e, ← c, ← d, ← f, ← g, ← h),
+    let e : paper r ≡ paper q = x.answer ∙ sym y.answer in
+    let c : (given no_entropy r).count ≡ (given no_entropy q).count = x.count ∙ rw e (sym y.count) in
+    let d : (given no_entropy r).low ≡ (given no_entropy q).low = x.low ∙ rw e (sym y.low) in
+    let f : (given no_entropy r).high ≡ (given no_entropy q).high = x.high ∙ rw e (sym y.high) in
+    let g : (given no_entropy r).whole ≡ (given no_entropy q).whole = x.whole ∙ rw e (sym y.whole) in
+    let h : (given no_entropy r).sweeps ≡ (given no_entropy q).sweeps = x.sweeps-are ∙ rw e (sym y.sweeps-are) in
+    let k : given no_entropy r ≡ given no_entropy q = same-entropy _ _ c d f g h in (
+      result-one r q e (λ v w a b. sym (ap (given no_entropy) a) ∙ k ∙ ap (given no_entropy) b),
       x.bands-are ∙ rw e (sym y.bands-are),
       x.scratch-is ∙ rw e (sym y.scratch-is),
     )
 
-module _ (s : List Float) (n : ℕ) (l : List ℕ) (cap : ℕ) (bands : List ℕ) (scratch : List Float) (r : Entropy) (bands' : List ℕ) (scratch' : List Float)
-    (is : EntropyBand s n l cap bands scratch r bands' scratch') (ok : (paper r.answer).0 ≡ 0) where
+module _ (s : List Float) (n : ℕ) (l : List ℕ) (cap : ℕ) (bands : List ℕ) (scratch : List Float) (r : Result Entropy Refusal) (bands' : List ℕ) (scratch' : List Float)
+    (is : EntropyBand s n l cap bands scratch r bands' scratch') (ok : (paper r).0 ≡ 0) where
   values-few : length (cut_values s n l) ≤ 64
   unfolding entropy_answer entropy_tests
   values-few =
@@ -47,7 +53,7 @@ module _ (s : List Float) (n : ℕ) (l : List ℕ) (cap : ℕ) (bands : List ℕ
       let c = (and_then-done (cut_refusal l n cap) (entropy_rest s n (cut_rows n l) (length bands) (length scratch)) t).0 in
       omega (arith, few-left (singular_values s n l), few-singular s n l, sides-few n l (sides_of l n) (is-parted l n cap c) refl)
 
-  count-is : r.count ≡ length (weights_left (cut_values s n l))
+  count-is : (given no_entropy r).count ≡ length (weights_left (cut_values s n l))
   count-is = is.count ∙ ap (λ (x : ℕ). if_done x (length (weights_left (cut_values s n l))) 0) ok
 
   cells_are : bands' ≡ bands_left (cut_values s n l) ++ (replicate (3 * cut_rows n l - length (bands_left (cut_values s n l))) 0 ++ drop (3 * cut_rows n l) bands)
@@ -63,10 +69,10 @@ module _ (s : List Float) (n : ℕ) (l : List ℕ) (cap : ℕ) (bands : List ℕ
       ∙ get_or-append (bands_left (cut_values s n l)) (replicate (3 * cut_rows n l - length (bands_left (cut_values s n l))) 0 ++ drop (3 * cut_rows n l) bands) 0 k h
 
   -- The third result of an accepted call is 4096 times the sum W of the weights left.
-  pub entropy-whole : r.whole ≡ 4096 * whole_weight (cut_values s n l)
+  pub entropy-whole : (given no_entropy r).whole ≡ 4096 * whole_weight (cut_values s n l)
   entropy-whole = is.whole ∙ ap (λ (x : ℕ). if_done x (4096 * whole_weight (cut_values s n l)) 0) ok
 
-  module _ (i : ℕ) (h : i < r.count) where
+  module _ (i : ℕ) (h : i < (given no_entropy r).count) where
     inside : i < length (weights_left (cut_values s n l))
     inside = subst (λ (x : ℕ). i < x) count-is h
 
@@ -98,13 +104,13 @@ module _ (s : List Float) (n : ℕ) (l : List ℕ) (cap : ℕ) (bands : List ℕ
     entropy-narrow = rw (entropy-ends.0, entropy-ends.1) (weights-narrow (cut_values s n l) values-few i inside)
 
   -- The sums: 2^low times the product of w^(4096w) over the weights left is at most W^whole,
-  pub entropy-sum-low : 2 ^ r.low * weight_powers (weights_left (cut_values s n l)) ≤ whole_weight (cut_values s n l) ^ r.whole
+  pub entropy-sum-low : 2 ^ (given no_entropy r).low * weight_powers (weights_left (cut_values s n l)) ≤ whole_weight (cut_values s n l) ^ (given no_entropy r).whole
   entropy-sum-low =
-      let e : r.low ≡ low_sum (whole_weight (cut_values s n l)) (weights_left (cut_values s n l)) = is.low ∙ ap (λ (x : ℕ). if_done x (low_sum (whole_weight (cut_values s n l)) (weights_left (cut_values s n l))) 0) ok in
+      let e : (given no_entropy r).low ≡ low_sum (whole_weight (cut_values s n l)) (weights_left (cut_values s n l)) = is.low ∙ ap (λ (x : ℕ). if_done x (low_sum (whole_weight (cut_values s n l)) (weights_left (cut_values s n l))) 0) ok in
       rw (e, entropy-whole) (entropy-lower (cut_values s n l) values-few)
 
   -- and 2^high times it at least: the entropy of the weights left, in bits, lies from low / whole to high / whole.
-  pub entropy-sum-high : whole_weight (cut_values s n l) ^ r.whole ≤ 2 ^ r.high * weight_powers (weights_left (cut_values s n l))
+  pub entropy-sum-high : whole_weight (cut_values s n l) ^ (given no_entropy r).whole ≤ 2 ^ (given no_entropy r).high * weight_powers (weights_left (cut_values s n l))
   entropy-sum-high =
-      let e : r.high ≡ high_sum (whole_weight (cut_values s n l)) (weights_left (cut_values s n l)) = is.high ∙ ap (λ (x : ℕ). if_done x (high_sum (whole_weight (cut_values s n l)) (weights_left (cut_values s n l))) 0) ok in
+      let e : (given no_entropy r).high ≡ high_sum (whole_weight (cut_values s n l)) (weights_left (cut_values s n l)) = is.high ∙ ap (λ (x : ℕ). if_done x (high_sum (whole_weight (cut_values s n l)) (weights_left (cut_values s n l))) 0) ok in
       rw (e, entropy-whole) (entropy-upper (cut_values s n l) values-few)

@@ -1,7 +1,7 @@
 -- The entropy of a cut as a band: its answer, the weights left, each one's band in their sum, and the sums. Definitions only.
-use Rattle.std.specs.Prelude.{◌≡◌, List, [], ◌++◌, ℕ, ◌+◌, ◌-◌, ◌*◌, ◌^◌, ◌≤◌, eqb, Float, length, drop, replicate}
-use Rattle.answers.specs.declared.Answer.{Answer}
-use Rattle.answers.specs.Paper.{Reply, paper, done, refuse, and_then, exactly, room, if_done, if_worked, at_end}
+use Rattle.std.specs.Prelude.{◌≡◌, List, [], ◌++◌, ℕ, ◌-◌, ◌*◌, ◌^◌, ◌≤◌, eqb, Float, length, drop, replicate, Result}
+use Rattle.answers.specs.declared.Refusal.{Refusal}
+use Rattle.answers.specs.Paper.{Reply, paper, given, done, refuse, and_then, exactly, room, if_done, if_worked, at_end}
 use Rattle.complex.specs.Cells.{components}
 use Rattle.complex.specs.Zeros.{zeroed}
 use Rattle.cut_sides.specs.Sides.{cut_refusal}
@@ -49,27 +49,22 @@ padded_cells n l old = l ++ replicate (n - length l) 0 ++ drop n old
 abbrev pub bands_left : List Float → List ℕ
 bands_left values = bands_of (whole_weight values) (weights_left values)
 
+-- no band, no sweep: what a refused call gives
+abbrev pub no_entropy : Entropy
+no_entropy = record { count = 0; low = 0; high = 0; whole = 0; sweeps = no_sweeps }
+
 -- the answer, how many weights are left, the sums, 4096 times the whole, the cut's sweeps, and what bands and scratch hold at the end
-pub record EntropyBand (s : List Float) (n : ℕ) (l : List ℕ) (cap : ℕ) (bands : List ℕ) (scratch : List Float) (r : Entropy) (bands' : List ℕ) (scratch' : List Float) : Type 0 where
-  pub answer : paper r.answer ≡ entropy_answer s n l cap (length bands) (length scratch)
-  pub count : r.count ≡ if_done (paper r.answer).0 (length (weights_left (cut_values s n l))) 0
-  pub low : r.low ≡ if_done (paper r.answer).0 (low_sum (whole_weight (cut_values s n l)) (weights_left (cut_values s n l))) 0
-  pub high : r.high ≡ if_done (paper r.answer).0 (high_sum (whole_weight (cut_values s n l)) (weights_left (cut_values s n l))) 0
-  pub whole : r.whole ≡ if_done (paper r.answer).0 (4096 * whole_weight (cut_values s n l)) 0
-  pub sweeps-are : r.sweeps ≡ kept_sweeps r.answer (cut_sweeps s n l)
-  pub bands-are : bands' ≡ at_end (paper r.answer).0 (padded_cells (3 * cut_rows n l) (bands_left (cut_values s n l)) bands) (padded_cells (3 * cut_rows n l) [] bands) bands
-  pub scratch-is : scratch' ≡ if_worked (paper r.answer).0 (zeroed (cut_values_scratch n (cut_rows n l)) scratch) scratch
+pub record EntropyBand (s : List Float) (n : ℕ) (l : List ℕ) (cap : ℕ) (bands : List ℕ) (scratch : List Float) (r : Result Entropy Refusal) (bands' : List ℕ) (scratch' : List Float) : Type 0 where
+  pub answer : paper r ≡ entropy_answer s n l cap (length bands) (length scratch)
+  pub count : (given no_entropy r).count ≡ if_done (paper r).0 (length (weights_left (cut_values s n l))) 0
+  pub low : (given no_entropy r).low ≡ if_done (paper r).0 (low_sum (whole_weight (cut_values s n l)) (weights_left (cut_values s n l))) 0
+  pub high : (given no_entropy r).high ≡ if_done (paper r).0 (high_sum (whole_weight (cut_values s n l)) (weights_left (cut_values s n l))) 0
+  pub whole : (given no_entropy r).whole ≡ if_done (paper r).0 (4096 * whole_weight (cut_values s n l)) 0
+  pub sweeps-are : (given no_entropy r).sweeps ≡ kept_sweeps r (cut_sweeps s n l)
+  pub bands-are : bands' ≡ at_end (paper r).0 (padded_cells (3 * cut_rows n l) (bands_left (cut_values s n l)) bands) (padded_cells (3 * cut_rows n l) [] bands) bands
+  pub scratch-is : scratch' ≡ if_worked (paper r).0 (zeroed (cut_values_scratch n (cut_rows n l)) scratch) scratch
 
 -- ---- the steps
-
--- a refusal: no count, no sum, no sweep
-pub record NoBands (a : Answer) (r : Entropy) : Type 0 where
-  pub answer : r.answer ≡ a
-  pub count : r.count ≡ 0
-  pub low : r.low ≡ 0
-  pub high : r.high ≡ 0
-  pub whole : r.whole ≡ 0
-  pub sweeps-are : r.sweeps ≡ no_sweeps
 
 pub record SumReady (values : List Float) (bands : List ℕ) : Type 0 where
   pub few : length values ≤ 64
@@ -84,10 +79,10 @@ pub record BandTold (x : ℕ) (values : List Float) (sweeps : Sweeps) (r : Entro
   pub whole : r.whole ≡ if_done x (4096 * whole_weight values) 0
   pub sweeps-are : r.sweeps ≡ if_done x sweeps no_sweeps
 
-pub record SummedUp (values : List Float) (sweeps : Sweeps) (long : ℕ) (r : Entropy) (end : List ℕ) : Type 0 where
-  pub answer : paper r.answer ≡ refuse (eqb (length (weights_left values)) 0) (8, 0) done
-  pub told : BandTold (paper r.answer).0 values sweeps r
-  pub bands-are : end ≡ if_done (paper r.answer).0 (bands_left values ++ replicate (long - length (bands_left values)) 0) (replicate long 0)
+pub record SummedUp (values : List Float) (sweeps : Sweeps) (long : ℕ) (r : Result Entropy Refusal) (end : List ℕ) : Type 0 where
+  pub answer : paper r ≡ refuse (eqb (length (weights_left values)) 0) (8, 0) done
+  pub told : BandTold (paper r).0 values sweeps (given no_entropy r)
+  pub bands-are : end ≡ if_done (paper r).0 (bands_left values ++ replicate (long - length (bands_left values)) 0) (replicate long 0)
 
 pub record WorkReady (s : List Float) (n : ℕ) (l : List ℕ) (cap rows : ℕ) (bands : List ℕ) (scratch : List Float) : Type 0 where
   pub rows_are : rows ≡ cut_rows n l
@@ -95,8 +90,8 @@ pub record WorkReady (s : List Float) (n : ℕ) (l : List ℕ) (cap rows : ℕ) 
   pub passed : (cut_values_tests s n l cap rows (length scratch)).0 ≡ 0
   pub long : length bands ≡ 3 * rows
 
-pub record EntropyWorked (s : List Float) (n : ℕ) (l : List ℕ) (rows : ℕ) (scratch : List Float) (r : Entropy) (bands' : List ℕ) (scratch' : List Float) : Type 0 where
-  pub answer : paper r.answer ≡ entropy_reply (singular_values s n l)
-  pub told : BandTold (paper r.answer).0 (cut_values s n l) (cut_sweeps s n l) r
-  pub bands-are : bands' ≡ if_done (paper r.answer).0 (bands_left (cut_values s n l) ++ replicate (3 * rows - length (bands_left (cut_values s n l))) 0) (replicate (3 * rows) 0)
+pub record EntropyWorked (s : List Float) (n : ℕ) (l : List ℕ) (rows : ℕ) (scratch : List Float) (r : Result Entropy Refusal) (bands' : List ℕ) (scratch' : List Float) : Type 0 where
+  pub answer : paper r ≡ entropy_reply (singular_values s n l)
+  pub told : BandTold (paper r).0 (cut_values s n l) (cut_sweeps s n l) (given no_entropy r)
+  pub bands-are : bands' ≡ if_done (paper r).0 (bands_left (cut_values s n l) ++ replicate (3 * rows - length (bands_left (cut_values s n l))) 0) (replicate (3 * rows) 0)
   pub scratch-is : scratch' ≡ zeroed (cut_values_scratch n rows) scratch

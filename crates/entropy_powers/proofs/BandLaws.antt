@@ -1,39 +1,19 @@
 -- The band of a number and a larger one: what its doublings are, how wide it is, and that nothing overflows. Assumes nothing.
-use mathlib.Core.Path.{◌≡◌, refl, sym, ap, ap₂, subst, ◌∙◌}
+use mathlib.Core.Path.{◌≡◌, refl, sym, ap, subst, ◌∙◌}
 use mathlib.Core.Bool.{Bool, true, false, cond}
 use mathlib.Core.Logic.{◌⊎◌, inl, inr}
 use Prim.Native.Nat.{ℕ, suc, ◌+◌, ◌-◌, ◌*◌, ◌%◌, ◌^◌, ◌≤◌, ◌<◌}
 use native.Mathlib.Nat.{mul-le-mul_right}
 use native.Mathlib.Omega.{arith}
-use borrow.Author.Tests.{leb-true, leb-false, le-leb, lt-leb, eq-eqb, ne_eqb}
+use borrow.Author.Tests.{leb-true, leb-false, eq-eqb, ne_eqb}
 use lib.Dec.{leb, eqb}
 use lib.Count.{count_leading_zeros, leading_top}
 use lib.Pow.{pow-add, shl_lt, shl_exact}
-use Rattle.entropy_powers.specs.declared.Bounds.{Bounds}
 use Rattle.entropy_powers.specs.declared.Powers.{Powers}
-use Rattle.entropy_powers.specs.declared.Band.{Band}
-use Rattle.entropy_powers.specs.Powers.{PowersSized, halves_of, squarings, full_of, powers_at, powers_of, doublings_of, between_of, band_at, band_of}
+use Rattle.entropy_powers.specs.Powers.{PowersSized, full_of, powers_of, doublings_of, between_of, band_at, band_of}
 use Rattle.entropy_powers.proofs.SquaringLaws.{narrow-all}
 
 -- ---- the doublings
-
-pub doublings-0 : (b a : ℕ) → b ≤ a → 0 ≡ doublings_of b a
-unfolding doublings_of
-doublings-0 b a h = let e : leb b a ≡ true = le-leb b a h in rw e
-
-pub doublings-1 : (b a : ℕ) → a < b → b ≤ 2 * a → 1 ≡ doublings_of b a
-unfolding doublings_of
-doublings-1 b a l h =
-    let e : leb b a ≡ false = lt-leb b a l in
-    let f : leb b (2 * a) ≡ true = le-leb b (2 * a) h in
-    rw (e, f)
-
-pub doublings-2 : (b a : ℕ) → a < b → 2 * a < b → 2 ≡ doublings_of b a
-unfolding doublings_of
-doublings-2 b a l h =
-    let e : leb b a ≡ false = lt-leb b a l in
-    let f : leb b (2 * a) ≡ false = lt-leb b (2 * a) h in
-    rw (e, f)
 
 -- the three cases
 abbrev pub Doubled : ℕ → ℕ → ℕ → Type 0
@@ -69,13 +49,6 @@ module _ (p q : Powers) where
   pub band-apart : (p.digits ≡ q.digits → ⊥) → band_at (between_of p q - doublings_of p.high q.low) (between_of p q + doublings_of q.high p.low) ≡ band_of p q
   unfolding band_of
   band-apart h = let e : eqb p.digits q.digits ≡ false = ne_eqb p.digits q.digits h in rw e
-
-  -- what the code computes by its steps
-  pub band-made : (d u o l : ℕ) → (p.digits ≡ q.digits → ⊥) → d ≡ (q.power + 4096 * p.up) - (p.power + 4096 * q.up)
-      → u ≡ doublings_of p.high q.low → o ≡ doublings_of q.high p.low → l ≡ d - u
-      → band_at l (d + o) ≡ band_of p q
-  unfolding between_of
-  band-made d u o l n e f g h = rw (h, e, f, g) (band-apart n)
 
   module _ (s : PowersSized p) (t : PowersSized q) where
     between-small : between_of p q ≤ 2 ^ 18 - 2
@@ -149,12 +122,3 @@ module _ (x : ℕ) (some : 0 < x) (few : x < 2 ^ 32) where
   powers-sized =
       let n = narrow-all 12 (full_of x) full-least full-most (omega arith) in
       record { up-few = up-most; least = n.least; most = n.most; order = n.order; near = n.near; power_small = n.power_small }
-
-pub powers-made : (x y u : ℕ) (b : Bounds) → y ≡ full_of x → u ≡ count_leading_zeros 32 x → b ≡ squarings 12 (halves_of y) → powers_at y u b ≡ powers_of x
-unfolding powers_of
-powers-made x y u b e f g =
-    ap₂ (λ (z v : ℕ). powers_at z v b) e f
-    ∙ ap (λ (c : Bounds). powers_at (full_of x) (count_leading_zeros 32 x) c) (g ∙ ap (λ (z : ℕ). squarings 12 (halves_of z)) e)
-
-pub band-by : (p q : Powers) (r : Band) (x : ℕ) → r ≡ band_of p q → p ≡ powers_of x → r ≡ band_of (powers_of x) q
-band-by p q r x e f = e ∙ ap (λ (y : Powers). band_of y q) f

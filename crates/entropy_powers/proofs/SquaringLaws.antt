@@ -5,7 +5,7 @@ use Prim.Native.Nat.{ℕ, zero, suc, ◌+◌, ◌-◌, ◌*◌, ◌^◌, ◌≤�
 use native.Mathlib.Nat.{mul-le-mul, mul-le-mul_left, mul-le-mul_right, mul_comm, add-mul, mul-add, lt_of_not-le}
 use native.Mathlib.Decide.{dec_le}
 use native.Mathlib.Omega.{arith}
-use borrow.Author.Tests.{ltb-true, ltb-false, lt-ltb, le-ltb}
+use borrow.Author.Tests.{ltb-true, ltb-false}
 use lib.Dec.{ltb}
 use lib.Pow.{pow-add, pow_mono}
 use Rattle.entropy_powers.specs.declared.Bounds.{Bounds}
@@ -138,14 +138,6 @@ high_fits b n =
     let q : b.high * b.high ≤ (2 ^ 31 + 2 ^ 23) * (2 ^ 31 + 2 ^ 23) = mul-le-mul s s in
     omega (arith, q)
 
-pub squared-30 : (b : Bounds) → b.low * b.low < 2 ^ 61 → rounded_to 30 b ≡ squared_of b
-unfolding squared_of
-squared-30 b l = let e : ltb (b.low * b.low) (2 ^ 61) ≡ true = lt-ltb (b.low * b.low) (2 ^ 61) l in rw e
-
-pub squared-31 : (b : Bounds) → 2 ^ 61 ≤ b.low * b.low → rounded_to 31 b ≡ squared_of b
-unfolding squared_of
-squared-31 b l = let e : ltb (b.low * b.low) (2 ^ 61) ≡ false = le-ltb (b.low * b.low) (2 ^ 61) l in rw e
-
 -- ---- the loop: after k squarings the bounds are those of the definition
 
 pub record Squared (y k : ℕ) (b : Bounds) : Type 0 where
@@ -153,21 +145,5 @@ pub record Squared (y k : ℕ) (b : Bounds) : Type 0 where
   pub is : b ≡ squarings k (halves_of y)
 
 module _ (y : ℕ) (lo : 2 ^ 31 ≤ y) (hi : y < 2 ^ 32) where
-  pub squared-none : (b : Bounds) → b ≡ halves_of y → Squared y 0 b
-  squared-none b e = record { most = omega arith; is = e ∙ sym (squarings-none (halves_of y)) }
-
   pub squared-narrow : (k : ℕ) (b : Bounds) → k < 12 → Squared y k b → Narrow 11 b
   squared-narrow k b h s = subst (Narrow 11) (sym s.is) (narrow-less k (squarings k (halves_of y)) (omega arith) (narrow-all k y lo hi s.most))
-
-  pub squared-more : (k : ℕ) (b b' : Bounds) → k < 12 → Squared y k b → b' ≡ squared_of b → Squared y (k + 1) b'
-  squared-more k b b' h s e =
-      let z : k + 1 ≡ suc k = omega arith in
-      record {
-        most = omega arith;
-        is = e ∙ ap squared_of s.is ∙ sym (squarings-more k (halves_of y)) ∙ ap (λ (x : ℕ). squarings x (halves_of y)) (sym z);
-      }
-
-  pub squared-end : (k : ℕ) (b : Bounds) → 12 ≤ k → Squared y k b → b ≡ squarings 12 (halves_of y)
-  squared-end k b h s =
-      let z : k ≡ 12 = omega (arith, s.most) in
-      s.is ∙ ap (λ (x : ℕ). squarings x (halves_of y)) z

@@ -30,6 +30,7 @@ pub struct Band {
 }
 
 // The bounds of the square: 31 digits again, the low one rounded down and the high one up.
+#[tactic(auto, unfolding(crate::specs::Powers::squared_of, crate::specs::Powers::rounded_to))]
 fn squared(b: Bounds) -> Bounds
     requires { Narrow 11 b }
     ensures { result ≡ squared_of b }
@@ -51,6 +52,7 @@ fn squared(b: Bounds) -> Bounds
 }
 
 // Twelve squarings of 32 digits.
+#[tactic(auto, unfolding(crate::specs::Powers::squarings, crate::specs::Powers::halves_of))]
 fn powered(y: u64) -> Bounds
     requires { (2 ^ 31 ≤ y) × (y < 2 ^ 32) }
     ensures { result ≡ squarings 12 (halves_of y) }
@@ -60,20 +62,19 @@ fn powered(y: u64) -> Bounds
         high: (y + 1) / 2,
         power: 1,
     };
-    let mut k: usize = 0;
-    while k < 12 {
+    for _ in 0..12usize {
         b = squared(b);
-        k += 1;
     }
     b
 }
 
 // The powers of a number of 1 to 32 digits.
+#[tactic(auto, unfolding(crate::specs::Powers::powers_of, crate::specs::Powers::full_of))]
 pub fn powers_of(x: u64) -> Powers
     requires { (0 < x) × (x < 2 ^ 32) }
     ensures { result ≡ powers_of x }
 {
-    let up = u32::leading_zeros(x as u32) as u64;
+    let up = (x as u32).leading_zeros() as u64;
     let digits = x << up;
     let b = powered(digits);
     Powers {
@@ -86,6 +87,7 @@ pub fn powers_of(x: u64) -> Powers
 }
 
 // How often a is doubled until it is at least b: 0, 1, or else 2.
+#[tactic(auto, unfolding(crate::specs::Powers::doublings_of))]
 fn doublings(b: u64, a: u64) -> u64
     requires { a < 2 ^ 63 }
     ensures { result ≡ doublings_of b a }
@@ -99,33 +101,24 @@ fn doublings(b: u64, a: u64) -> u64
     2
 }
 
-// a less b, and 0 where b is more.
-fn less(a: u64, b: u64) -> u64
-    ensures { result ≡ a - b }
-{
-    if a < b {
-        return 0;
-    }
-    a - b
-}
-
 // How many powers of two lie between the 4096th powers of a number and of a larger one: at least low, at most high.
+#[tactic(auto, unfolding(crate::specs::Powers::band_of, crate::specs::Powers::between_of))]
 pub fn band_of(part: Powers, all: Powers) -> Band
     requires { PowersSized part × PowersSized all }
     ensures { result ≡ band_of part all }
 {
     if part.digits == all.digits {
-        let exact = 4096 * less(part.up, all.up);
+        let exact = 4096 * part.up.saturating_sub(all.up);
         return Band {
             low: exact,
             high: exact,
         };
     }
-    let between = less(all.power + 4096 * part.up, part.power + 4096 * all.up);
+    let between = (all.power + 4096 * part.up).saturating_sub(part.power + 4096 * all.up);
     let under = doublings(part.high, all.low);
     let over = doublings(all.high, part.low);
     Band {
-        low: less(between, under),
+        low: between.saturating_sub(under),
         high: between + over,
     }
 }
@@ -135,6 +128,5 @@ pub fn band_in(w: u64, all: Powers) -> Band
     requires { (0 < w) × (w < 2 ^ 32) × PowersSized all }
     ensures { result ≡ band_of (powers_of w) all }
 {
-    let part = powers_of(w);
-    band_of(part, all)
+    band_of(powers_of(w), all)
 }

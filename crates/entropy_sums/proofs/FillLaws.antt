@@ -4,7 +4,7 @@ use mathlib.Core.List.{List, [], ◌∷◌, ◌++◌, append_assoc, append-nil}
 use Prim.Native.Nat.{ℕ, zero, suc, ◌+◌, ◌-◌, ◌*◌, ◌^◌, ◌≤◌, ◌<◌}
 use native.Mathlib.Nat.{mul-le-mul, add_assoc}
 use native.Mathlib.Omega.{arith}
-use lib.ListN.{length, get_or, drop, set, replicate, length-append, length-replicate, length-set}
+use lib.ListN.{length, get_or, drop, set, replicate, length-append, length-replicate}
 use lib.Seq.{sets-eq, take_at, drop-append-add}
 use lib.Ieee.{Float, nan}
 use Rattle.entropy_weights.specs.Weights.{weight_of}
@@ -187,9 +187,3 @@ module _ (values : List Float) (all : Powers) (old : List ℕ) (r : FillReady va
       }
 
 -- ---- the three stores of `put` lie inside
-
-pub second-in : (l : List ℕ) (k a : ℕ) → 3 * k + 2 < length l → 3 * k + 1 < length (set l (3 * k) a)
-second-in l k a h = omega (arith, length-set l (3 * k) a)
-
-pub third-in : (l : List ℕ) (k a b : ℕ) → 3 * k + 2 < length l → 3 * k + 2 < length (set (set l (3 * k) a) (3 * k + 1) b)
-third-in l k a b h = omega (arith, length-set l (3 * k) a, length-set (set l (3 * k) a) (3 * k + 1) b)

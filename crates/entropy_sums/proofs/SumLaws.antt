@@ -1,11 +1,11 @@
 -- The weights left: how many they are, their sum and the sums over their bands, and that none overflows. Assumes nothing.
 use mathlib.Core.Path.{◌≡◌, refl, sym, ap, ◌∙◌}
-use mathlib.Core.List.{List, [], ◌∷◌, ◌++◌, append-nil}
-use Prim.Native.Nat.{ℕ, zero, suc, ◌+◌, ◌-◌, ◌*◌, ◌^◌, ◌≤◌, ◌<◌}
-use native.Mathlib.Nat.{mul-le-mul, mul-le-mul_left}
+use mathlib.Core.List.{List, [], ◌∷◌}
+use Prim.Native.Nat.{ℕ, zero, suc, ◌+◌, ◌*◌, ◌^◌, ◌≤◌, ◌<◌}
+use native.Mathlib.Nat.{mul-le-mul_left}
 use native.Mathlib.Omega.{arith}
-use lib.ListN.{length, get_or, drop, replicate, set, drop_of_length-le, length-replicate, length-set}
-use lib.Seq.{drop-cons, set_at}
+use lib.ListN.{length, get_or, drop, drop_of_length-le}
+use lib.Seq.{drop-cons}
 use lib.Ieee.{Float, nan}
 use Rattle.entropy_weights.specs.Weights.{weight_of}
 use Rattle.entropy_weights.proofs.Theorems.{weight-small}
@@ -130,35 +130,3 @@ module _ (all : ℕ) (some : 0 < all) (few : all < 2 ^ 32) where
   unfolding weights_left high_sum weight_sum
   high-most [] = omega arith
   high-most (x ∷ l) = high-kept (weight_of x) (weights_left l) (omega (arith, weight-small x)) (high-most l)
-
--- ---- the zeros' loop
-
-pub record Zeroing (old new : List ℕ) (i : ℕ) : Type 0 where
-  pub inside : i ≤ length old
-  pub is : new ≡ replicate i 0 ++ drop i old
-  pub long : length new ≡ length old
-
-pub zeroing-none : (old : List ℕ) → Zeroing old old 0
-zeroing-none old = record { inside = omega arith; is = refl; long = refl }
-
-replicate-snoc : (i : ℕ) (l : List ℕ) → replicate i 0 ++ 0 ∷ l ≡ replicate (suc i) 0 ++ l
-replicate-snoc zero l = refl
-replicate-snoc (suc i) l = ap (λ (y : List ℕ). 0 ∷ y) (replicate-snoc i l)
-
-pub zeroing-more : (old new : List ℕ) (i : ℕ) → Zeroing old new i → i < length old → Zeroing old (set new i 0) (i + 1)
-zeroing-more old new i z h =
-    let e : i + 1 ≡ suc i = omega arith in
-    record {
-      inside = omega arith;
-      is =
-          ap (λ (y : List ℕ). set y i 0) (z.is ∙ ap (λ (y : List ℕ). replicate i 0 ++ y) (drop-cons old i 0 h))
-          ∙ set_at (replicate i 0) (get_or old i 0) (drop (suc i) old) 0 i (length-replicate i 0)
-          ∙ replicate-snoc i (drop (suc i) old)
-          ∙ ap (λ (y : ℕ). replicate y 0 ++ drop y old) (sym e);
-      long = length-set new i 0 ∙ z.long;
-    }
-
-pub zeroing-end : (old new : List ℕ) (i : ℕ) → Zeroing old new i → length old ≤ i → new ≡ replicate (length old) 0
-zeroing-end old new i z h =
-    let e : i ≡ length old = omega (arith, z.inside) in
-    z.is ∙ ap (λ (y : List ℕ). replicate i 0 ++ y) (drop_of_length-le old h) ∙ append-nil (replicate i 0) ∙ ap (λ (y : ℕ). replicate y 0) e

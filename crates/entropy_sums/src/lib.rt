@@ -1,7 +1,7 @@
 // Inner: the weights that are left of Schmidt values, their sum, and each one's band in the sum.
 #![tactic(auto)]
 
-ghost use Rattle.std.specs.Prelude.{◌≡◌, ◌+◌, ◌*◌, ◌^◌, ◌≤◌, ◌<◌, length, replicate};
+ghost use Rattle.std.specs.Prelude.{◌≡◌, ◌+◌, ◌*◌, ◌^◌, ◌≤◌, ◌<◌, length};
 ghost use Rattle.entropy_powers.specs.Powers.{PowersSized};
 ghost use Rattle.entropy_sums.specs.Sums.{weights_left, weight_sum, set_band, bands_with, sums_with, SumsFit, FillReady, Filled};
 
@@ -21,25 +21,14 @@ pub fn whole_weight(values: &[f64]) -> u64
     ensures { result ≡ weight_sum (weights_left values.now) }
 {
     let mut sum: u64 = 0;
-    let mut i = 0;
-    while i < values.len() {
-        sum += entropy_weights::weight(values[i]);
-        i += 1;
+    for x in values {
+        sum += entropy_weights::weight(*x);
     }
     sum
 }
 
-pub fn zero_cells(cells: &mut [usize])
-    ensures { cells.new ≡ replicate (length cells.old) 0 }
-{
-    let mut i = 0;
-    while i < cells.len() {
-        cells[i] = 0;
-        i += 1;
-    }
-}
-
 // A weight and its band in place k.
+#[tactic(auto, unfolding(crate::specs::Sums::set_band))]
 fn put(bands: &mut [usize], k: usize, w: u64, b: Band)
     requires { 3 * k + 2 < length bands.old }
     ensures { bands.new ≡ set_band bands.old k w b }
@@ -51,6 +40,7 @@ fn put(bands: &mut [usize], k: usize, w: u64, b: Band)
 }
 
 // One weight more; a zero is dropped.
+#[tactic(auto, unfolding(crate::specs::Sums::bands_with, crate::specs::Sums::sums_with))]
 fn with_weight(bands: &mut [usize], w: u64, all: Powers, s: Sums) -> Sums
     requires { SumsFit w all s (length bands.old) }
     ensures bands { bands.new ≡ bands_with w all s bands.old }
@@ -78,11 +68,8 @@ pub fn fill(values: &[f64], all: Powers, bands: &mut [usize]) -> Sums
         low: 0,
         high: 0,
     };
-    let mut i = 0;
-    while i < values.len() {
-        let w = entropy_weights::weight(values[i]);
-        s = with_weight(bands, w, all, s);
-        i += 1;
+    for x in values {
+        s = with_weight(bands, entropy_weights::weight(*x), all, s);
     }
     s
 }

@@ -3,7 +3,7 @@ use mathlib.Core.Path.{◌≡◌, refl, sym, ap, ◌∙◌}
 use mathlib.Core.Logic.{◌⊎◌, inl, inr}
 use mathlib.Core.Bool.{Bool, true, false}
 use Prim.Native.Nat.{ℕ, zero, suc, ◌+◌, ◌-◌, ◌*◌, ◌/◌, ◌%◌, ◌^◌, ◌≤◌, ◌<◌}
-use native.Mathlib.Nat.{mul_assoc, mul_comm, mul-one, mul-le-mul, mul-le-mul_left, mul-lt-mul_of_pos_right, mul-mul-mul_comm, mul-pos, mul_left_comm, eq_of_mul-eq-mul_right, pow-succ', lt_of_lt_of_le, lt_of_not-le, le_trans, le_of_eq, not-le_of_lt, eq-or-lt_of_le}
+use native.Mathlib.Nat.{mul_assoc, mul-one, mul-le-mul, mul-le-mul_left, mul-lt-mul_of_pos_right, mul-mul-mul_comm, mul-pos, mul_left_comm, eq_of_mul-eq-mul_right, pow-succ', lt_of_lt_of_le, lt_of_not-le, le_trans, le_of_eq, not-le_of_lt, eq-or-lt_of_le}
 use native.Mathlib.Decide.{dec_le}
 use native.Mathlib.Omega.{arith}
 use lib.Dec.{eqb}

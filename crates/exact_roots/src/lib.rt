@@ -24,11 +24,8 @@ fn squares_to(m: u64, e: u64, a: u64) -> bool
         return false;
     }
     let q = 0x10_0000_0000_0000 + a % 0x10_0000_0000_0000;
-    if q % 0x400_0000 != 0 {
-        return false;
-    }
     let h = q / 0x400_0000;
-    h * h == m << (e % 2)
+    q % 0x400_0000 == 0 && h * h == m << (e % 2)
 }
 
 // Inner. Whether r, the root of x, has exactly x as its square: yes for both zeros, no for an infinity, a NaN and a negative x.
@@ -48,7 +45,7 @@ pub fn is_exact(x: f64, r: f64) -> bool
     }
     let a = f64::to_bits(r);
     if b < 0x10_0000_0000_0000 {
-        let z = u64::leading_zeros(b) as u64 - 11;
+        let z = u64::from(b.leading_zeros()) - 11;
         return squares_to(b << z, 52 - z, a);
     }
     squares_to(

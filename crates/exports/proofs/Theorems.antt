@@ -1,17 +1,16 @@
 -- THE C FACE has one outcome for each call: its number, its place, each stored result, and every lent cell. From the theorem of the
 -- call behind it, by one law. Assumes nothing.
 use mathlib.Core.Path.{◌≡◌, sym, ap, ◌∙◌}
-use mathlib.Core.Bool.{Bool}
+use mathlib.Core.Bool.{Bool, false}
 use mathlib.Core.List.{List}
 use Prim.Native.Nat.{ℕ}
 use lib.Ieee.{Float}
-use Rattle.answers.specs.Paper.{Reply, paper}
+use Rattle.answers.specs.Paper.{Reply, paper, given}
 use Rattle.complex.specs.declared.Complex.{Complex}
-use Rattle.told.specs.Told.{Exported, ExportedWith}
-use Rattle.told.proofs.Theorems.{exported-bare-one, exported-one, exported-with-one, exported-value-one}
+use Rattle.told.specs.Told.{Exported, ExportedWith, ExportedResult}
+use Rattle.told.proofs.Theorems.{exported-bare-one, exported-one, exported-with-one, exported-result-one, exported-result-value-one}
 use Rattle.qubits.specs.Lists.{qubit_set, subsystem}
 use Rattle.qubits.proofs.Theorems.{validate-qubit-set-one, validate-subsystem-one}
-use Rattle.qubit_offsets.specs.declared.Traced.{Traced}
 use Rattle.qubit_offsets.specs.Calls.{RowOffsets, TracedBase}
 use Rattle.qubit_offsets.proofs.Theorems.{row-offsets-one, traced-base-one}
 use Rattle.cut_sides.specs.Sides.{SmallerSide}
@@ -28,17 +27,16 @@ use Rattle.density_block.specs.Factor.{block_answer, multiplied}
 use Rattle.density_block.proofs.Theorems.{multiply-block-factor-one}
 use Rattle.density_recount.specs.Recount.{DensityFromCut}
 use Rattle.density_recount.proofs.Theorems.{density-from-cut-one}
-use Rattle.pages.specs.declared.Agreement.{Agreement}
 use Rattle.pages.specs.Agree.{Says, pages_answer, pages_same}
 use Rattle.pages.proofs.Theorems.{pages-agree-one}
-use Rattle.qr.specs.declared.Factored.{Factored}
 use Rattle.qr.specs.Call.{Factorized}
 use Rattle.qr.proofs.Theorems.{factorize-gram-schmidt-one}
-use Rattle.factored.specs.declared.Factored.{Factored as Swept}
+use Rattle.sweeps.specs.declared.Sweeps.{Sweeps}
+use Rattle.sweeps.specs.Sweeping.{no_sweeps}
 use Rattle.factored.specs.declared.Counted.{Counted}
+use Rattle.factored.specs.Factored.{no_count}
 use Rattle.svd.specs.Svd.{Svd}
 use Rattle.svd.proofs.Theorems.{svd-jacobi-one}
-use Rattle.finish.specs.declared.Kept.{Kept}
 use Rattle.finish.specs.Outcome.{Outcome}
 use Rattle.finish.proofs.Theorems.{finish-schmidt-values-one}
 use Rattle.spectra.specs.Outcomes.{Eigenvalues}
@@ -48,13 +46,13 @@ use Rattle.hermitian_eigen.specs.Hermitian.{Eigen}
 use Rattle.hermitian_eigen.proofs.Theorems.{hermitian-eigen-one}
 use Rattle.numbers.specs.Root.{sqrt_of}
 use Rattle.exact_roots.specs.Exact.{exact_root}
-use Rattle.cut_values.specs.Schmidt.{Schmidt}
+use Rattle.cut_values.specs.Schmidt.{Schmidt, no_cut}
 use Rattle.cut_values.specs.declared.CutCounted.{CutCounted}
 use Rattle.cut_values.proofs.Theorems.{dense-schmidt-values-one}
 use Rattle.profiles.specs.Profile.{CutProfile}
 use Rattle.profiles.proofs.Theorems.{cut-profile-one}
 use Rattle.entropy_bands.specs.declared.Entropy.{Entropy}
-use Rattle.entropy_bands.specs.Bands.{EntropyBand}
+use Rattle.entropy_bands.specs.Bands.{EntropyBand, no_entropy}
 use Rattle.entropy_bands.proofs.Theorems.{entropy-band-one}
 use Rattle.plan_numbers.specs.Numbers.{plan_at}
 use Rattle.plan_matrix.specs.PlannedCut.{PlannedCut}
@@ -68,12 +66,10 @@ use Rattle.certificates.specs.Certificate.{certificate_of}
 use Rattle.certificates.specs.declared.Written.{Written}
 use Rattle.certificate_pages.specs.Pages.{pages_of, Called}
 use Rattle.certificate_pages.proofs.Theorems.{print-certificate-one, print-pages-one}
-use Rattle.site_ranks.specs.declared.CutRank.{CutRank}
 use Rattle.site_ranks.specs.Ranks.{Ranked}
 use Rattle.site_ranks.proofs.Theorems.{ranked-one}
 use Rattle.sites.specs.Calls.{Filled}
 use Rattle.sites.proofs.Theorems.{fill_one}
-use Rattle.chain_fill.specs.declared.Chained.{Chained}
 use Rattle.chains.specs.Chains.{ChainOfSites}
 use Rattle.chains.proofs.Theorems.{chain-of-sites-one}
 use Rattle.slabs.specs.Slab.{Put, Dropped, Replaced}
@@ -83,8 +79,7 @@ use Rattle.lots.proofs.Theorems.{lot-sheet-one}
 use Rattle.plan_changes.specs.Changes.{adding, dropping, switching}
 use Rattle.plan_calls.specs.Stored.{CutPlanStored, ChangeStored}
 use Rattle.plan_calls.proofs.Theorems.{store-cut-plan-one, change-stored-one}
-use Rattle.countersign.specs.declared.Countersigned.{Countersigned}
-use Rattle.countersign.specs.Verdict.{Says as Verdict, says, Countersign}
+use Rattle.countersign.specs.Verdict.{Says as Verdict, found, Countersign}
 use Rattle.countersign.proofs.Theorems.{countersign-one}
 
 -- Only one outcome meets the contract of `zg_sqrt_marked`.
@@ -113,10 +108,10 @@ zg-row-offsets-one l n cap out out' out'' =
 
 -- Only one outcome meets the contract of `zg_traced_base`.
 pub zg-traced-base-one : (e : ℕ) (l : List ℕ) (n cap : ℕ) {number place number' place' : ℕ} {value value' : ℕ}
-    → ExportedWith {R = Traced} (λ k. k.answer) (λ k. k.base) (λ k. TracedBase e l n cap k) number place value
-    → ExportedWith {R = Traced} (λ k. k.answer) (λ k. k.base) (λ k. TracedBase e l n cap k) number' place' value'
+    → ExportedResult (given 0) (λ k. TracedBase e l n cap k) number place value
+    → ExportedResult (given 0) (λ k. TracedBase e l n cap k) number' place' value'
     → (number ≡ number') × (place ≡ place') × (value ≡ value')
-zg-traced-base-one e l n cap = exported-value-one (λ k l' c d. traced-base-one e l n cap k l' c d)
+zg-traced-base-one e l n cap = exported-result-value-one (λ k l' c d. traced-base-one e l n cap k l' c d)
 
 -- Only one outcome meets the contract of `zg_smaller_side`.
 pub zg-smaller-side-one : (l : List ℕ) (n cap : ℕ) (others : List ℕ) (others' others'' : List ℕ) {number place number' place' : ℕ}
@@ -169,66 +164,66 @@ zg-density-from-cut-one matrix n l cap out out' out'' =
 
 -- Only one outcome meets the contract of `zg_pages_agree`.
 pub zg-pages-agree-one : (state : List Float) (n : ℕ) (l : List ℕ) (cap : ℕ) {number place number' place' : ℕ} {value value' : Bool}
-    → ExportedWith {R = Agreement} (λ k. k.answer) (λ k. k.yes) (λ k. Says (pages_answer state n l cap) (pages_same state n l) k) number place value
-    → ExportedWith {R = Agreement} (λ k. k.answer) (λ k. k.yes) (λ k. Says (pages_answer state n l cap) (pages_same state n l) k) number' place' value'
+    → ExportedResult (given false) (λ k. Says (pages_answer state n l cap) (pages_same state n l) k) number place value
+    → ExportedResult (given false) (λ k. Says (pages_answer state n l cap) (pages_same state n l) k) number' place' value'
     → (number ≡ number') × (place ≡ place') × (value ≡ value')
-zg-pages-agree-one state n l cap = exported-value-one (λ k l' c d. let e = pages-agree-one state n l cap k l' c d in (ap (λ (x : Agreement). x.answer) e, ap (λ (x : Agreement). x.yes) e))
+zg-pages-agree-one state n l cap = exported-result-value-one (λ k l' c d. pages-agree-one state n l cap k l' c d)
 
 -- Only one outcome meets the contract of `zg_factorize_gram_schmidt`.
 pub zg-factorize-gram-schmidt-one : (a : List Float) (rows cols : ℕ) (q r scratch : List Float) (q' q'' : List Float) (r' r'' : List Float) (scratch' scratch'' : List Float) {number place number' place' : ℕ} {value value' : ℕ}
-    → ExportedWith {R = Factored} (λ k. k.answer) (λ k. k.rank) (λ k. Factorized a rows cols q r scratch k.answer k.rank q' r' scratch') number place value
-    → ExportedWith {R = Factored} (λ k. k.answer) (λ k. k.rank) (λ k. Factorized a rows cols q r scratch k.answer k.rank q'' r'' scratch'') number' place' value'
+    → ExportedResult (given 0) (λ k. Factorized a rows cols q r scratch k q' r' scratch') number place value
+    → ExportedResult (given 0) (λ k. Factorized a rows cols q r scratch k q'' r'' scratch'') number' place' value'
     → (number ≡ number') × (place ≡ place') × (value ≡ value') × ((q' ≡ q'') × (r' ≡ r'') × (scratch' ≡ scratch''))
 zg-factorize-gram-schmidt-one a rows cols q r scratch q' q'' r' r'' scratch' scratch'' =
-    exported-with-one (λ k l' c d. let e = factorize-gram-schmidt-one a rows cols q r scratch k.answer l'.answer k.rank l'.rank q' r' scratch' q'' r'' scratch'' c d in (e.0, e.1, (e.2, e.3, e.4)))
+    exported-result-one (λ k l' c d. let e = factorize-gram-schmidt-one a rows cols q r scratch k l' q' r' scratch' q'' r'' scratch'' c d in (e.0, (e.1, e.2, e.3)))
 
 -- Only one outcome meets the contract of `zg_svd_jacobi`.
 pub zg-svd-jacobi-one : (a : List Float) (m n : ℕ) (u s vt scratch : List Float) (u' u'' : List Float) (s' s'' : List Float) (vt' vt'' : List Float) (scratch' scratch'' : List Float) {number place number' place' : ℕ} {value value' : ℕ × Bool × ℕ}
-    → ExportedWith {R = Swept} {W = ℕ × Bool × ℕ} (λ k. k.answer) (λ k. (k.sweeps.begun, k.sweeps.quiet, k.sweeps.turned)) (λ k. Svd a m n u s vt scratch k u' s' vt' scratch') number place value
-    → ExportedWith {R = Swept} {W = ℕ × Bool × ℕ} (λ k. k.answer) (λ k. (k.sweeps.begun, k.sweeps.quiet, k.sweeps.turned)) (λ k. Svd a m n u s vt scratch k u'' s'' vt'' scratch'') number' place' value'
+    → ExportedResult {A = Sweeps} {W = ℕ × Bool × ℕ} (λ k. ((given no_sweeps k).begun, (given no_sweeps k).quiet, (given no_sweeps k).turned)) (λ k. Svd a m n u s vt scratch k u' s' vt' scratch') number place value
+    → ExportedResult {A = Sweeps} {W = ℕ × Bool × ℕ} (λ k. ((given no_sweeps k).begun, (given no_sweeps k).quiet, (given no_sweeps k).turned)) (λ k. Svd a m n u s vt scratch k u'' s'' vt'' scratch'') number' place' value'
     → (number ≡ number') × (place ≡ place') × (value ≡ value') × ((u' ≡ u'') × (s' ≡ s'') × (vt' ≡ vt'') × (scratch' ≡ scratch''))
 zg-svd-jacobi-one a m n u s vt scratch u' u'' s' s'' vt' vt'' scratch' scratch'' =
-    exported-with-one (λ k l' c d. let e = svd-jacobi-one a m n u s vt scratch k l' u' s' vt' scratch' u'' s'' vt'' scratch'' c d in (ap (λ (x : Swept). x.answer) e.0, ap (λ (x : Swept). (x.sweeps.begun, x.sweeps.quiet, x.sweeps.turned)) e.0, (e.1, e.2, e.3, e.4)))
+    exported-result-one (λ k l' c d. let e = svd-jacobi-one a m n u s vt scratch k l' u' s' vt' scratch' u'' s'' vt'' scratch'' c d in (e.0, (e.1, e.2, e.3, e.4)))
 
 -- Only one outcome meets the contract of `zg_finish_schmidt_values`.
 pub zg-finish-schmidt-values-one : (values out : List Float) (out' out'' : List Float) {number place number' place' : ℕ} {value value' : ℕ}
-    → ExportedWith {R = Kept} (λ k. k.answer) (λ k. k.count) (λ k. Outcome values out k out') number place value
-    → ExportedWith {R = Kept} (λ k. k.answer) (λ k. k.count) (λ k. Outcome values out k out'') number' place' value'
+    → ExportedResult (given 0) (λ k. Outcome values out k out') number place value
+    → ExportedResult (given 0) (λ k. Outcome values out k out'') number' place' value'
     → (number ≡ number') × (place ≡ place') × (value ≡ value') × (out' ≡ out'')
 zg-finish-schmidt-values-one values out out' out'' =
-    exported-with-one (λ k l' c d. let e = finish-schmidt-values-one values out k l' out' out'' c d in (ap (λ (x : Kept). x.answer) e.0, ap (λ (x : Kept). x.count) e.0, e.1))
+    exported-result-one (λ k l' c d. let e = finish-schmidt-values-one values out k l' out' out'' c d in (e.0, e.1))
 
 -- Only one outcome meets the contract of `zg_hermitian_eigenvalues`.
 pub zg-hermitian-eigenvalues-one : (a : List Float) (dim : ℕ) (out scratch : List Float) (out' out'' : List Float) (scratch' scratch'' : List Float) {number place number' place' : ℕ} {value value' : ℕ × Bool × ℕ}
-    → ExportedWith {R = Swept} {W = ℕ × Bool × ℕ} (λ k. k.answer) (λ k. (k.sweeps.begun, k.sweeps.quiet, k.sweeps.turned)) (λ k. Eigenvalues a dim out scratch k out' scratch') number place value
-    → ExportedWith {R = Swept} {W = ℕ × Bool × ℕ} (λ k. k.answer) (λ k. (k.sweeps.begun, k.sweeps.quiet, k.sweeps.turned)) (λ k. Eigenvalues a dim out scratch k out'' scratch'') number' place' value'
+    → ExportedResult {A = Sweeps} {W = ℕ × Bool × ℕ} (λ k. ((given no_sweeps k).begun, (given no_sweeps k).quiet, (given no_sweeps k).turned)) (λ k. Eigenvalues a dim out scratch k out' scratch') number place value
+    → ExportedResult {A = Sweeps} {W = ℕ × Bool × ℕ} (λ k. ((given no_sweeps k).begun, (given no_sweeps k).quiet, (given no_sweeps k).turned)) (λ k. Eigenvalues a dim out scratch k out'' scratch'') number' place' value'
     → (number ≡ number') × (place ≡ place') × (value ≡ value') × ((out' ≡ out'') × (scratch' ≡ scratch''))
 zg-hermitian-eigenvalues-one a dim out scratch out' out'' scratch' scratch'' =
-    exported-with-one (λ k l' c d. let e = hermitian-eigenvalues-one a dim out scratch k l' out' out'' scratch' scratch'' c d in (ap (λ (x : Swept). x.answer) e.0, ap (λ (x : Swept). (x.sweeps.begun, x.sweeps.quiet, x.sweeps.turned)) e.0, (e.1, e.2)))
+    exported-result-one (λ k l' c d. let e = hermitian-eigenvalues-one a dim out scratch k l' out' out'' scratch' scratch'' c d in (e.0, (e.1, e.2)))
 
 -- Only one outcome meets the contract of `zg_schmidt_values_from_density`.
 pub zg-schmidt-values-from-density-one : (rho : List Float) (dim : ℕ) (out scratch : List Float) (out' out'' : List Float) (scratch' scratch'' : List Float) {number place number' place' : ℕ} {value value' : ℕ × ℕ × Bool × ℕ}
-    → ExportedWith {R = Counted} {W = ℕ × ℕ × Bool × ℕ} (λ k. k.answer) (λ k. (k.count, k.sweeps.begun, k.sweeps.quiet, k.sweeps.turned)) (λ k. DensityValues rho dim out scratch k out' scratch') number place value
-    → ExportedWith {R = Counted} {W = ℕ × ℕ × Bool × ℕ} (λ k. k.answer) (λ k. (k.count, k.sweeps.begun, k.sweeps.quiet, k.sweeps.turned)) (λ k. DensityValues rho dim out scratch k out'' scratch'') number' place' value'
+    → ExportedResult {A = Counted} {W = ℕ × ℕ × Bool × ℕ} (λ k. ((given no_count k).count, (given no_count k).sweeps.begun, (given no_count k).sweeps.quiet, (given no_count k).sweeps.turned)) (λ k. DensityValues rho dim out scratch k out' scratch') number place value
+    → ExportedResult {A = Counted} {W = ℕ × ℕ × Bool × ℕ} (λ k. ((given no_count k).count, (given no_count k).sweeps.begun, (given no_count k).sweeps.quiet, (given no_count k).sweeps.turned)) (λ k. DensityValues rho dim out scratch k out'' scratch'') number' place' value'
     → (number ≡ number') × (place ≡ place') × (value ≡ value') × ((out' ≡ out'') × (scratch' ≡ scratch''))
 zg-schmidt-values-from-density-one rho dim out scratch out' out'' scratch' scratch'' =
-    exported-with-one (λ k l' c d. let e = schmidt-values-from-density-one rho dim out scratch k l' out' out'' scratch' scratch'' c d in (ap (λ (x : Counted). x.answer) e.0, ap (λ (x : Counted). (x.count, x.sweeps.begun, x.sweeps.quiet, x.sweeps.turned)) e.0, (e.1, e.2)))
+    exported-result-one (λ k l' c d. let e = schmidt-values-from-density-one rho dim out scratch k l' out' out'' scratch' scratch'' c d in (e.0, (e.1, e.2)))
 
 -- Only one outcome meets the contract of `zg_hermitian_eigen`.
 pub zg-hermitian-eigen-one : (matrix : List Float) (dim : ℕ) (values vectors scratch : List Float) (values' values'' : List Float) (vectors' vectors'' : List Float) (scratch' scratch'' : List Float) {number place number' place' : ℕ} {value value' : ℕ × Bool × ℕ}
-    → ExportedWith {R = Swept} {W = ℕ × Bool × ℕ} (λ k. k.answer) (λ k. (k.sweeps.begun, k.sweeps.quiet, k.sweeps.turned)) (λ k. Eigen matrix dim values vectors scratch k values' vectors' scratch') number place value
-    → ExportedWith {R = Swept} {W = ℕ × Bool × ℕ} (λ k. k.answer) (λ k. (k.sweeps.begun, k.sweeps.quiet, k.sweeps.turned)) (λ k. Eigen matrix dim values vectors scratch k values'' vectors'' scratch'') number' place' value'
+    → ExportedResult {A = Sweeps} {W = ℕ × Bool × ℕ} (λ k. ((given no_sweeps k).begun, (given no_sweeps k).quiet, (given no_sweeps k).turned)) (λ k. Eigen matrix dim values vectors scratch k values' vectors' scratch') number place value
+    → ExportedResult {A = Sweeps} {W = ℕ × Bool × ℕ} (λ k. ((given no_sweeps k).begun, (given no_sweeps k).quiet, (given no_sweeps k).turned)) (λ k. Eigen matrix dim values vectors scratch k values'' vectors'' scratch'') number' place' value'
     → (number ≡ number') × (place ≡ place') × (value ≡ value') × ((values' ≡ values'') × (vectors' ≡ vectors'') × (scratch' ≡ scratch''))
 zg-hermitian-eigen-one matrix dim values vectors scratch values' values'' vectors' vectors'' scratch' scratch'' =
-    exported-with-one (λ k l' c d. let e = hermitian-eigen-one matrix dim values vectors scratch k l' values' vectors' scratch' values'' vectors'' scratch'' c d in (ap (λ (x : Swept). x.answer) e.0, ap (λ (x : Swept). (x.sweeps.begun, x.sweeps.quiet, x.sweeps.turned)) e.0, (e.1, e.2, e.3)))
+    exported-result-one (λ k l' c d. let e = hermitian-eigen-one matrix dim values vectors scratch k l' values' vectors' scratch' values'' vectors'' scratch'' c d in (e.0, (e.1, e.2, e.3)))
 
 -- Only one outcome meets the contract of `zg_dense_schmidt_values`.
 pub zg-dense-schmidt-values-one : (state : List Float) (n : ℕ) (l : List ℕ) (cap : ℕ) (out scratch : List Float) (out' out'' : List Float) (scratch' scratch'' : List Float) {number place number' place' : ℕ} {value value' : ℕ × ℕ × Bool × ℕ × Bool}
-    → ExportedWith {R = CutCounted} {W = ℕ × ℕ × Bool × ℕ × Bool} (λ k. k.answer) (λ k. (k.count, k.sweeps.begun, k.sweeps.quiet, k.sweeps.turned, k.exact)) (λ k. Schmidt state n l cap out scratch k out' scratch') number place value
-    → ExportedWith {R = CutCounted} {W = ℕ × ℕ × Bool × ℕ × Bool} (λ k. k.answer) (λ k. (k.count, k.sweeps.begun, k.sweeps.quiet, k.sweeps.turned, k.exact)) (λ k. Schmidt state n l cap out scratch k out'' scratch'') number' place' value'
+    → ExportedResult {A = CutCounted} {W = ℕ × ℕ × Bool × ℕ × Bool} (λ k. ((given no_cut k).count, (given no_cut k).sweeps.begun, (given no_cut k).sweeps.quiet, (given no_cut k).sweeps.turned, (given no_cut k).exact)) (λ k. Schmidt state n l cap out scratch k out' scratch') number place value
+    → ExportedResult {A = CutCounted} {W = ℕ × ℕ × Bool × ℕ × Bool} (λ k. ((given no_cut k).count, (given no_cut k).sweeps.begun, (given no_cut k).sweeps.quiet, (given no_cut k).sweeps.turned, (given no_cut k).exact)) (λ k. Schmidt state n l cap out scratch k out'' scratch'') number' place' value'
     → (number ≡ number') × (place ≡ place') × (value ≡ value') × ((out' ≡ out'') × (scratch' ≡ scratch''))
 zg-dense-schmidt-values-one state n l cap out scratch out' out'' scratch' scratch'' =
-    exported-with-one (λ k l' c d. let e = dense-schmidt-values-one state n l cap out scratch k l' out' scratch' out'' scratch'' c d in (ap (λ (x : CutCounted). x.answer) e.0, ap (λ (x : CutCounted). (x.count, x.sweeps.begun, x.sweeps.quiet, x.sweeps.turned, x.exact)) e.0, (e.1, e.2)))
+    exported-result-one (λ k l' c d. let e = dense-schmidt-values-one state n l cap out scratch k l' out' scratch' out'' scratch'' c d in (e.0, (e.1, e.2)))
 
 -- Only one outcome meets the contract of `zg_cut_profile`.
 pub zg-cut-profile-one : (state : List Float) (n cap : ℕ) (header : List ℕ) (values largest : List Float) (ranks marks : List ℕ) (scratch : List Float)
@@ -243,10 +238,10 @@ zg-cut-profile-one state n cap header values largest ranks marks scratch header'
 
 -- Only one outcome meets the contract of `zg_cut_rank` and of `zg_widest_block_cut`.
 pub zg-ranked-one : (reply : Reply) (v : ℕ) {number place number' place' : ℕ} {value value' : ℕ}
-    → ExportedWith {R = CutRank} (λ k. k.answer) (λ k. k.rank) (λ k. Ranked reply v k.answer k.rank) number place value
-    → ExportedWith {R = CutRank} (λ k. k.answer) (λ k. k.rank) (λ k. Ranked reply v k.answer k.rank) number' place' value'
+    → ExportedResult (given 0) (λ k. Ranked reply v k) number place value
+    → ExportedResult (given 0) (λ k. Ranked reply v k) number' place' value'
     → (number ≡ number') × (place ≡ place') × (value ≡ value')
-zg-ranked-one reply v = exported-value-one (λ k l' c d. ranked-one reply v k.answer l'.answer k.rank l'.rank c d)
+zg-ranked-one reply v = exported-result-value-one (λ k l' c d. ranked-one reply v k l' c d)
 
 -- Only one outcome meets the contract of each of the four `zg_fill` calls.
 pub zg-fill-one : (reply : Reply) (cells : ℕ) (f : ℕ → Complex) (out : List Float) (out' out'' : List Float) {number place number' place' : ℕ}
@@ -257,33 +252,33 @@ zg-fill-one reply cells f out out' out'' =
 
 -- Only one outcome meets the contract of `zg_entropy_band`.
 pub zg-entropy-band-one : (state : List Float) (n : ℕ) (l : List ℕ) (cap : ℕ) (bands : List ℕ) (scratch : List Float) (bands' bands'' : List ℕ) (scratch' scratch'' : List Float) {number place number' place' : ℕ} {value value' : ℕ × ℕ × ℕ × ℕ × ℕ × Bool × ℕ}
-    → ExportedWith {R = Entropy} {W = ℕ × ℕ × ℕ × ℕ × ℕ × Bool × ℕ} (λ k. k.answer) (λ k. (k.count, k.low, k.high, k.whole, k.sweeps.begun, k.sweeps.quiet, k.sweeps.turned)) (λ k. EntropyBand state n l cap bands scratch k bands' scratch') number place value
-    → ExportedWith {R = Entropy} {W = ℕ × ℕ × ℕ × ℕ × ℕ × Bool × ℕ} (λ k. k.answer) (λ k. (k.count, k.low, k.high, k.whole, k.sweeps.begun, k.sweeps.quiet, k.sweeps.turned)) (λ k. EntropyBand state n l cap bands scratch k bands'' scratch'') number' place' value'
+    → ExportedResult {A = Entropy} {W = ℕ × ℕ × ℕ × ℕ × ℕ × Bool × ℕ} (λ k. ((given no_entropy k).count, (given no_entropy k).low, (given no_entropy k).high, (given no_entropy k).whole, (given no_entropy k).sweeps.begun, (given no_entropy k).sweeps.quiet, (given no_entropy k).sweeps.turned)) (λ k. EntropyBand state n l cap bands scratch k bands' scratch') number place value
+    → ExportedResult {A = Entropy} {W = ℕ × ℕ × ℕ × ℕ × ℕ × Bool × ℕ} (λ k. ((given no_entropy k).count, (given no_entropy k).low, (given no_entropy k).high, (given no_entropy k).whole, (given no_entropy k).sweeps.begun, (given no_entropy k).sweeps.quiet, (given no_entropy k).sweeps.turned)) (λ k. EntropyBand state n l cap bands scratch k bands'' scratch'') number' place' value'
     → (number ≡ number') × (place ≡ place') × (value ≡ value') × ((bands' ≡ bands'') × (scratch' ≡ scratch''))
 zg-entropy-band-one state n l cap bands scratch bands' bands'' scratch' scratch'' =
-    exported-with-one (λ k l' c d. let e = entropy-band-one state n l cap bands scratch k l' bands' bands'' scratch' scratch'' c d in (ap (λ (x : Entropy). x.answer) e.0, ap (λ (x : Entropy). (x.count, x.low, x.high, x.whole, x.sweeps.begun, x.sweeps.quiet, x.sweeps.turned)) e.0, (e.1, e.2)))
+    exported-result-one (λ k l' c d. let e = entropy-band-one state n l cap bands scratch k l' bands' bands'' scratch' scratch'' c d in (e.0, (e.1, e.2)))
 
 -- Only one outcome meets the contract of `zg_countersign`.
 pub zg-countersign-one : (a : List Float) (m n : ℕ) (u s vt : List Float) (tolerance : ℕ) {number place number' place' : ℕ} {value value' : Verdict}
-    → ExportedWith {R = Countersigned} (λ k. k.answer) (λ k. says k.finding) (λ k. Countersign a m n u s vt tolerance k) number place value
-    → ExportedWith {R = Countersigned} (λ k. k.answer) (λ k. says k.finding) (λ k. Countersign a m n u s vt tolerance k) number' place' value'
+    → ExportedResult found (λ k. Countersign a m n u s vt tolerance k) number place value
+    → ExportedResult found (λ k. Countersign a m n u s vt tolerance k) number' place' value'
     → (number ≡ number') × (place ≡ place') × (value ≡ value')
 zg-countersign-one a m n u s vt tolerance =
-    exported-value-one (λ k l' c d. let e = countersign-one a m n u s vt tolerance k l' c d in (e.0, ap says e.1))
+    exported-result-value-one (λ k l' c d. countersign-one a m n u s vt tolerance k l' c d)
 
 -- Only one outcome meets the contract of `zg_chain_of_sites`.
 pub zg-chain-of-sites-one : (s : List Float) (n : ℕ) (epsilon : Float) (limit : ℕ) (sites : List Float) (bonds starts marks : List ℕ) (matrix u vt scratch : List Float)
     (sites' : List Float) (bonds' starts' marks' : List ℕ) (matrix' u' vt' scratch' : List Float)
     (sites'' : List Float) (bonds'' starts'' marks'' : List ℕ) (matrix'' u'' vt'' scratch'' : List Float) {number place number' place' : ℕ} {value value' : ℕ}
-    → ExportedWith {R = Chained} (λ k. k.answer) (λ k. k.dropped) (λ k. ChainOfSites s n epsilon limit sites bonds starts marks matrix u vt scratch k sites' bonds' starts' marks' matrix' u' vt' scratch') number place value
-    → ExportedWith {R = Chained} (λ k. k.answer) (λ k. k.dropped) (λ k. ChainOfSites s n epsilon limit sites bonds starts marks matrix u vt scratch k sites'' bonds'' starts'' marks'' matrix'' u'' vt'' scratch'') number' place' value'
+    → ExportedResult (given 0) (λ k. ChainOfSites s n epsilon limit sites bonds starts marks matrix u vt scratch k sites' bonds' starts' marks' matrix' u' vt' scratch') number place value
+    → ExportedResult (given 0) (λ k. ChainOfSites s n epsilon limit sites bonds starts marks matrix u vt scratch k sites'' bonds'' starts'' marks'' matrix'' u'' vt'' scratch'') number' place' value'
     → (number ≡ number') × (place ≡ place') × (value ≡ value')
     × ((sites' ≡ sites'') × (bonds' ≡ bonds'') × (starts' ≡ starts'') × (marks' ≡ marks'') × (matrix' ≡ matrix'') × (u' ≡ u'') × (vt' ≡ vt'') × (scratch' ≡ scratch''))
 zg-chain-of-sites-one s n epsilon limit sites bonds starts marks matrix u vt scratch sites' bonds' starts' marks' matrix' u' vt' scratch' sites'' bonds'' starts'' marks'' matrix'' u'' vt'' scratch'' =
-    exported-with-one
+    exported-result-one
     (λ k l' c d.
     let e = chain-of-sites-one s n epsilon limit sites bonds starts marks matrix u vt scratch k l' sites' bonds' starts' marks' matrix' u' vt' scratch' sites'' bonds'' starts'' marks'' matrix'' u'' vt'' scratch'' c d in
-    (ap (λ (x : Chained). x.answer) e.0, ap (λ (x : Chained). x.dropped) e.0, (e.1, e.2, e.3, e.4, e.5, e.6, e.7, e.8)))
+    (e.0, (e.1, e.2, e.3, e.4, e.5, e.6, e.7, e.8)))
 
 -- Only one outcome meets the contract of `zg_slab_put`.
 pub zg-slab-put-one : (cells index : List ℕ) (site : ℕ) (given : List ℕ) (cells' cells'' index' index'' : List ℕ) {number place number' place' : ℕ}
@@ -345,11 +340,11 @@ zg-planned-cut-matrix-one state w out out' out'' =
 
 -- Only one outcome meets the contract of `zg_planned_schmidt_values`.
 pub zg-planned-schmidt-values-one : (state : List Float) (w : List ℕ) (out scratch : List Float) (out' out'' : List Float) (scratch' scratch'' : List Float) {number place number' place' : ℕ} {value value' : ℕ × ℕ × Bool × ℕ × Bool}
-    → ExportedWith {R = CutCounted} {W = ℕ × ℕ × Bool × ℕ × Bool} (λ k. k.answer) (λ k. (k.count, k.sweeps.begun, k.sweeps.quiet, k.sweeps.turned, k.exact)) (λ k. PlannedValues state (plan_at w) out scratch k out' scratch') number place value
-    → ExportedWith {R = CutCounted} {W = ℕ × ℕ × Bool × ℕ × Bool} (λ k. k.answer) (λ k. (k.count, k.sweeps.begun, k.sweeps.quiet, k.sweeps.turned, k.exact)) (λ k. PlannedValues state (plan_at w) out scratch k out'' scratch'') number' place' value'
+    → ExportedResult {A = CutCounted} {W = ℕ × ℕ × Bool × ℕ × Bool} (λ k. ((given no_cut k).count, (given no_cut k).sweeps.begun, (given no_cut k).sweeps.quiet, (given no_cut k).sweeps.turned, (given no_cut k).exact)) (λ k. PlannedValues state (plan_at w) out scratch k out' scratch') number place value
+    → ExportedResult {A = CutCounted} {W = ℕ × ℕ × Bool × ℕ × Bool} (λ k. ((given no_cut k).count, (given no_cut k).sweeps.begun, (given no_cut k).sweeps.quiet, (given no_cut k).sweeps.turned, (given no_cut k).exact)) (λ k. PlannedValues state (plan_at w) out scratch k out'' scratch'') number' place' value'
     → (number ≡ number') × (place ≡ place') × (value ≡ value') × ((out' ≡ out'') × (scratch' ≡ scratch''))
 zg-planned-schmidt-values-one state w out scratch out' out'' scratch' scratch'' =
-    exported-with-one (λ k l' c d. let e = planned-schmidt-values-one state (plan_at w) out scratch k l' out' scratch' out'' scratch'' c d in (ap (λ (x : CutCounted). x.answer) e.0, ap (λ (x : CutCounted). (x.count, x.sweeps.begun, x.sweeps.quiet, x.sweeps.turned, x.exact)) e.0, (e.1, e.2)))
+    exported-result-one (λ k l' c d. let e = planned-schmidt-values-one state (plan_at w) out scratch k l' out' scratch' out'' scratch'' c d in (e.0, (e.1, e.2)))
 
 -- Only one outcome meets the contract of `zg_planned_reduced_density`.
 pub zg-planned-reduced-density-one : (state : List Float) (w : List ℕ) (out scratch : List Float) (out' out'' : List Float) (scratch' scratch'' : List Float) {number place number' place' : ℕ}

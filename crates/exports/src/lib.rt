@@ -4,10 +4,9 @@
 // entry point's contract holds.
 #![tactic(auto)]
 
-// ---- numbers: nothing is refused
-ghost use Rattle.std.specs.Prelude.{◌≡◌, ℕ, ◌≤◌, ◌*◌, Bool, length};
-ghost use Rattle.answers.specs.Paper.{paper, and_then};
-ghost use Rattle.told.specs.Told.{Exported, ExportedWith};
+ghost use Rattle.std.specs.Prelude.{◌≡◌, ℕ, ◌≤◌, ◌*◌, Bool, false, length};
+ghost use Rattle.answers.specs.Paper.{paper, given, and_then};
+ghost use Rattle.told.specs.Told.{Exported, ExportedWith, ExportedResult};
 ghost use Rattle.std.specs.Float.{binary64};
 ghost use Rattle.std.specs.Float.Ieee.{to_bits, of_bits};
 ghost use Rattle.numbers.specs.Root.{sqrt_of};
@@ -24,33 +23,30 @@ ghost use Rattle.cut_sides.specs.Sides.{SmallerSide};
 ghost use Rattle.cuts.specs.Cut.{CutMatrix};
 ghost use Rattle.densities.specs.Density.{Density};
 ghost use Rattle.qr.specs.Call.{Factorized};
-ghost use Rattle.qr.specs.declared.Factored.{Factored};
-ghost use Rattle.factored.specs.declared.Factored.{Factored as Swept};
 ghost use Rattle.density_trace.specs.Trace.{normalize_answer, normalized};
 ghost use Rattle.density_block.specs.Factor.{block_answer, multiplied};
+ghost use Rattle.sweeps.specs.declared.Sweeps.{Sweeps};
+ghost use Rattle.sweeps.specs.Sweeping.{no_sweeps};
 ghost use Rattle.factored.specs.declared.Counted.{Counted};
+ghost use Rattle.factored.specs.Factored.{no_count};
 ghost use Rattle.svd.specs.Svd.{Svd};
 ghost use Rattle.spectra.specs.Outcomes.{Eigenvalues};
 ghost use Rattle.site_ranks.specs.Ranks.{rank_of, discards_of, Ranked, bond_sizes, cut_rank_of, widest_sizes, widest_of};
-ghost use Rattle.site_ranks.specs.declared.CutRank.{CutRank};
 ghost use Rattle.site_lines.specs.Sources.{site_cell, isometry_cell, scaled_u_cell, vt_cell, scaled_vt_cell};
 ghost use Rattle.sites.specs.Calls.{column_sizes, row_sizes, plain_reply, scaled_u_reply, scaled_vt_reply, Filled};
 ghost use Rattle.spectra.specs.Density.{DensityValues};
 ghost use Rattle.density_recount.specs.Recount.{DensityFromCut};
 ghost use Rattle.pages.specs.Agree.{Says, pages_answer, pages_same};
-ghost use Rattle.pages.specs.declared.Agreement.{Agreement};
-ghost use Rattle.countersign.specs.Verdict.{says, Countersign};
-ghost use Rattle.countersign.specs.declared.Countersigned.{Countersigned};
-ghost use Rattle.chain_fill.specs.declared.Chained.{Chained};
+ghost use Rattle.countersign.specs.Verdict.{found, Countersign};
 ghost use Rattle.chains.specs.Chains.{ChainOfSites};
 ghost use Rattle.slabs.specs.Slab.{Put, Dropped, Replaced};
 ghost use Rattle.lots.specs.Lot.{Lot};
 ghost use Rattle.hermitian_eigen.specs.Hermitian.{Eigen};
-ghost use Rattle.cut_values.specs.Schmidt.{Schmidt};
+ghost use Rattle.cut_values.specs.Schmidt.{Schmidt, no_cut};
 ghost use Rattle.profiles.specs.Profile.{CutProfile};
 ghost use Rattle.cut_values.specs.declared.CutCounted.{CutCounted};
 ghost use Rattle.entropy_bands.specs.declared.Entropy.{Entropy};
-ghost use Rattle.entropy_bands.specs.Bands.{EntropyBand};
+ghost use Rattle.entropy_bands.specs.Bands.{EntropyBand, no_entropy};
 ghost use Rattle.plan_changes.specs.Changes.{adding, dropping, switching};
 ghost use Rattle.plan_calls.specs.Stored.{CutPlanStored, ChangeStored};
 ghost use Rattle.plan_numbers.specs.Numbers.{plan_at};
@@ -62,8 +58,58 @@ ghost use Rattle.certificates.specs.Certificate.{certificate_of};
 ghost use Rattle.certificates.specs.declared.Written.{Written};
 ghost use Rattle.certificate_pages.specs.Pages.{pages_of, Called};
 
-use answers::Answer;
+use answers::Refusal;
 use complex::Complex;
+use countersign::Verdict;
+use cut_values::CutCounted;
+use entropy_bands::Entropy;
+use factored::Counted;
+
+// What a call gave, or `none` where it was refused.
+fn given<T: Copy>(none: T, made: &Result<T, Refusal>) -> T
+    ensures { result ≡ given none made.now }
+{
+    match made {
+        Ok(x) => *x,
+        Err(_) => none,
+    }
+}
+
+// Of a refusal: no value, no sweep.
+fn no_count() -> Counted
+    ensures { result ≡ no_count }
+{
+    Counted {
+        count: 0,
+        sweeps: sweeps::none(),
+    }
+}
+
+// The same, and the mark is no.
+fn no_cut() -> CutCounted
+    ensures { result ≡ no_cut }
+{
+    CutCounted {
+        count: 0,
+        sweeps: sweeps::none(),
+        exact: false,
+    }
+}
+
+// The same, and every sum is 0.
+fn no_entropy() -> Entropy
+    ensures { result ≡ no_entropy }
+{
+    Entropy {
+        count: 0,
+        low: 0,
+        high: 0,
+        whole: 0,
+        sweeps: sweeps::none(),
+    }
+}
+
+// ---- numbers: nothing is refused
 
 #[unsafe(no_mangle)]
 pub extern "C" fn zg_sqrt(x: f64) -> f64
@@ -146,14 +192,14 @@ pub extern "C" fn zg_modulus(re: f64, im: f64) -> f64
 pub extern "C" fn zg_validate_qubit_set(list: &[usize], n: usize, place: &mut usize) -> u32
     ensures { Exported (λ a. paper a ≡ qubit_set n list.now) result place.new }
 {
-    told::told(qubits::validate_qubit_set(list, n), place)
+    told::told(&qubits::validate_qubit_set(list, n), place)
 }
 
 #[unsafe(no_mangle)]
 pub extern "C" fn zg_validate_subsystem(list: &[usize], n: usize, place: &mut usize) -> u32
     ensures { Exported (λ a. paper a ≡ subsystem n list.now) result place.new }
 {
-    told::told(qubits::validate_subsystem(list, n), place)
+    told::told(&qubits::validate_subsystem(list, n), place)
 }
 
 #[unsafe(no_mangle)]
@@ -166,7 +212,7 @@ pub extern "C" fn zg_row_offsets(
 ) -> u32
     ensures { Exported (λ a. RowOffsets list.now n cap out.old a out.new) result place.new }
 {
-    told::told(qubit_offsets::row_offsets(list, n, cap, out), place)
+    told::told(&qubit_offsets::row_offsets(list, n, cap, out), place)
 }
 
 #[unsafe(no_mangle)]
@@ -178,12 +224,11 @@ pub extern "C" fn zg_traced_base(
     place: &mut usize,
     base: &mut usize,
 ) -> u32
-    ensures { ExportedWith (λ k. k.answer) (λ k. k.base) (λ k. TracedBase e list.now n cap k) result place.new base.new }
+    ensures { ExportedResult (given 0) (λ k. TracedBase e list.now n cap k) result place.new base.new }
 {
     let k = qubit_offsets::traced_base(e, list, n, cap);
-    *base = k.base;
-    let answer = k.answer;
-    told::told(answer, place)
+    *base = given(0, &k);
+    told::told(&k, place)
 }
 
 #[unsafe(no_mangle)]
@@ -196,7 +241,7 @@ pub extern "C" fn zg_smaller_side(
 ) -> u32
     ensures { Exported (λ a. SmallerSide list.now n cap others.old a others.new) result place.new }
 {
-    told::told(cut_sides::smaller_side(list, n, cap, others), place)
+    told::told(&cut_sides::smaller_side(list, n, cap, others), place)
 }
 
 #[unsafe(no_mangle)]
@@ -210,7 +255,7 @@ pub extern "C" fn zg_cut_matrix(
 ) -> u32
     ensures { Exported (λ a. CutMatrix state.now n list.now cap out.old a out.new) result place.new }
 {
-    told::told(cuts::cut_matrix(state, n, list, cap, out), place)
+    told::told(&cuts::cut_matrix(state, n, list, cap, out), place)
 }
 
 // ---- densities
@@ -219,7 +264,7 @@ pub extern "C" fn zg_cut_matrix(
 pub extern "C" fn zg_mirror_lower_triangle(rho: &mut [f64], dim: usize, place: &mut usize) -> u32
     ensures { Exported (λ a. InPlace (square_answer rho.old dim) (mirrored rho.old dim) rho.old a rho.new) result place.new }
 {
-    told::told(densities::mirror_lower_triangle(rho, dim), place)
+    told::told(&densities::mirror_lower_triangle(rho, dim), place)
 }
 
 #[unsafe(no_mangle)]
@@ -235,7 +280,7 @@ pub extern "C" fn zg_dense_reduced_density(
     ensures { Exported (λ a. Density state.now n list.now cap out.old scratch.old a out.new scratch.new) result place.new }
 {
     told::told(
-        densities::dense_reduced_density(state, n, list, cap, out, scratch),
+        &densities::dense_reduced_density(state, n, list, cap, out, scratch),
         place,
     )
 }
@@ -244,7 +289,7 @@ pub extern "C" fn zg_dense_reduced_density(
 pub extern "C" fn zg_normalize_trace(rho: &mut [f64], dim: usize, place: &mut usize) -> u32
     ensures { Exported (λ a. InPlace (normalize_answer rho.old dim) (normalized rho.old dim) rho.old a rho.new) result place.new }
 {
-    told::told(density_trace::normalize_trace(rho, dim), place)
+    told::told(&density_trace::normalize_trace(rho, dim), place)
 }
 
 #[unsafe(no_mangle)]
@@ -260,7 +305,7 @@ pub extern "C" fn zg_multiply_block_factor(
         (multiplied rho.old dim positions.now factor.now side) rho.old a rho.new) result place.new }
 {
     told::told(
-        density_block::multiply_block_factor(rho, dim, positions, factor, side),
+        &density_block::multiply_block_factor(rho, dim, positions, factor, side),
         place,
     )
 }
@@ -277,7 +322,7 @@ pub extern "C" fn zg_density_from_cut(
     ensures { Exported (λ a. DensityFromCut matrix.now n list.now cap out.old a out.new) result place.new }
 {
     told::told(
-        density_recount::density_from_cut(matrix, n, list, cap, out),
+        &density_recount::density_from_cut(matrix, n, list, cap, out),
         place,
     )
 }
@@ -291,12 +336,11 @@ pub extern "C" fn zg_pages_agree(
     place: &mut usize,
     yes: &mut bool,
 ) -> u32
-    ensures { ExportedWith {R = Agreement} (λ k. k.answer) (λ k. k.yes) (λ k. Says (pages_answer state.now n list.now cap) (pages_same state.now n list.now) k) result place.new yes.new }
+    ensures { ExportedResult (given false) (λ k. Says (pages_answer state.now n list.now cap) (pages_same state.now n list.now) k) result place.new yes.new }
 {
     let k = pages::pages_agree(state, n, list, cap);
-    *yes = k.yes;
-    let answer = k.answer;
-    told::told(answer, place)
+    *yes = given(false, &k);
+    told::told(&k, place)
 }
 
 // ---- factors
@@ -312,12 +356,11 @@ pub extern "C" fn zg_factorize_gram_schmidt(
     place: &mut usize,
     rank: &mut usize,
 ) -> u32
-    ensures { ExportedWith {R = Factored} (λ k. k.answer) (λ k. k.rank) (λ k. Factorized a.now rows cols q.old r.old scratch.old k.answer k.rank q.new r.new scratch.new) result place.new rank.new }
+    ensures { ExportedResult (given 0) (λ k. Factorized a.now rows cols q.old r.old scratch.old k q.new r.new scratch.new) result place.new rank.new }
 {
     let k = qr::factorize_gram_schmidt(a, rows, cols, q, r, scratch);
-    *rank = k.rank;
-    let answer = k.answer;
-    told::told(answer, place)
+    *rank = given(0, &k);
+    told::told(&k, place)
 }
 
 #[unsafe(no_mangle)]
@@ -334,17 +377,16 @@ pub extern "C" fn zg_svd_jacobi(
     quiet: &mut bool,
     turned: &mut usize,
 ) -> u32
-    ensures { ExportedWith {R = Swept} {W = ℕ × Bool × ℕ} (λ k. k.answer) (λ k. (k.sweeps.begun, k.sweeps.quiet, k.sweeps.turned))
+    ensures { ExportedResult {A = Sweeps} {W = ℕ × Bool × ℕ} (λ k. ((given no_sweeps k).begun, (given no_sweeps k).quiet, (given no_sweeps k).turned))
         (λ k. Svd a.now m n u.old s.old vt.old scratch.old k
         u.new s.new vt.new scratch.new) result place.new (sweeps.new, quiet.new, turned.new) }
 {
     let k = svd::svd_jacobi(a, m, n, u, s, vt, scratch);
-    let t = k.sweeps;
+    let t = given(sweeps::none(), &k);
     *sweeps = t.begun;
     *quiet = t.quiet;
     *turned = t.turned;
-    let answer = k.answer;
-    told::told(answer, place)
+    told::told(&k, place)
 }
 
 // Whether the factors are A's within the tolerance: yes, or the first test that fails and its first failing cell.
@@ -362,16 +404,21 @@ pub extern "C" fn zg_countersign(
     test: &mut usize,
     cell: &mut usize,
 ) -> u32
-    ensures { ExportedWith {R = Countersigned} (λ k. k.answer) (λ k. says k.finding) (λ k. Countersign a.now m n u.now s.now vt.now tolerance k) result place.new (yes.new, test.new, cell.new) }
+    ensures { ExportedResult found (λ k. Countersign a.now m n u.now s.now vt.now tolerance k) result place.new (yes.new, test.new, cell.new) }
 {
     let k = countersign::countersign(a, m, n, u, s, vt, tolerance);
-    let finding = k.finding;
-    let verdict = countersign::verdict_of(finding);
+    let verdict = match k {
+        Ok(finding) => countersign::verdict_of(finding),
+        Err(_) => Verdict {
+            yes: false,
+            test: 0,
+            cell: 0,
+        },
+    };
     *yes = verdict.yes;
     *test = verdict.test;
     *cell = verdict.cell;
-    let answer = k.answer;
-    told::told(answer, place)
+    told::told(&k, place)
 }
 
 // ---- spectra
@@ -383,12 +430,11 @@ pub extern "C" fn zg_finish_schmidt_values(
     place: &mut usize,
     count: &mut usize,
 ) -> u32
-    ensures { ExportedWith (λ k. k.answer) (λ k. k.count) (λ k. finish.Outcome values.now out.old k out.new) result place.new count.new }
+    ensures { ExportedResult (given 0) (λ k. finish.Outcome values.now out.old k out.new) result place.new count.new }
 {
     let k = finish::finish_schmidt_values(values, out);
-    *count = k.count;
-    let answer = k.answer;
-    told::told(answer, place)
+    *count = given(0, &k);
+    told::told(&k, place)
 }
 
 #[unsafe(no_mangle)]
@@ -402,16 +448,15 @@ pub extern "C" fn zg_hermitian_eigenvalues(
     quiet: &mut bool,
     turned: &mut usize,
 ) -> u32
-    ensures { ExportedWith {R = Swept} {W = ℕ × Bool × ℕ} (λ k. k.answer) (λ k. (k.sweeps.begun, k.sweeps.quiet, k.sweeps.turned))
+    ensures { ExportedResult {A = Sweeps} {W = ℕ × Bool × ℕ} (λ k. ((given no_sweeps k).begun, (given no_sweeps k).quiet, (given no_sweeps k).turned))
         (λ k. Eigenvalues a.now dim out.old scratch.old k out.new scratch.new) result place.new (sweeps.new, quiet.new, turned.new) }
 {
     let k = spectra::hermitian_eigenvalues(a, dim, out, scratch);
-    let t = k.sweeps;
+    let t = given(sweeps::none(), &k);
     *sweeps = t.begun;
     *quiet = t.quiet;
     *turned = t.turned;
-    let answer = k.answer;
-    told::told(answer, place)
+    told::told(&k, place)
 }
 
 #[unsafe(no_mangle)]
@@ -426,17 +471,17 @@ pub extern "C" fn zg_schmidt_values_from_density(
     quiet: &mut bool,
     turned: &mut usize,
 ) -> u32
-    ensures { ExportedWith {R = Counted} {W = ℕ × ℕ × Bool × ℕ} (λ k. k.answer) (λ k. (k.count, k.sweeps.begun, k.sweeps.quiet, k.sweeps.turned))
+    ensures { ExportedResult {A = Counted} {W = ℕ × ℕ × Bool × ℕ} (λ k. ((given no_count k).count, (given no_count k).sweeps.begun, (given no_count k).sweeps.quiet, (given no_count k).sweeps.turned))
         (λ k. DensityValues rho.now dim out.old scratch.old k out.new scratch.new) result place.new (count.new, sweeps.new, quiet.new, turned.new) }
 {
     let k = spectra::schmidt_values_from_density(rho, dim, out, scratch);
-    *count = k.count;
-    let t = k.sweeps;
+    let got = given(no_count(), &k);
+    *count = got.count;
+    let t = got.sweeps;
     *sweeps = t.begun;
     *quiet = t.quiet;
     *turned = t.turned;
-    let answer = k.answer;
-    told::told(answer, place)
+    told::told(&k, place)
 }
 
 #[unsafe(no_mangle)]
@@ -451,17 +496,16 @@ pub extern "C" fn zg_hermitian_eigen(
     quiet: &mut bool,
     turned: &mut usize,
 ) -> u32
-    ensures { ExportedWith {R = Swept} {W = ℕ × Bool × ℕ} (λ k. k.answer) (λ k. (k.sweeps.begun, k.sweeps.quiet, k.sweeps.turned))
+    ensures { ExportedResult {A = Sweeps} {W = ℕ × Bool × ℕ} (λ k. ((given no_sweeps k).begun, (given no_sweeps k).quiet, (given no_sweeps k).turned))
         (λ k. Eigen matrix.now dim values.old vectors.old scratch.old k
         values.new vectors.new scratch.new) result place.new (sweeps.new, quiet.new, turned.new) }
 {
     let k = hermitian_eigen::hermitian_eigen(matrix, dim, values, vectors, scratch);
-    let t = k.sweeps;
+    let t = given(sweeps::none(), &k);
     *sweeps = t.begun;
     *quiet = t.quiet;
     *turned = t.turned;
-    let answer = k.answer;
-    told::told(answer, place)
+    told::told(&k, place)
 }
 
 #[unsafe(no_mangle)]
@@ -479,18 +523,18 @@ pub extern "C" fn zg_dense_schmidt_values(
     turned: &mut usize,
     exact: &mut bool,
 ) -> u32
-    ensures { ExportedWith {R = CutCounted} {W = ℕ × ℕ × Bool × ℕ × Bool} (λ k. k.answer) (λ k. (k.count, k.sweeps.begun, k.sweeps.quiet, k.sweeps.turned, k.exact))
+    ensures { ExportedResult {A = CutCounted} {W = ℕ × ℕ × Bool × ℕ × Bool} (λ k. ((given no_cut k).count, (given no_cut k).sweeps.begun, (given no_cut k).sweeps.quiet, (given no_cut k).sweeps.turned, (given no_cut k).exact))
         (λ k. Schmidt state.now n list.now cap out.old scratch.old k out.new scratch.new) result place.new (count.new, sweeps.new, quiet.new, turned.new, exact.new) }
 {
     let k = cut_values::dense_schmidt_values(state, n, list, cap, out, scratch);
-    *count = k.count;
-    let t = k.sweeps;
+    let got = given(no_cut(), &k);
+    *count = got.count;
+    let t = got.sweeps;
     *sweeps = t.begun;
     *quiet = t.quiet;
     *turned = t.turned;
-    *exact = k.exact;
-    let answer = k.answer;
-    told::told(answer, place)
+    *exact = got.exact;
+    told::told(&k, place)
 }
 
 #[unsafe(no_mangle)]
@@ -510,7 +554,7 @@ pub extern "C" fn zg_cut_profile(
         header.new values.new largest.new ranks.new marks.new scratch.new) result place.new }
 {
     told::told(
-        profiles::cut_profile(
+        &profiles::cut_profile(
             state, n, cap, header, values, largest, ranks, marks, scratch,
         ),
         place,
@@ -534,22 +578,22 @@ pub extern "C" fn zg_entropy_band(
     quiet: &mut bool,
     turned: &mut usize,
 ) -> u32
-    ensures { ExportedWith {R = Entropy} {W = ℕ × ℕ × ℕ × ℕ × ℕ × Bool × ℕ} (λ k. k.answer)
-        (λ k. (k.count, k.low, k.high, k.whole, k.sweeps.begun, k.sweeps.quiet, k.sweeps.turned))
+    ensures { ExportedResult {A = Entropy} {W = ℕ × ℕ × ℕ × ℕ × ℕ × Bool × ℕ}
+        (λ k. ((given no_entropy k).count, (given no_entropy k).low, (given no_entropy k).high, (given no_entropy k).whole, (given no_entropy k).sweeps.begun, (given no_entropy k).sweeps.quiet, (given no_entropy k).sweeps.turned))
         (λ k. EntropyBand state.now n list.now cap bands.old scratch.old k bands.new scratch.new)
         result place.new (count.new, low.new, high.new, whole.new, sweeps.new, quiet.new, turned.new) }
 {
     let k = entropy_bands::entropy_band(state, n, list, cap, bands, scratch);
-    *count = k.count;
-    *low = k.low;
-    *high = k.high;
-    *whole = k.whole;
-    let t = k.sweeps;
+    let got = given(no_entropy(), &k);
+    *count = got.count;
+    *low = got.low;
+    *high = got.high;
+    *whole = got.whole;
+    let t = got.sweeps;
     *sweeps = t.begun;
     *quiet = t.quiet;
     *turned = t.turned;
-    let answer = k.answer;
-    told::told(answer, place)
+    told::told(&k, place)
 }
 
 // ---- ranks and sites
@@ -593,13 +637,12 @@ pub extern "C" fn zg_cut_rank(
     place: &mut usize,
     rank: &mut u64,
 ) -> u32
-    ensures { ExportedWith {R = CutRank} (λ k. k.answer) (λ k. k.rank)
-        (λ k. Ranked (bond_sizes bond_left bond_mid bond_right) (cut_rank_of bond_left bond_mid bond_right) k.answer k.rank) result place.new rank.new }
+    ensures { ExportedResult (given 0)
+        (λ k. Ranked (bond_sizes bond_left bond_mid bond_right) (cut_rank_of bond_left bond_mid bond_right) k) result place.new rank.new }
 {
     let k = site_ranks::cut_rank(bond_left, bond_mid, bond_right);
-    *rank = k.rank;
-    let answer = k.answer;
-    told::told(answer, place)
+    *rank = given(0, &k);
+    told::told(&k, place)
 }
 
 #[unsafe(no_mangle)]
@@ -610,13 +653,12 @@ pub extern "C" fn zg_widest_block_cut(
     place: &mut usize,
     rank: &mut u64,
 ) -> u32
-    ensures { ExportedWith {R = CutRank} (λ k. k.answer) (λ k. k.rank)
-        (λ k. Ranked (widest_sizes bond_left bond_right n) (widest_of bond_left bond_right n) k.answer k.rank) result place.new rank.new }
+    ensures { ExportedResult (given 0)
+        (λ k. Ranked (widest_sizes bond_left bond_right n) (widest_of bond_left bond_right n) k) result place.new rank.new }
 {
     let k = site_ranks::widest_block_cut(bond_left, bond_right, n);
-    *rank = k.rank;
-    let answer = k.answer;
-    told::told(answer, place)
+    *rank = given(0, &k);
+    told::told(&k, place)
 }
 
 #[unsafe(no_mangle)]
@@ -632,7 +674,7 @@ pub extern "C" fn zg_fill_isometry_site_data(
         (2 * bond_left * chi) (site_cell chi (isometry_cell columns.now stride)) out.old a out.new) result place.new }
 {
     told::told(
-        sites::fill_isometry_site_data(columns, stride, bond_left, chi, out),
+        &sites::fill_isometry_site_data(columns, stride, bond_left, chi, out),
         place,
     )
 }
@@ -651,7 +693,7 @@ pub extern "C" fn zg_fill_scaled_u_site_data(
         (2 * bond_left * chi) (site_cell chi (scaled_u_cell u.now s.now stride)) out.old a out.new) result place.new }
 {
     told::told(
-        sites::fill_scaled_u_site_data(u, s, stride, bond_left, chi, out),
+        &sites::fill_scaled_u_site_data(u, s, stride, bond_left, chi, out),
         place,
     )
 }
@@ -670,7 +712,7 @@ pub extern "C" fn zg_fill_vt_site_data(
         (physical_dim * bond_right * chi) (site_cell (physical_dim * bond_right) (vt_cell vt.now row_len)) out.old a out.new) result place.new }
 {
     told::told(
-        sites::fill_vt_site_data(vt, row_len, chi, physical_dim, bond_right, out),
+        &sites::fill_vt_site_data(vt, row_len, chi, physical_dim, bond_right, out),
         place,
     )
 }
@@ -690,7 +732,7 @@ pub extern "C" fn zg_fill_scaled_vt_data(
         (physical_dim * bond_right * chi) (site_cell (physical_dim * bond_right) (scaled_vt_cell s.now vt.now row_len)) out.old a out.new) result place.new }
 {
     told::told(
-        sites::fill_scaled_vt_data(s, vt, row_len, chi, physical_dim, bond_right, out),
+        &sites::fill_scaled_vt_data(s, vt, row_len, chi, physical_dim, bond_right, out),
         place,
     )
 }
@@ -714,7 +756,7 @@ pub extern "C" fn zg_chain_of_sites(
     place: &mut usize,
     dropped: &mut usize,
 ) -> u32
-    ensures { ExportedWith {R = Chained} (λ k. k.answer) (λ k. k.dropped)
+    ensures { ExportedResult (given 0)
         (λ k. ChainOfSites state.now n epsilon limit sites.old bonds.old starts.old marks.old
         matrix.old u.old vt.old scratch.old k
         sites.new bonds.new starts.new marks.new matrix.new u.new vt.new scratch.new)
@@ -723,9 +765,8 @@ pub extern "C" fn zg_chain_of_sites(
     let k = chains::chain_of_sites(
         state, n, epsilon, limit, sites, bonds, starts, marks, matrix, u, vt, scratch,
     );
-    *dropped = k.dropped;
-    let answer = k.answer;
-    told::told(answer, place)
+    *dropped = given(0, &k);
+    told::told(&k, place)
 }
 
 // ---- sites in one slab: the cells are doubles to C, and here their 64-bit patterns
@@ -740,7 +781,7 @@ pub extern "C" fn zg_slab_put(
 ) -> u32
     ensures { Exported (λ a. Put cells.old index.old site «data».now a cells.new index.new) result place.new }
 {
-    told::told(slabs::put(cells, index, site, data), place)
+    told::told(&slabs::put(cells, index, site, data), place)
 }
 
 #[unsafe(no_mangle)]
@@ -752,7 +793,7 @@ pub extern "C" fn zg_slab_drop(
 ) -> u32
     ensures { Exported (λ a. Dropped cells.old index.old site a cells.new index.new) result place.new }
 {
-    told::told(slabs::drop(cells, index, site), place)
+    told::told(&slabs::drop(cells, index, site), place)
 }
 
 #[unsafe(no_mangle)]
@@ -765,7 +806,7 @@ pub extern "C" fn zg_slab_replace(
 ) -> u32
     ensures { Exported (λ a. Replaced cells.old index.old site «data».now a cells.new index.new) result place.new }
 {
-    told::told(slabs::replace(cells, index, site, data), place)
+    told::told(&slabs::replace(cells, index, site, data), place)
 }
 
 // ---- the sheet of a lot
@@ -774,7 +815,7 @@ pub extern "C" fn zg_slab_replace(
 pub extern "C" fn zg_lot_sheet(lot: &[u8], sheet: &mut [usize; 32], place: &mut usize) -> u32
     ensures { Exported (λ a. Lot lot.now sheet.old a sheet.new) result place.new }
 {
-    told::told(lots::lot_sheet(lot, sheet), place)
+    told::told(&lots::lot_sheet(lot, sheet), place)
 }
 
 // ---- a plan of a cut: thirty numbers here, a struct of them to C
@@ -789,28 +830,28 @@ pub extern "C" fn zg_cut_plan(
 ) -> u32
     ensures { Exported (λ a. CutPlanStored list.now n cap plan.old a plan.new) result place.new }
 {
-    told::told(plan_calls::store_cut_plan(list, n, cap, plan), place)
+    told::told(&plan_calls::store_cut_plan(list, n, cap, plan), place)
 }
 
 #[unsafe(no_mangle)]
 pub extern "C" fn zg_plan_add(plan: &mut [usize; 30], qubit: usize, place: &mut usize) -> u32
     ensures { Exported (λ a. ChangeStored (adding qubit) plan.old a plan.new) result place.new }
 {
-    told::told(plan_calls::add_to_plan(plan, qubit), place)
+    told::told(&plan_calls::add_to_plan(plan, qubit), place)
 }
 
 #[unsafe(no_mangle)]
 pub extern "C" fn zg_plan_drop(plan: &mut [usize; 30], qubit: usize, place: &mut usize) -> u32
     ensures { Exported (λ a. ChangeStored (dropping qubit) plan.old a plan.new) result place.new }
 {
-    told::told(plan_calls::drop_from_plan(plan, qubit), place)
+    told::told(&plan_calls::drop_from_plan(plan, qubit), place)
 }
 
 #[unsafe(no_mangle)]
 pub extern "C" fn zg_plan_switch(plan: &mut [usize; 30], place: &mut usize) -> u32
     ensures { Exported (λ a. ChangeStored switching plan.old a plan.new) result place.new }
 {
-    told::told(plan_calls::switch_plan(plan), place)
+    told::told(&plan_calls::switch_plan(plan), place)
 }
 
 // ---- the calls of a plan's list
@@ -825,7 +866,7 @@ pub extern "C" fn zg_planned_cut_matrix(
     ensures { Exported (λ a. PlannedCut state.now (plan_at plan.now) out.old a out.new) result place.new }
 {
     let kept = plan_numbers::read_plan(plan);
-    told::told(plan_matrix::planned_cut_matrix(state, kept, out), place)
+    told::told(&plan_matrix::planned_cut_matrix(state, kept, out), place)
 }
 
 #[unsafe(no_mangle)]
@@ -841,19 +882,19 @@ pub extern "C" fn zg_planned_schmidt_values(
     turned: &mut usize,
     exact: &mut bool,
 ) -> u32
-    ensures { ExportedWith {R = CutCounted} {W = ℕ × ℕ × Bool × ℕ × Bool} (λ k. k.answer) (λ k. (k.count, k.sweeps.begun, k.sweeps.quiet, k.sweeps.turned, k.exact))
+    ensures { ExportedResult {A = CutCounted} {W = ℕ × ℕ × Bool × ℕ × Bool} (λ k. ((given no_cut k).count, (given no_cut k).sweeps.begun, (given no_cut k).sweeps.quiet, (given no_cut k).sweeps.turned, (given no_cut k).exact))
         (λ k. PlannedValues state.now (plan_at plan.now) out.old scratch.old k out.new scratch.new) result place.new (count.new, sweeps.new, quiet.new, turned.new, exact.new) }
 {
     let kept = plan_numbers::read_plan(plan);
     let k = plan_values::planned_schmidt_values(state, kept, out, scratch);
-    *count = k.count;
-    let t = k.sweeps;
+    let got = given(no_cut(), &k);
+    *count = got.count;
+    let t = got.sweeps;
     *sweeps = t.begun;
     *quiet = t.quiet;
     *turned = t.turned;
-    *exact = k.exact;
-    let answer = k.answer;
-    told::told(answer, place)
+    *exact = got.exact;
+    told::told(&k, place)
 }
 
 #[unsafe(no_mangle)]
@@ -868,7 +909,7 @@ pub extern "C" fn zg_planned_reduced_density(
 {
     let kept = plan_numbers::read_plan(plan);
     told::told(
-        plan_density::planned_reduced_density(state, kept, out, scratch),
+        &plan_density::planned_reduced_density(state, kept, out, scratch),
         place,
     )
 }
@@ -896,8 +937,7 @@ pub extern "C" fn zg_certificate(
 {
     let k = certificate_pages::print_certificate(file, text);
     *length = k.length;
-    let answer = k.answer;
-    told::told(answer, place)
+    told::told(&k.answer, place)
 }
 
 #[unsafe(no_mangle)]
@@ -913,6 +953,5 @@ pub extern "C" fn zg_certificate_pages(
 {
     let k = certificate_pages::print_pages(file, text);
     *length = k.length;
-    let answer = k.answer;
-    told::told(answer, place)
+    told::told(&k.answer, place)
 }

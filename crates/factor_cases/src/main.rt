@@ -15,22 +15,28 @@
 //   A w W                                  the band of w in W: lo and hi
 #![tactic(auto)]
 
+use answers::Refusal;
+use cut_values::CutCounted;
+use entropy_bands::Entropy;
 use factored::Counted;
-use std::io::Result;
+use std::io;
+use sweeps::Sweeps;
 
-// Writes an answer, its count and how its sweeps went.
-fn print_counted(rt: &impl Print, r: Counted) -> Result<()> {
-    let answer = r.answer;
-    let sweeps = r.sweeps;
-    replay::print_answer(rt, answer)?;
-    replay::print_word(rt, replay::word_of(r.count))?;
-    replay::print_sweeps(rt, sweeps)
+// Writes an answer and how its sweeps went: none on a refusal.
+fn print_swept(rt: &impl Print, r: Result<Sweeps, Refusal>) -> io::Result<()> {
+    replay::print_answer(rt, &r)?;
+    replay::print_sweeps(rt, r.unwrap_or(sweeps::none()))
 }
 
-fn print_kept(rt: &impl Print, r: finish::Kept) -> Result<()> {
-    let answer = r.answer;
-    replay::print_answer(rt, answer)?;
-    replay::print_word(rt, replay::word_of(r.count))
+// Writes an answer, its count and how its sweeps went.
+fn print_counted(rt: &impl Print, r: Result<Counted, Refusal>) -> io::Result<()> {
+    replay::print_answer(rt, &r)?;
+    let got = r.unwrap_or(Counted {
+        count: 0,
+        sweeps: sweeps::none(),
+    });
+    replay::print_number(rt, got.count)?;
+    replay::print_sweeps(rt, got.sweeps)
 }
 
 fn factor(
@@ -42,12 +48,12 @@ fn factor(
     s: &mut [f64],
     vt: &mut [f64],
     scratch: &mut [f64],
-) -> Result<()> {
-    replay::print_factored(rt, svd::svd_jacobi(a, m, n, u, s, vt, scratch))?;
-    replay::print_floats(rt, u)?;
-    replay::print_floats(rt, s)?;
-    replay::print_floats(rt, vt)?;
-    replay::print_floats(rt, scratch)
+) -> io::Result<()> {
+    print_swept(rt, svd::svd_jacobi(a, m, n, u, s, vt, scratch))?;
+    replay::print_numbers(rt, u)?;
+    replay::print_numbers(rt, s)?;
+    replay::print_numbers(rt, vt)?;
+    replay::print_numbers(rt, scratch)
 }
 
 fn factorize(
@@ -58,14 +64,11 @@ fn factorize(
     q: &mut [f64],
     r: &mut [f64],
     scratch: &mut [f64],
-) -> Result<()> {
-    let got = qr::factorize_gram_schmidt(a, rows, cols, q, r, scratch);
-    let answer = got.answer;
-    replay::print_answer(rt, answer)?;
-    replay::print_word(rt, replay::word_of(got.rank))?;
-    replay::print_floats(rt, q)?;
-    replay::print_floats(rt, r)?;
-    replay::print_floats(rt, scratch)
+) -> io::Result<()> {
+    replay::print_count(rt, qr::factorize_gram_schmidt(a, rows, cols, q, r, scratch))?;
+    replay::print_numbers(rt, q)?;
+    replay::print_numbers(rt, r)?;
+    replay::print_numbers(rt, scratch)
 }
 
 fn eigenvalues(
@@ -74,15 +77,15 @@ fn eigenvalues(
     dim: usize,
     out: &mut [f64],
     scratch: &mut [f64],
-) -> Result<()> {
-    replay::print_factored(rt, spectra::hermitian_eigenvalues(a, dim, out, scratch))?;
-    replay::print_floats(rt, out)?;
-    replay::print_floats(rt, scratch)
+) -> io::Result<()> {
+    print_swept(rt, spectra::hermitian_eigenvalues(a, dim, out, scratch))?;
+    replay::print_numbers(rt, out)?;
+    replay::print_numbers(rt, scratch)
 }
 
-fn finished(rt: &impl Print, values: &[f64], out: &mut [f64]) -> Result<()> {
-    print_kept(rt, finish::finish_schmidt_values(values, out))?;
-    replay::print_floats(rt, out)
+fn finished(rt: &impl Print, values: &[f64], out: &mut [f64]) -> io::Result<()> {
+    replay::print_count(rt, finish::finish_schmidt_values(values, out))?;
+    replay::print_numbers(rt, out)
 }
 
 fn from_density(
@@ -91,13 +94,13 @@ fn from_density(
     dim: usize,
     out: &mut [f64],
     scratch: &mut [f64],
-) -> Result<()> {
+) -> io::Result<()> {
     print_counted(
         rt,
         spectra::schmidt_values_from_density(rho, dim, out, scratch),
     )?;
-    replay::print_floats(rt, out)?;
-    replay::print_floats(rt, scratch)
+    replay::print_numbers(rt, out)?;
+    replay::print_numbers(rt, scratch)
 }
 
 fn eigen(
@@ -107,14 +110,14 @@ fn eigen(
     values: &mut [f64],
     vectors: &mut [f64],
     scratch: &mut [f64],
-) -> Result<()> {
-    replay::print_factored(
+) -> io::Result<()> {
+    print_swept(
         rt,
         hermitian_eigen::hermitian_eigen(matrix, dim, values, vectors, scratch),
     )?;
-    replay::print_floats(rt, values)?;
-    replay::print_floats(rt, vectors)?;
-    replay::print_floats(rt, scratch)
+    replay::print_numbers(rt, values)?;
+    replay::print_numbers(rt, vectors)?;
+    replay::print_numbers(rt, scratch)
 }
 
 fn values(
@@ -125,16 +128,19 @@ fn values(
     cap: usize,
     out: &mut [f64],
     scratch: &mut [f64],
-) -> Result<()> {
-    let r = cut_values::dense_schmidt_values(state, n, list, cap, out, scratch);
-    let answer = r.answer;
-    let sweeps = r.sweeps;
-    replay::print_answer(rt, answer)?;
-    replay::print_word(rt, replay::word_of(r.count))?;
-    replay::print_sweeps(rt, sweeps)?;
-    replay::print_yes(rt, r.exact)?;
-    replay::print_floats(rt, out)?;
-    replay::print_floats(rt, scratch)
+) -> io::Result<()> {
+    let answer = cut_values::dense_schmidt_values(state, n, list, cap, out, scratch);
+    replay::print_answer(rt, &answer)?;
+    let got = answer.unwrap_or(CutCounted {
+        count: 0,
+        sweeps: sweeps::none(),
+        exact: false,
+    });
+    replay::print_number(rt, got.count)?;
+    replay::print_sweeps(rt, got.sweeps)?;
+    replay::print_yes(rt, got.exact)?;
+    replay::print_numbers(rt, out)?;
+    replay::print_numbers(rt, scratch)
 }
 
 fn entropy(
@@ -145,19 +151,24 @@ fn entropy(
     cap: usize,
     bands: &mut [usize],
     scratch: &mut [f64],
-) -> Result<()> {
-    let r = entropy_bands::entropy_band(state, n, list, cap, bands, scratch);
-    let answer = r.answer;
-    let sweeps = r.sweeps;
-    replay::print_answer(rt, answer)?;
-    replay::print_word(rt, replay::word_of(r.count))?;
-    replay::print_word(rt, r.low)?;
-    replay::print_word(rt, r.high)?;
-    replay::print_word(rt, r.whole)?;
-    replay::print_word(rt, replay::word_of(sweeps.begun))?;
-    replay::print_yes(rt, sweeps.quiet)?;
-    replay::print_counts(rt, bands)?;
-    replay::print_floats(rt, scratch)
+) -> io::Result<()> {
+    let answer = entropy_bands::entropy_band(state, n, list, cap, bands, scratch);
+    replay::print_answer(rt, &answer)?;
+    let got = answer.unwrap_or(Entropy {
+        count: 0,
+        low: 0,
+        high: 0,
+        whole: 0,
+        sweeps: sweeps::none(),
+    });
+    replay::print_number(rt, got.count)?;
+    replay::print_word(rt, got.low)?;
+    replay::print_word(rt, got.high)?;
+    replay::print_word(rt, got.whole)?;
+    replay::print_number(rt, got.sweeps.begun)?;
+    replay::print_yes(rt, got.sweeps.quiet)?;
+    replay::print_numbers(rt, bands)?;
+    replay::print_numbers(rt, scratch)
 }
 
 // The call of a kind, on what is read and its two numbers, with as many of the lent slices as it has.
@@ -173,46 +184,27 @@ fn call(
     second: &mut [f64],
     third: &mut [f64],
     fourth: &mut [f64],
-) -> Result<()> {
-    if kind == 1 {
-        return factor(rt, a, m, n, first, second, third, fourth);
+) -> io::Result<()> {
+    match kind {
+        1 => factor(rt, a, m, n, first, second, third, fourth),
+        2 => factorize(rt, a, m, n, first, second, third),
+        3 => eigenvalues(rt, a, m, first, second),
+        4 => finished(rt, a, first),
+        5 => from_density(rt, a, m, first, second),
+        6 => eigen(rt, a, m, first, second, third),
+        7 => values(rt, a, m, list, n, first, second),
+        _ => entropy(rt, a, m, list, n, bands, second),
     }
-    if kind == 2 {
-        return factorize(rt, a, m, n, first, second, third);
-    }
-    if kind == 3 {
-        return eigenvalues(rt, a, m, first, second);
-    }
-    if kind == 4 {
-        return finished(rt, a, first);
-    }
-    if kind == 5 {
-        return from_density(rt, a, m, first, second);
-    }
-    if kind == 6 {
-        return eigen(rt, a, m, first, second, third);
-    }
-    if kind == 7 {
-        return values(rt, a, m, list, n, first, second);
-    }
-    entropy(rt, a, m, list, n, bands, second)
 }
 
 // How many slices the call of a kind is lent.
 fn lent_by(kind: u64) -> usize {
-    if kind == 1 {
-        return 4;
+    match kind {
+        1 => 4,
+        2 | 6 => 3,
+        4 => 1,
+        _ => 2,
     }
-    if kind == 4 {
-        return 1;
-    }
-    if kind == 2 {
-        return 3;
-    }
-    if kind == 6 {
-        return 3;
-    }
-    2
 }
 
 // Lends buffers of the lengths that the text has from `at` on; a call with fewer slices is lent some of them.
@@ -225,7 +217,7 @@ fn lend(
     list: &[usize],
     m: usize,
     n: usize,
-) -> Result<usize> {
+) -> io::Result<usize> {
     let mut bands = [7usize; 512];
     let mut first = [3.0; 512];
     let mut second = [3.0; 512];
@@ -252,11 +244,17 @@ fn lend(
 }
 
 // The register, the list and the cap, and then the call.
-fn with_list(rt: &impl Print, text: &[u8], at: usize, kind: u64, state: &[f64]) -> Result<usize> {
+fn with_list(
+    rt: &impl Print,
+    text: &[u8],
+    at: usize,
+    kind: u64,
+    state: &[f64],
+) -> io::Result<usize> {
     let mut names = [0usize; 512];
     let length = replay::past(text, at);
     let k = replay::size_at(text, length);
-    let next = replay::read_counts(text, replay::past(text, length), &mut names, k);
+    let next = replay::read_numbers(text, replay::past(text, length), &mut names, k);
     lend(
         rt,
         text,
@@ -270,53 +268,28 @@ fn with_list(rt: &impl Print, text: &[u8], at: usize, kind: u64, state: &[f64]) 
 }
 
 // The sizes, of which a call has two, one or none, and then the call.
-fn with_sizes(rt: &impl Print, text: &[u8], at: usize, kind: u64, a: &[f64]) -> Result<usize> {
-    let none = [0usize; 1];
+fn with_sizes(rt: &impl Print, text: &[u8], at: usize, kind: u64, a: &[f64]) -> io::Result<usize> {
     let second = replay::past(text, at);
-    if kind < 3 {
-        return lend(
-            rt,
-            text,
-            replay::past(text, second),
-            kind,
-            a,
-            replay::front(&none, 0),
-            replay::size_at(text, at),
-            replay::size_at(text, second),
-        );
+    let m = replay::size_at(text, at);
+    match kind {
+        0..=2 => {
+            let n = replay::size_at(text, second);
+            lend(rt, text, replay::past(text, second), kind, a, &[], m, n)
+        }
+        4 => lend(rt, text, at, kind, a, &[], 0, 0),
+        _ => lend(rt, text, second, kind, a, &[], m, 0),
     }
-    if kind == 4 {
-        return lend(rt, text, at, kind, a, replay::front(&none, 0), 0, 0);
-    }
-    lend(
-        rt,
-        text,
-        second,
-        kind,
-        a,
-        replay::front(&none, 0),
-        replay::size_at(text, at),
-        0,
-    )
 }
 
-fn print_weights(rt: &impl Print, values: &[f64]) -> Result<()> {
-    let mut i = 0;
-    while i < values.len() {
-        replay::print_word(rt, entropy_weights::weight(values[i]))?;
-        i += 1;
+fn print_weights(rt: &impl Print, values: &[f64]) -> io::Result<()> {
+    for x in values {
+        replay::print_word(rt, entropy_weights::weight(*x))?;
     }
     Ok(())
 }
 
-fn print_band(rt: &impl Print, w: u64, all: u64) -> Result<()> {
-    if w == 0 {
-        return Ok(());
-    }
-    if all < w {
-        return Ok(());
-    }
-    if 0xffff_ffff < all {
+fn print_band(rt: &impl Print, w: u64, all: u64) -> io::Result<()> {
+    if w == 0 || all < w || 0xffff_ffff < all {
         return Ok(());
     }
     let whole = entropy_powers::powers_of(all);
@@ -325,46 +298,33 @@ fn print_band(rt: &impl Print, w: u64, all: u64) -> Result<()> {
     replay::print_word(rt, b.high)
 }
 
-fn pair(rt: &impl Print, text: &[u8], at: usize) -> Result<usize> {
-    let w = replay::next_word(text, at);
-    let all = replay::next_word(text, w.next);
-    print_band(rt, w.value, all.value)?;
-    Ok(all.next)
+fn pair(rt: &impl Print, text: &[u8], at: usize) -> io::Result<usize> {
+    let second = replay::past(text, at);
+    print_band(rt, replay::word_at(text, at), replay::word_at(text, second))?;
+    Ok(replay::past(text, second))
 }
 
-fn case(rt: &impl Print, text: &[u8], at: usize, kind: u64) -> Result<usize> {
+fn case(rt: &impl Print, text: &[u8], kind: u64, at: usize) -> io::Result<usize> {
     if kind == 10 {
         return pair(rt, text, at);
     }
     let mut numbers = [0.0; 512];
     let count = replay::size_at(text, at);
-    let next = replay::read_floats(text, replay::past(text, at), &mut numbers, count);
-    let a = replay::front_floats(&numbers, count);
-    if kind < 7 {
-        return with_sizes(rt, text, next, kind, a);
-    }
-    if kind < 9 {
-        return with_list(rt, text, next, kind, a);
-    }
-    print_weights(rt, a)?;
-    Ok(next)
-}
-
-fn run(rt: &impl Print, text: &[u8]) -> Result<()> {
-    let mut at = 0;
-    for _ in 0..10000usize {
-        let kind = replay::next_word(text, at);
-        if !kind.found {
-            return Ok(());
+    let next = replay::read_numbers(text, replay::past(text, at), &mut numbers, count);
+    let a = replay::front(&numbers, count);
+    match kind {
+        0..=6 => with_sizes(rt, text, next, kind, a),
+        7 | 8 => with_list(rt, text, next, kind, a),
+        _ => {
+            print_weights(rt, a)?;
+            Ok(next)
         }
-        at = case(rt, text, kind.next, kind.value)?;
-        replay::end_line(rt)?;
     }
-    Ok(())
 }
 
-fn main(rt: HostRuntime) -> Result<()> {
+fn main(rt: HostRuntime) -> io::Result<()> {
     let mut text = [0u8; 229376];
     let n = inputs::read_full(&mut rt.reader(), &mut text);
-    run(&rt, &text[..n])
+    let text = &text[..n];
+    replay::run(&rt, text, |kind, at| case(&rt, text, kind, at))
 }

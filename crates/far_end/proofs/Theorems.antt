@@ -1,7 +1,7 @@
 -- Two stations name opposite sides of one cut: l, and l' in any order. From the calls' contracts alone. Assumes nothing.
 use mathlib.Core.Path.{◌≡◌, sym, ap, ap₂, ◌∙◌}
 use mathlib.Core.Logic.{⊎_elim}
-use mathlib.Core.Bool.{Bool, true, false}
+use mathlib.Core.Bool.{true, false}
 use mathlib.Core.List.{List}
 use Prim.Native.Nat.{ℕ, ◌+◌, ◌-◌, ◌*◌, ◌^◌, ◌≤◌, ◌<◌}
 use native.Mathlib.Omega.{arith}
@@ -9,8 +9,9 @@ use lib.Arith.{digits_div, digits_mod}
 use lib.Ieee.{Float}
 use lib.ListN.{length}
 use lib.Seq.{take-length}
-use Rattle.answers.specs.declared.Answer.{Answer}
-use Rattle.answers.specs.Paper.{Reply, paper, if_done}
+use Rattle.std.specs.Prelude.{Result}
+use Rattle.answers.specs.declared.Refusal.{Refusal}
+use Rattle.answers.specs.Paper.{Answer, Reply, paper, if_done}
 use Rattle.answers.proofs.Theorems.{paper-one}
 use Rattle.complex.specs.declared.Complex.{Complex}
 use Rattle.complex.specs.Cells.{cell_at, written}
@@ -27,7 +28,6 @@ use Rattle.cut_naming.proofs.Theorems.{other-accepted}
 use Rattle.cuts.specs.Cut.{cut_answer, cut_cell, CutMatrix}
 use Rattle.agreement.proofs.AgreementLaws.{written_same, done-same}
 use Rattle.agreement.proofs.Theorems.{cut_left}
-use Rattle.factored.specs.Factored.{kept_sweeps}
 use Rattle.cut_values.specs.declared.CutCounted.{CutCounted}
 use Rattle.cut_values.specs.Schmidt.{cut_values_tests, Schmidt}
 use Rattle.cut_values.proofs.SchmidtLaws.{cut-counted-one}
@@ -95,16 +95,15 @@ module _ (n cap : ℕ) (l l' : List ℕ) (far : Opposite n l l') (ok : (cut_refu
   same_tests s o w = values-tests n cap l l' far ok s o w
 
   -- Sides of different size: `dense_schmidt_values` gives the same answer, count, sweeps, mark and values, and leaves the same scratch.
-  pub same-values : (length l ≡ n - length l → ⊥) → (s o w : List Float) (r r' : CutCounted) (v v' z z' : List Float)
+  pub same-values : (length l ≡ n - length l → ⊥) → (s o w : List Float) (r r' : Result CutCounted Refusal) (v v' z z' : List Float)
       → Schmidt s n l cap o w r v z → Schmidt s n l' cap o w r' v' z' → (r ≡ r') × (v ≡ v') × (z ≡ z')
   same-values differ s o w r r' v v' z z' c c' =
-      let e : r.answer ≡ r'.answer
-      = paper-one r.answer r'.answer (c.answer ∙ values-answer n cap l l' far ok differ s (length o) (length w) ∙ sym c'.answer) in
+      let e : paper r ≡ paper r' = c.answer ∙ values-answer n cap l l' far ok differ s (length o) (length w) ∙ sym c'.answer in
       let t = same-singular n cap l l' far ok differ s in
       let d = same-side n cap l l' far ok in (
         cut-counted-one r r' e (c.count ∙ rw (e, t) (sym c'.count))
-            (c.sweeps-are ∙ ap₂ kept_sweeps e (same-sweeps n cap l l' far ok differ s) ∙ sym c'.sweeps-are)
-            (c.exact-is ∙ ap₂ (λ (a : Answer) (b : Bool). if_done (paper a).0 b false) e (same-exact n cap l l' far ok differ s) ∙ sym c'.exact-is),
+            (c.sweeps-are ∙ rw (e, same-sweeps n cap l l' far ok differ s) (sym c'.sweeps-are))
+            (c.exact-is ∙ rw (e, same-exact n cap l l' far ok differ s) (sym c'.exact-is)),
         c.out-is ∙ rw (e, t, ← d) (sym c'.out-is),
         c.scratch-is ∙ rw (e, ← d) (sym c'.scratch-is),
       )

@@ -4,10 +4,8 @@ use mathlib.Core.List.{List, [], ◌∷◌, ◌++◌}
 use Prim.Native.Nat.{ℕ, suc}
 use native.Mathlib.Omega.{arith}
 use lib.ListN.{length, length-append}
-use Rattle.answers.specs.declared.Answer.{Answer}
-use Rattle.answers.specs.declared.Answer.TheVariants.{Done}
+use Rattle.answers.specs.Paper.{Done, Reply}
 use Rattle.answers.proofs.PaperLaws.{done-new}
-use Rattle.answers.proofs.Stopped.{was-done}
 use Rattle.lot_tallies.specs.declared.Sheet.{Sheet}
 use Rattle.lot_tallies.specs.Tallies.{Single, count_is, rank_is, sheet_of, sheet_numbers}
 use Rattle.lot_tallies.proofs.TallyLaws.{length-each}
@@ -24,7 +22,12 @@ sheet-long : (rs : List Single) → length (sheet_numbers (sheet_of rs)) ≡ 32
 unfolding sheet_of
 sheet-long rs = numbers-long (sheet_of rs) (length-each 11 (λ k. count_is k rs)) (length-each 16 (λ r. rank_is (suc r) rs))
 
-pub made-long : (lot old : List ℕ) (r : Answer) (new : List ℕ) → Lot lot old r new → r ≡ Done → length new ≡ 32
-made-long lot old r new is d =
-    ap length (is.sheet-is ∙ sym (done-new (lot_header lot).0 (sheet_numbers (sheet_of (results lot))) old (was-done r (lot_header lot) is.answer d)))
+pub made-long : (lot old new : List ℕ) → Lot lot old Done new → length new ≡ 32
+made-long lot old new is =
+    let z : (lot_header lot).0 ≡ 0 = ap (λ (r : Reply). r.0) (sym is.answer) in
+    ap length (is.sheet-is ∙ sym (done-new (lot_header lot).0 (sheet_numbers (sheet_of (results lot))) old z))
     ∙ sheet-long (results lot)
+
+-- the counts of a lot that is not refused stand in it
+pub made-header : (lot old new : List ℕ) → Lot lot old Done new → (lot_header lot).0 ≡ 0
+made-header lot old new is = ap (λ (r : Reply). r.0) (sym is.answer)

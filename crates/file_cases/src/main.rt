@@ -6,8 +6,7 @@
 ghost use Rattle.std.specs.Prelude.{◌≡◌, ◌+◌, ◌≤◌, length};
 ghost use Rattle.io.specs.Counts.{IsPrefixLen};
 
-use answers::Answer;
-use std::io::Result;
+use std::io;
 use std::rt::Files;
 
 // The bytes of a table at the front of buf, and how many there are.
@@ -18,14 +17,14 @@ fn read_table(files: &impl Files, name: &str, buf: &mut [u8]) -> usize
 }
 
 // Writes the certificate of one file.
-fn show_certificate(rt: &impl Print, file: &[u8]) -> Result<()> {
+fn show_certificate(rt: &impl Print, file: &[u8]) -> io::Result<()> {
     let mut text = [0u8; 2048];
     let length = certificates::certificate(file, &mut text);
     rt.write_all(&text[..length])
 }
 
 // Writes both pages of one file.
-fn show_pages(rt: &impl Print, file: &[u8]) -> Result<()> {
+fn show_pages(rt: &impl Print, file: &[u8]) -> io::Result<()> {
     let mut text = [0u8; 102400];
     let written = certificate_pages::print_pages(file, &mut text);
     let length = written.length;
@@ -38,29 +37,25 @@ fn put_lot(lot: &[u8], text: &mut [u8]) -> usize
     ensures { IsPrefixLen result text.new }
 {
     let mut sheet = [7usize; 32];
-    let answer = lots::lot_sheet(lot, &mut sheet);
-    let Answer::Done = answer else {
-        return lines::put_refused(text, answer);
-    };
-    let count = lots::number_at(lot, 0);
-    lot_lines::put_lines(text, count, &sheet)
+    match lots::lot_sheet(lot, &mut sheet) {
+        Ok(()) => lot_lines::put_lines(text, lots::number_at(lot, 0), &sheet),
+        Err(refusal) => lines::put_refused(text, Err(refusal)),
+    }
 }
 
 // Writes the sheet of one lot.
-fn show_sheet(rt: &impl Print, lot: &[u8]) -> Result<()> {
+fn show_sheet(rt: &impl Print, lot: &[u8]) -> io::Result<()> {
     let mut text = [0u8; 2048];
     let length = put_lot(lot, &mut text);
     rt.write_all(&text[..length])
 }
 
-fn show(rt: &impl Print, kind: u64, file: &[u8]) -> Result<()> {
-    if kind == 1 {
-        return show_certificate(rt, file);
+fn show(rt: &impl Print, kind: u64, file: &[u8]) -> io::Result<()> {
+    match kind {
+        1 => show_certificate(rt, file),
+        2 => show_pages(rt, file),
+        _ => show_sheet(rt, file),
     }
-    if kind == 2 {
-        return show_pages(rt, file);
-    }
-    show_sheet(rt, file)
 }
 
 // Where the file at a place ends, or the table's end if that is nearer.
@@ -69,16 +64,13 @@ fn end_of(table: &[u8], at: usize) -> usize
     ensures { (at + 4 ≤ result) × (result ≤ length table.now) }
 {
     let size = lots::number_at(table, at);
-    let left = table.len() - at - 4;
-    if size < left {
-        return at + 4 + size;
-    }
-    table.len()
+    at + 4 + size.min(table.len() - at - 4)
 }
 
 // Writes what is written of each file of the table.
-fn show_all(rt: &impl Print, kind: u64, table: &[u8]) -> Result<()> {
+fn show_all(rt: &impl Print, kind: u64, table: &[u8]) -> io::Result<()> {
     let mut at = 0;
+    // a `while`: a file's length says where the next one begins, so no range counts the turns
     while at + 4 <= table.len() {
         let from = at + 4;
         let to = end_of(table, at);
@@ -88,14 +80,14 @@ fn show_all(rt: &impl Print, kind: u64, table: &[u8]) -> Result<()> {
     Ok(())
 }
 
-fn run(rt: &(impl Files + Print), kind: u64, name: &str) -> Result<()> {
+fn run(rt: &(impl Files + Print), kind: u64, name: &str) -> io::Result<()> {
     let mut table = [0u8; 81920];
     let got = read_table(rt, name, &mut table);
     println!(rt; "{name}")?;
     show_all(rt, kind, &table[..got])
 }
 
-fn main(rt: HostRuntime) -> Result<()> {
+fn main(rt: HostRuntime) -> io::Result<()> {
     run(&rt, 1, "certificates.bin")?;
     run(&rt, 2, "pages-1.bin")?;
     run(&rt, 2, "pages-2.bin")?;

@@ -1,19 +1,21 @@
 -- The finish at each way out, and that its contract leaves one outcome. Assumes nothing.
-use mathlib.Core.Path.{◌≡◌, refl, sym, ap, ap₂, ◌∙◌}
-use mathlib.Core.Bool.{Bool, true, false, not}
+use mathlib.Core.Path.{◌≡◌, refl, sym, ap, ◌∙◌}
+use mathlib.Core.Bool.{Bool, true, false, not, cond}
 use mathlib.Core.List.{List, [], ◌∷◌, ◌++◌, append_assoc, append-nil}
 use mathlib.Core.Logic.{inl, inr}
 use Prim.Native.Nat.{ℕ, zero, suc, ◌-◌, ◌≤◌, ◌<◌}
 use native.Mathlib.Omega.{arith}
-use borrow.Author.Tests.{eq-eqb, ne_eqb, lt-ltb, le-ltb, ltb-false}
+use borrow.Author.Tests.{eq-eqb, ne_eqb, ltb-false}
 use borrow.Rule.Slice.PartMut.{put_mid}
 use lib.Dec.{eqb, ltb}
 use lib.Ieee.{Float, nan, binary64, mul, div}
 use lib.ListN.{length, get_or, take, drop, length-append, length-drop, drop_of_length-le}
-use lib.Seq.{take_at, drop_at, drop-length}
-use Rattle.answers.specs.declared.Answer.{Answer}
-use Rattle.answers.specs.declared.Answer.TheVariants.{Done, NoWeight, NotFinite}
-use Rattle.answers.specs.Paper.{Reply, paper, done, refuse, if_done}
+use lib.Seq.{length-take-le, take_at, drop_at, drop-length}
+use Rattle.std.specs.Prelude.{Result, Ok, Err, Option, Some, None, if◌then◌else◌}
+use Rattle.answers.specs.Paper.{Reply, table, done, refuse, if_done}
+use Rattle.answers.proofs.Stopped.{stopped-number}
+use Rattle.answers.specs.declared.Refusal.{Refusal}
+use Rattle.answers.specs.declared.Refusal.TheVariants.{NoWeight, NotFinite}
 use Rattle.answers.proofs.PaperLaws.{refuse-done, stays, done-old, end-old, end-worked, Ended, nine-ended}
 use Rattle.numbers.specs.Numbers.{one_float, allowed}
 use Rattle.numbers.specs.Root.{sqrt_of}
@@ -22,7 +24,6 @@ use Rattle.values.specs.Lists.{values_allowed, all_finite, kept_above, squares_f
 use Rattle.values.proofs.ListLaws.{kept-front, kept-le, length-scaled}
 use Rattle.values.specs.Sort.{sorted_down}
 use Rattle.values.proofs.SortLaws.{length-sort}
-use Rattle.finish.specs.declared.Kept.{Kept}
 use Rattle.finish.specs.declared.Finished.{Finished}
 use Rattle.exact_roots.specs.Exact.{exact_root}
 use Rattle.finish.specs.Finish.{value_floor, floor_of, normalised, scale_exact, kept_values, finish_sorted, sorted_reply, finish_of, finish_reply, padded, finish_refusal, finish_answer}
@@ -44,6 +45,15 @@ pub scaled_made : (l : List Float) {total root : Float} {ys : List Float} → to
     → ys ≡ scaled_by (div binary64 one_float root) l → ys ≡ normalised l
 unfolding normalised
 scaled_made l e f g = rw (← e, ← f) g
+
+-- the first n values scaled in their place, and whether all of them are finite then
+pub scaled-front : (n : ℕ) (s v : List Float) {total root : Float} {b : Bool} → n ≤ length s → length v ≡ length (take n s)
+    → total ≡ squares_from minus_zero (take n s) → root ≡ sqrt_of total → v ≡ scaled_by (div binary64 one_float root) (take n s)
+    → b ≡ all_finite (take n (v ++ drop n s)) → (v ++ drop n s ≡ normalised (take n s) ++ drop n s) × (b ≡ all_finite (normalised (take n s)))
+scaled-front n s v h k e f g i =
+    let m = scaled_made (take n s) e f g in
+    let l : length v ≡ n = k ∙ length-take-le n s h in
+    (ap (λ (y : List Float). y ++ drop n s) m, i ∙ ap all_finite (take_at v (drop n s) n l ∙ m))
 
 pub exact-made : (l : List Float) {total : Float} {b : Bool} → total ≡ squares_from minus_zero l → b ≡ exact_root total → b ≡ scale_exact l
 unfolding scale_exact
@@ -87,6 +97,15 @@ zeroed-whole : (m : ℕ) (l : List Float) → length l ≤ m → zeroed m l ≡ 
 unfolding zeroed
 zeroed-whole m l h = rw (drop_of_length-le l h, append-nil)
 
+-- what a mark says of the test it stands under
+none-false : (b x : Bool) → cond b (Some x) None ≡ None → b ≡ false
+none-false true x e = cc
+none-false false x e = refl
+
+some-true : (b x y : Bool) → cond b (Some x) None ≡ Some y → (b ≡ true) × (x ≡ y)
+some-true true x y e = (refl, cc)
+some-true false x y e = cc
+
 -- the floor that the code found, and how many it keeps
 module _ (s : List Float) (f : Float) (n : ℕ) (floor : f ≡ floor_of s) (count : n ≡ length (kept_above f s)) where
   count-is : n ≡ length (kept_values s)
@@ -100,7 +119,7 @@ module _ (s : List Float) (f : Float) (n : ℕ) (floor : f ≡ floor_of s) (coun
   pub within : n ≤ length s
   within = rw count (kept-le f s)
 
-  pub sorted_none : n ≡ 0 → (end : List Float) → end ≡ zeroed (length s) s → SortedOutcome s (record { answer = NoWeight; count = 0; exact = false }) end
+  pub sorted_none : n ≡ 0 → (end : List Float) → end ≡ zeroed (length s) s → SortedOutcome s (Err NoWeight) end
   sorted_none z end e =
       let r = reply-8 s (sym count-is ∙ z) in
       record { answer = sym r; count = rw r; values = rw r e; exact-is = rw r }
@@ -110,11 +129,11 @@ module _ (s : List Float) (f : Float) (n : ℕ) (floor : f ≡ floor_of s) (coun
     left h = some (count-is ∙ h)
 
     -- the scaled values are not all finite
-    pub sorted-infinite : (b : Bool) → b ≡ all_finite (normalised (take n s)) → b ≡ false → (mid end : List Float) → length mid ≡ length s → end ≡ zeroed (length s) mid
-        → SortedOutcome s (record { answer = NotFinite; count = 0; exact = false }) end
+    pub sorted-infinite : {r : Option Bool} → r ≡ if all_finite (normalised (take n s)) then Some (scale_exact (take n s)) else None → r ≡ None → (mid end : List Float) → length mid ≡ length s → end ≡ zeroed (length s) mid
+        → SortedOutcome s (Err NotFinite) end
     unfolding finish_sorted
-    sorted-infinite b e z mid end l g =
-        let r = reply-9 s left (rw front-is at (sym e ∙ z)) in
+    sorted-infinite e z mid end l g =
+        let r = reply-9 s left (rw front-is at (none-false (all_finite (normalised (take n s))) _ (sym e ∙ z))) in
         let w : zeroed (length s) mid ≡ zeroed (length s) s = zeroed-whole (length s) mid (omega arith) ∙ sym (zeroed-whole (length s) s (omega arith)) in
         record { answer = sym r; count = rw r; values = rw r (g ∙ w); exact-is = rw r }
 
@@ -141,14 +160,14 @@ module _ (s : List Float) (f : Float) (n : ℕ) (floor : f ≡ floor_of s) (coun
           let t : take n mid ≡ finish_sorted s = rw front (take_at (finish_sorted s) (drop n s) n length-front') in
           rw (d, t, g, zeroed-whole (length s - n) (take (length mid - n) (drop n mid)) part, length-front', drop-length s) (sym (append_assoc (finish_sorted s) (zeros (length s - n)) []))
 
-      pub sorted-done : (b : Bool) → b ≡ all_finite (normalised (take n s)) → b ≡ true
+      pub sorted-done : {r : Option Bool} (x : Bool) → r ≡ if all_finite (normalised (take n s)) then Some (scale_exact (take n s)) else None → r ≡ Some x
           → ys ≡ zeroed (length s - n) (take (length mid - n) (drop n mid))
-          → (x : Bool) → x ≡ scale_exact (take n s)
-          → SortedOutcome s (record { answer = Done; count = n; exact = x }) (put_mid n (length mid - n) mid ys)
+          → SortedOutcome s (Ok (record { count = n; exact = x })) (put_mid n (length mid - n) mid ys)
       unfolding finish_sorted
-      sorted-done b e z g x h =
-          let r = reply-0 s left (rw front-is at (sym e ∙ z)) in
-          record { answer = sym r; count = rw r (sym length-front'); values = rw r (put g); exact-is = rw r (h ∙ ap scale_exact front-is) }
+      sorted-done x e z g =
+          let t = some-true (all_finite (normalised (take n s))) _ _ (sym e ∙ z) in
+          let r = reply-0 s left (rw front-is at t.0) in
+          record { answer = sym r; count = rw r (sym length-front'); values = rw r (put g); exact-is = rw r (sym t.1 ∙ ap scale_exact front-is) }
 
 -- ---- values that need no check
 
@@ -170,7 +189,7 @@ longer : (n : ℕ) (s old e : List Float) (x : ℕ) (l : List Float) → length 
 longer n s old e x l h i = rw (← h, i, if_done-append, padded-longer, zeroed-longer)
 
 -- the values were sorted into the front of the output, and finished there
-pub finished-made : (values old s e : List Float) (r : Finished) → s ≡ sorted_down values
+pub finished-made : (values old s e : List Float) (r : Result Finished Refusal) → s ≡ sorted_down values
     → SortedOutcome (take (length values) (s ++ drop (length values) old)) r e
     → MarkedOutcome values old r (e ++ drop (length values) (s ++ drop (length values) old))
 finished-made values old s e r i o =
@@ -186,24 +205,7 @@ finished-made values old s e r i o =
       exact-is = p.exact-is;
     }
 
--- the mark dropped
-pub unmarked : (values old end : List Float) (r : Finished) → MarkedOutcome values old r end
-    → FinishedOutcome values old (record { answer = r.answer; count = r.count }) end
-unmarked values old end r o = record { answer = o.answer; count = o.count; out = o.out }
-
 -- ---- the entry point
-
-pub refusal-1 : (values : List Float) (room : ℕ) → 64 < length values → (1, 0) ≡ finish_refusal values room
-unfolding finish_refusal
-refusal-1 values room h = rw (lt-ltb _ _ h)
-
-pub refusal-6 : (values : List Float) (room : ℕ) → length values ≤ 64 → room < length values → (6, 1) ≡ finish_refusal values room
-unfolding finish_refusal
-refusal-6 values room h g = rw (le-ltb _ _ h, lt-ltb _ _ g)
-
-pub refusal-7 : (values : List Float) (room : ℕ) → length values ≤ 64 → length values ≤ room → values_allowed 0 values ≡ finish_refusal values room
-unfolding finish_refusal
-refusal-7 values room h g = rw (le-ltb _ _ h, le-ltb _ _ g)
 
 allowed-small : (i : ℕ) (l : List Float) → (values_allowed i l).0 < 8
 unfolding values_allowed
@@ -231,10 +233,9 @@ refusal-room values room e =
     ltb-false room (length values) (refuse-done (ltb room (length values)) 5 1 (values_allowed 0 values) a.1).0
 
 -- refused: nothing lent changes
-pub outcome-refused : (values old : List Float) (r : Answer) → paper r ≡ finish_refusal values (length old) → ((paper r).0 ≡ 0 → ⊥)
-    → Outcome values old (record { answer = r; count = 0 }) old
-outcome-refused values old r e h =
-    let n : (finish_refusal values (length old)).0 ≡ 0 → ⊥ = λ z. h (ap (λ (x : Reply). x.0) e ∙ z) in
+pub outcome-refused : (values old : List Float) (e : Refusal) → table e ≡ finish_refusal values (length old) → Outcome values old (Err e) old
+outcome-refused values old r e =
+    let n : (finish_refusal values (length old)).0 ≡ 0 → ⊥ = λ z. stopped-number r (ap (λ (x : Reply). x.0) e ∙ z) in
     let s = sym (stays (finish_refusal values (length old)) (finish_reply values) n) in
     record {
       answer = e ∙ sym s;
@@ -242,7 +243,7 @@ outcome-refused values old r e h =
       out = rw s (end-old _ _ _ _ n (refusal-small values (length old)));
     }
 
-pub outcome-finished : (values old : List Float) (r : Kept) (end : List Float) → finish_answer values old ≡ finish_reply values
+pub outcome-finished : (values old : List Float) (r : Result ℕ Refusal) (end : List Float) → finish_answer values old ≡ finish_reply values
     → FinishedOutcome values old r end → Outcome values old r end
 outcome-finished values old r end e o =
     record {
@@ -250,7 +251,3 @@ outcome-finished values old r end e o =
       count = rw e o.count;
       out = rw e (o.out ∙ end-worked _ _ _ old (reply-worked (sorted_down values)));
     }
-
--- ONE OUTCOME: two ends of a call that both meet the contract are the same
-pub kept_same : (r r' : Kept) → r.answer ≡ r'.answer → r.count ≡ r'.count → r ≡ r'
-kept_same r r' a b = ap₂ (λ (x : Answer) (y : ℕ). record { answer = x; count = y }) a b

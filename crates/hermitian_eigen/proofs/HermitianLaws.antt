@@ -1,26 +1,26 @@
 -- Laws of the statements; `hermitian-eigen-one`: only one outcome meets the contract. Assumes nothing.
-use mathlib.Core.Path.{◌≡◌, refl, sym, ap, ap₂, subst, ◌∙◌}
+use mathlib.Core.Path.{◌≡◌, refl, sym, ap₂, subst, ◌∙◌}
 use mathlib.Core.Bool.{Bool, true, false, not}
 use mathlib.Core.Logic.{inl}
 use mathlib.Core.List.{List, ◌++◌, append-nil}
 use Prim.Native.Nat.{ℕ, ◌+◌, ◌*◌, ◌≤◌, ◌<◌}
 use native.Mathlib.Omega.{arith}
+use native.Mathlib.Nat.{mul-le-mul}
 use lib.Dec.{ltb, eqb}
-use borrow.Author.Tests.{lt-ltb, le-ltb, ltb-false, eq-eqb, ne_eqb, eqb-true, not-false}
+use borrow.Author.Tests.{ltb-false, eqb-true, not-false}
 use lib.ListN.{length, drop, drop_of_length-le}
 use lib.Ieee.{Float}
-use Rattle.answers.specs.declared.Answer.{Answer}
-use Rattle.answers.specs.Paper.{Reply, paper, done, refuse, and_then, if_done}
-use Rattle.answers.proofs.PaperLaws.{Ended, refuse-done, stays, nine-ended, worked-new, worked-old, end-old}
+use Rattle.std.specs.Prelude.{Result, Err}
+use Rattle.answers.specs.declared.Refusal.{Refusal}
+use Rattle.answers.proofs.Stopped.{refused, stopped-number}
+use Rattle.answers.specs.Paper.{Answer, Reply, paper, table, given, done, refuse, and_then, if_done}
+use Rattle.answers.proofs.PaperLaws.{Ended, refuse-done, nine-ended, done-old, worked-new, worked-old, end-old}
 use Rattle.complex.specs.Cells.{components}
 use Rattle.complex.proofs.CellLaws.{components-small}
 use Rattle.complex.specs.Zeros.{zeros, zeroed}
-use Rattle.values.specs.Lists.{all_finite}
 use Rattle.sweeps.specs.declared.Sweeps.{Sweeps}
 use Rattle.sweeps.specs.Sweeping.{no_sweeps}
-use Rattle.factored.specs.declared.Factored.{Factored}
 use Rattle.factored.specs.Factored.{kept_sweeps}
-use Rattle.factored.proofs.Laws.{kept-none, kept_by}
 use Rattle.svd.specs.Svd.{svd_sweeps}
 use Rattle.svd.proofs.SvdLaws.{zeroed-all, join-end, side-tall, svd-ceiling}
 use Rattle.hermitian_eigen.specs.Shifted.{shifted_of}
@@ -28,40 +28,6 @@ use Rattle.hermitian_eigen.specs.Hermitian.{need_vectors, hermitian_scratch, her
 use Rattle.sweeps.proofs.Ceiling.{Ceiling}
 
 -- ---- the refusals
-
-module _ (a : List Float) (dim values vectors scratch : ℕ) where
-  pub tests-low : dim < 1 → (1, 0) ≡ hermitian_tests a dim values vectors scratch
-  unfolding hermitian_tests
-  tests-low h = rw (lt-ltb _ _ h)
-
-  module _ (h1 : 1 ≤ dim) where
-    pub tests-high : 64 < dim → (1, 0) ≡ hermitian_tests a dim values vectors scratch
-    unfolding hermitian_tests
-    tests-high h = rw (le-ltb _ _ h1, lt-ltb _ _ h)
-
-    module _ (h2 : dim ≤ 64) where
-      pub tests-matrix : (length a ≡ 2 * (dim * dim) → ⊥) → (6, 0) ≡ hermitian_tests a dim values vectors scratch
-      unfolding hermitian_tests
-      tests-matrix h = rw (le-ltb _ _ h1, le-ltb _ _ h2, ne_eqb _ _ h)
-
-      module _ (h3 : length a ≡ 2 * (dim * dim)) where
-        pub tests-values : values < dim → (6, 1) ≡ hermitian_tests a dim values vectors scratch
-        unfolding hermitian_tests
-        tests-values h = rw (le-ltb _ _ h1, le-ltb _ _ h2, eq-eqb _ _ h3, lt-ltb _ _ h)
-
-        module _ (h4 : dim ≤ values) where
-          pub tests-vectors : vectors < need_vectors dim → (6, 2) ≡ hermitian_tests a dim values vectors scratch
-          unfolding hermitian_tests
-          tests-vectors h = rw (le-ltb _ _ h1, le-ltb _ _ h2, eq-eqb _ _ h3, le-ltb _ _ h4, lt-ltb _ _ h)
-
-          module _ (h5 : need_vectors dim ≤ vectors) where
-            pub tests-scratch : scratch < hermitian_scratch dim → (6, 3) ≡ hermitian_tests a dim values vectors scratch
-            unfolding hermitian_tests
-            tests-scratch h = rw (le-ltb _ _ h1, le-ltb _ _ h2, eq-eqb _ _ h3, le-ltb _ _ h4, le-ltb _ _ h5, lt-ltb _ _ h)
-
-            pub tests-cells : hermitian_scratch dim ≤ scratch → components 0 a ≡ hermitian_tests a dim values vectors scratch
-            unfolding hermitian_tests
-            tests-cells h = rw (le-ltb _ _ h1, le-ltb _ _ h2, eq-eqb _ _ h3, le-ltb _ _ h4, le-ltb _ _ h5, le-ltb _ _ h)
 
 tests-small : (a : List Float) (dim values vectors scratch : ℕ) → (hermitian_tests a dim values vectors scratch).0 < 8
 unfolding hermitian_tests
@@ -86,6 +52,7 @@ pub record HermitianAccepted (dim a values vectors scratch : ℕ) : Type 0 where
   pub values-fit : dim ≤ values
   pub vectors-fit : need_vectors dim ≤ vectors
   pub scratch-fits : hermitian_scratch dim ≤ scratch
+  pub cells : dim * dim ≤ 4096
 
 pub accepted : (a : List Float) (dim values vectors scratch : ℕ) → (hermitian_tests a dim values vectors scratch).0 ≡ 0 → HermitianAccepted dim (length a) values vectors scratch
 unfolding hermitian_tests
@@ -102,17 +69,10 @@ accepted a dim values vectors scratch e =
       values-fit = ltb-false values dim t3.0;
       vectors-fit = ltb-false vectors (need_vectors dim) t4.0;
       scratch-fits = ltb-false scratch (hermitian_scratch dim) t5.0;
+      cells = mul-le-mul (ltb-false 64 dim t1.0) (ltb-false 64 dim t1.0);
     }
 
 -- ---- the end
-
-pub finite-first : (values vectors : List Float) → all_finite values ≡ false → false ≡ finite_results values vectors
-unfolding finite_results
-finite-first values vectors a = rw a
-
-pub finite-second : (values vectors : List Float) {t : Bool} → all_finite values ≡ true → t ≡ all_finite vectors → t ≡ finite_results values vectors
-unfolding finite_results
-finite-second values vectors a b = rw a b
 
 -- all finite, or not
 pub finished-good : (values vectors : List Float) (r : Answer) → paper r ≡ done → finite_results values vectors ≡ true → HermitianFinished values vectors r values vectors
@@ -130,57 +90,53 @@ end-number : (values vectors : List Float) → Ended (hermitian_end values vecto
 unfolding hermitian_end
 end-number values vectors = nine-ended (finite_results values vectors) done (inl refl)
 
-pub worked : (a : List Float) (dim la : ℕ) (values₀ vectors₀ scratch₀ scratch : List Float) {values vectors values' vectors' scratch' : List Float} {t : Sweeps} (q : Answer) (r : Factored)
+pub worked : (a : List Float) (dim la : ℕ) (values₀ vectors₀ scratch₀ scratch : List Float) {values vectors values' vectors' scratch' : List Float} (q : Answer) (r : Result Sweeps Refusal)
     → HermitianExact dim la (length values₀) (length vectors₀) (length scratch₀)
     → length values ≡ length values₀ → length vectors ≡ length vectors₀
-    → values ≡ hermitian_values a dim → vectors ≡ hermitian_vectors a dim → t ≡ hermitian_sweeps a dim
+    → values ≡ hermitian_values a dim → vectors ≡ hermitian_vectors a dim
     → (k : ℕ) → k ≡ length scratch₀ → length scratch ≡ length scratch₀ → scratch' ≡ zeroed k scratch → HermitianFinished values vectors q values' vectors'
-    → (r.answer ≡ q) × (r.sweeps ≡ kept_sweeps q t)
+    → paper r ≡ paper q → given no_sweeps r ≡ kept_sweeps r (hermitian_sweeps a dim)
     → HermitianWorked a dim r values' vectors' scratch'
 unfolding zeroed
-worked a dim la values₀ vectors₀ scratch₀ scratch {values} {vectors} {values'} {vectors'} q r e lv lw ev ew et k ek lt z h i =
-    let g : HermitianFinished values vectors r.answer values' vectors' = rw i.0 h in
+worked a dim la values₀ vectors₀ scratch₀ scratch {values} {vectors} {values'} {vectors'} q r e lv lw ev ew k ek lt z g i w =
     let l : length scratch ≤ k = omega arith in
     record {
-      answer = g.answer ∙ ap₂ hermitian_end ev ew;
-      values-are = g.values-are ∙ ap₂ (λ (x : List Float) (y : ℕ). if_done (paper r.answer).0 x (zeros y)) ev (lv ∙ e.values-are);
-      vectors-are = g.vectors-are ∙ ap₂ (λ (x : List Float) (y : ℕ). if_done (paper r.answer).0 x (zeros y)) ew (lw ∙ e.vectors-are);
+      answer = i ∙ g.answer ∙ ap₂ hermitian_end ev ew;
+      values-are = rw i (g.values-are ∙ ap₂ (λ (x : List Float) (y : ℕ). if_done (paper q).0 x (zeros y)) ev (lv ∙ e.values-are));
+      vectors-are = rw i (g.vectors-are ∙ ap₂ (λ (x : List Float) (y : ℕ). if_done (paper q).0 x (zeros y)) ew (lw ∙ e.vectors-are));
       scratch-is = z ∙ rw (drop_of_length-le scratch l, append-nil, ek, e.scratch-is);
-      sweeps-are = kept_by i.0 et i.1;
+      sweeps-are = w;
     }
 
 -- an accepted call, and a refused one
-pub eigen-worked : (a : List Float) (dim : ℕ) (values vectors scratch : List Float) (r : Factored) {values' vectors' scratch' : List Float}
+pub eigen-worked : (a : List Float) (dim : ℕ) (values vectors scratch : List Float) (r : Result Sweeps Refusal) {values' vectors' scratch' : List Float}
     → and_then (hermitian_tests a dim (length values) (length vectors) (length scratch)) (hermitian_end (hermitian_values a dim) (hermitian_vectors a dim))
     ≡ hermitian_end (hermitian_values a dim) (hermitian_vectors a dim)
     → HermitianWorked a dim r values' vectors' scratch'
     → Eigen a dim values vectors scratch r (values' ++ drop dim values) (vectors' ++ drop (2 * (dim * dim)) vectors) (scratch' ++ drop (6 * (dim * dim) + 2 * dim) scratch)
 unfolding hermitian_answer zeroed
 eigen-worked a dim values vectors scratch r e w =
-    let p : Ended (paper r.answer).0 = rw w.answer (end-number (hermitian_values a dim) (hermitian_vectors a dim)) in
+    let p : Ended (paper r).0 = rw w.answer (end-number (hermitian_values a dim) (hermitian_vectors a dim)) in
     record {
       answer = w.answer ∙ sym e;
-      values-are = rw w.values-are (join-end (paper r.answer).0 (hermitian_values a dim) (zeros dim) (drop dim values) values p);
-      vectors-are = rw w.vectors-are (join-end (paper r.answer).0 (hermitian_vectors a dim) (zeros (need_vectors dim)) (drop (need_vectors dim) vectors) vectors p);
-      scratch-is = rw w.scratch-is (worked-new (paper r.answer).0 (zeros (hermitian_scratch dim) ++ drop (hermitian_scratch dim) scratch) scratch p);
+      values-are = rw w.values-are (join-end (paper r).0 (hermitian_values a dim) (zeros dim) (drop dim values) values p);
+      vectors-are = rw w.vectors-are (join-end (paper r).0 (hermitian_vectors a dim) (zeros (need_vectors dim)) (drop (need_vectors dim) vectors) vectors p);
+      scratch-is = rw w.scratch-is (worked-new (paper r).0 (zeros (hermitian_scratch dim) ++ drop (hermitian_scratch dim) scratch) scratch p);
       sweeps-are = w.sweeps-are;
     }
 
-pub eigen-refused : (a : List Float) (dim : ℕ) (values vectors scratch : List Float) (q : Answer) (r : Factored) → (r.answer ≡ q) × (r.sweeps ≡ no_sweeps)
-    → paper q ≡ hermitian_tests a dim (length values) (length vectors) (length scratch) → ((paper q).0 ≡ 0 → ⊥)
-    → Eigen a dim values vectors scratch r values vectors scratch
+pub eigen-refused : (a : List Float) (dim : ℕ) (values vectors scratch : List Float) (e : Refusal)
+    → table e ≡ hermitian_tests a dim (length values) (length vectors) (length scratch) → Eigen a dim values vectors scratch (Err e) values vectors scratch
 unfolding hermitian_answer
-eigen-refused a dim values vectors scratch q r i e' h' =
-    let e : paper r.answer ≡ hermitian_tests a dim (length values) (length vectors) (length scratch) = rw i.0 e' in
-    let h : (paper r.answer).0 ≡ 0 → ⊥ = rw i.0 h' in
-    let b : (paper r.answer).0 < 8 = rw e (tests-small a dim (length values) (length vectors) (length scratch)) in
-    let end = hermitian_end (hermitian_values a dim) (hermitian_vectors a dim) in
+eigen-refused a dim values vectors scratch r e =
+    let h = stopped-number r in
+    let b : (table r).0 < 8 = rw e (tests-small a dim (length values) (length vectors) (length scratch)) in
     record {
-      answer = stays (paper r.answer) end h ∙ ap (λ (x : Reply). and_then x end) e;
-      values-are = end-old (paper r.answer).0 _ _ values h b;
-      vectors-are = end-old (paper r.answer).0 _ _ vectors h b;
-      scratch-is = worked-old (paper r.answer).0 _ scratch h b;
-      sweeps-are = kept-none r.answer (hermitian_sweeps a dim) h i.1;
+      answer = refused r _ (hermitian_end (hermitian_values a dim) (hermitian_vectors a dim)) e;
+      values-are = end-old (table r).0 _ _ values h b;
+      vectors-are = end-old (table r).0 _ _ vectors h b;
+      scratch-is = worked-old (table r).0 _ scratch h b;
+      sweeps-are = done-old (table r).0 _ no_sweeps h;
     }
 
 -- ---- the turned pairs

@@ -1,5 +1,4 @@
 -- The laws, and what the functions' proofs share.
-pub mod BackwardLaws
 pub mod HermitianLaws
 pub mod ShiftedLaws
 pub mod StepsLaws

@@ -1,17 +1,17 @@
 -- The eigenvalues and eigenvectors of a Hermitian matrix: the refusals, the results, and what each lent list holds at the end.
 -- Definitions only.
-use Rattle.std.specs.Prelude.{◌≡◌, Bool, not, ◌&&◌, List, ◌++◌, ℕ, ◌+◌, ◌-◌, ◌*◌, ◌≤◌, ltb, eqb, length, get_or, drop, Float}
+use Rattle.std.specs.Prelude.{◌≡◌, Result, Bool, not, ◌&&◌, List, ◌++◌, ℕ, ◌+◌, ◌-◌, ◌*◌, ◌≤◌, ltb, eqb, length, get_or, drop, Float}
 use Rattle.std.specs.Float.{nan, binary64}
 use Rattle.std.specs.Float.Ieee.{sub}
-use Rattle.answers.specs.declared.Answer.{Answer}
-use Rattle.answers.specs.Paper.{Reply, paper, done, refuse, and_then, if_done, if_worked, at_end}
+use Rattle.answers.specs.declared.Refusal.{Refusal}
+use Rattle.answers.specs.Paper.{Answer, Reply, paper, given, done, refuse, and_then, if_done, if_worked, at_end}
 use Rattle.complex.specs.Cells.{cell_at, cells_of, components}
 use Rattle.complex.specs.Zeros.{zeros, zeroed}
 use Rattle.tables.specs.Tables.{table}
 use Rattle.svd_columns.specs.Columns.{in_columns}
 use Rattle.values.specs.Lists.{all_finite}
 use Rattle.sweeps.specs.declared.Sweeps.{Sweeps}
-use Rattle.factored.specs.declared.Factored.{Factored}
+use Rattle.sweeps.specs.Sweeping.{no_sweeps}
 use Rattle.factored.specs.Factored.{kept_sweeps}
 use Rattle.svd.specs.Svd.{u_of, s_of, svd_sweeps}
 use Rattle.hermitian_eigen.specs.Shifted.{shift_of, shifted_of}
@@ -61,12 +61,12 @@ unfoldable pub hermitian_answer : List Float → ℕ → ℕ → ℕ → ℕ →
 hermitian_answer a dim values vectors scratch = and_then (hermitian_tests a dim values vectors scratch) (hermitian_end (hermitian_values a dim) (hermitian_vectors a dim))
 
 -- the answer, the sweeps, and what values, vectors and scratch hold at the end
-pub record Eigen (a : List Float) (dim : ℕ) (values vectors scratch : List Float) (r : Factored) (values' vectors' scratch' : List Float) : Type 0 where
-  pub answer : paper r.answer ≡ hermitian_answer a dim (length values) (length vectors) (length scratch)
-  pub values-are : values' ≡ at_end (paper r.answer).0 (hermitian_values a dim ++ drop dim values) (zeroed dim values) values
-  pub vectors-are : vectors' ≡ at_end (paper r.answer).0 (hermitian_vectors a dim ++ drop (need_vectors dim) vectors) (zeroed (need_vectors dim) vectors) vectors
-  pub scratch-is : scratch' ≡ if_worked (paper r.answer).0 (zeroed (hermitian_scratch dim) scratch) scratch
-  pub sweeps-are : r.sweeps ≡ kept_sweeps r.answer (hermitian_sweeps a dim)
+pub record Eigen (a : List Float) (dim : ℕ) (values vectors scratch : List Float) (r : Result Sweeps Refusal) (values' vectors' scratch' : List Float) : Type 0 where
+  pub answer : paper r ≡ hermitian_answer a dim (length values) (length vectors) (length scratch)
+  pub values-are : values' ≡ at_end (paper r).0 (hermitian_values a dim ++ drop dim values) (zeroed dim values) values
+  pub vectors-are : vectors' ≡ at_end (paper r).0 (hermitian_vectors a dim ++ drop (need_vectors dim) vectors) (zeroed (need_vectors dim) vectors) vectors
+  pub scratch-is : scratch' ≡ if_worked (paper r).0 (zeroed (hermitian_scratch dim) scratch) scratch
+  pub sweeps-are : given no_sweeps r ≡ kept_sweeps r (hermitian_sweeps a dim)
 
 -- ---- the steps
 
@@ -83,9 +83,9 @@ pub record HermitianFinished (values vectors : List Float) (r : Answer) (values'
   pub values-are : values' ≡ if_done (paper r).0 values (zeros (length values))
   pub vectors-are : vectors' ≡ if_done (paper r).0 vectors (zeros (length vectors))
 
-pub record HermitianWorked (a : List Float) (dim : ℕ) (r : Factored) (values vectors scratch : List Float) : Type 0 where
-  pub answer : paper r.answer ≡ hermitian_end (hermitian_values a dim) (hermitian_vectors a dim)
-  pub values-are : values ≡ if_done (paper r.answer).0 (hermitian_values a dim) (zeros dim)
-  pub vectors-are : vectors ≡ if_done (paper r.answer).0 (hermitian_vectors a dim) (zeros (need_vectors dim))
+pub record HermitianWorked (a : List Float) (dim : ℕ) (r : Result Sweeps Refusal) (values vectors scratch : List Float) : Type 0 where
+  pub answer : paper r ≡ hermitian_end (hermitian_values a dim) (hermitian_vectors a dim)
+  pub values-are : values ≡ if_done (paper r).0 (hermitian_values a dim) (zeros dim)
+  pub vectors-are : vectors ≡ if_done (paper r).0 (hermitian_vectors a dim) (zeros (need_vectors dim))
   pub scratch-is : scratch ≡ zeros (hermitian_scratch dim)
-  pub sweeps-are : r.sweeps ≡ kept_sweeps r.answer (hermitian_sweeps a dim)
+  pub sweeps-are : given no_sweeps r ≡ kept_sweeps r (hermitian_sweeps a dim)

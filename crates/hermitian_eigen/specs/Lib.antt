@@ -1,5 +1,4 @@
 -- What the contracts of `hermitian_eigen` cite.
 pub mod Shifted
-pub mod Backward
 pub mod Hermitian
 pub mod Steps

@@ -1,5 +1,5 @@
 -- The steps of the work, and their laws. Assumes nothing.
-use Rattle.std.specs.Prelude.{◌≡◌, false, List, ℕ, ◌-◌, ◌*◌, take, Float}
+use Rattle.std.specs.Prelude.{◌≡◌, false, List, reverse, ℕ, ◌*◌, take, Float}
 use Rattle.svd_load.specs.Loading.{planes_of}
 use Rattle.stable_order.specs.Places.{places_of}
 use Rattle.svd_columns.specs.Columns.{directions_of}
@@ -7,13 +7,12 @@ use Rattle.sweeps.specs.declared.Sweeps.{Sweeps}
 use Rattle.sweeps.specs.Sweeping.{State}
 use Rattle.svd_thin.specs.Thin.{swept, order_of, values_of, order_part}
 use Rattle.hermitian_eigen.specs.Shifted.{shifted_at}
-use Rattle.hermitian_eigen.specs.Backward.{backward}
 
 -- the values of the swept matrix `work` and, in scratch, the matrix and behind it the order of its columns, both rising
 pub record Rising (dim : ℕ) (work values scratch : List Float) : Type 0 where
-  pub values-are : values ≡ backward (values_of dim dim work)
+  pub values-are : values ≡ reverse (values_of dim dim work)
   pub work-is : take (2 * (dim * dim)) scratch ≡ work
-  pub order_is : order_part dim dim scratch ≡ places_of (backward (order_of dim dim work))
+  pub order_is : order_part dim dim scratch ≡ places_of (reverse (order_of dim dim work))
 
 -- the end of the sweeps on the matrix that is shifted by `shift`, and the matrix there
 abbrev pub swept_end : List Float → ℕ → Float → State
@@ -28,7 +27,7 @@ pub record HermitianSwept (a : List Float) (dim : ℕ) (shift : Float) (r : Swee
 
 -- its values and directions, rising
 pub record HermitianFactored (a : List Float) (dim : ℕ) (shift : Float) (r : Sweeps) (values vectors : List Float) : Type 0 where
-  pub values-are : values ≡ backward (values_of dim dim (swept_by a dim shift))
+  pub values-are : values ≡ reverse (values_of dim dim (swept_by a dim shift))
   pub vectors-are : vectors
-      ≡ directions_of (swept_by a dim shift) (backward (values_of dim dim (swept_by a dim shift))) (backward (order_of dim dim (swept_by a dim shift))) dim dim false
+      ≡ directions_of (swept_by a dim shift) (reverse (values_of dim dim (swept_by a dim shift))) (reverse (order_of dim dim (swept_by a dim shift))) dim dim false
   pub sweeps-are : r ≡ (swept_end a dim shift).sweeps

@@ -13,13 +13,11 @@ ghost use Rattle.stable_order.specs.Places.{Places, places_in};
 ghost use Rattle.svd_columns.specs.Columns.{directions_of};
 ghost use Rattle.svd_thin.specs.Thin.{order_part, Lent};
 ghost use Rattle.hermitian_eigen.specs.Shifted.{peak_to, shift_of, shifted_cell, shifted_at};
-ghost use Rattle.hermitian_eigen.specs.Backward.{backward};
 ghost use Rattle.hermitian_eigen.specs.Steps.{Rising, HermitianSwept, HermitianFactored};
 ghost use Rattle.hermitian_eigen.specs.Hermitian.{hermitian_tests, finite_results, HermitianExact, HermitianFinished, HermitianWorked, Eigen};
 
-use answers::Answer;
+use answers::Refusal;
 use complex::Complex;
-use factored::Factored;
 use sweeps::Sweeps;
 
 // The largest modulus of c cells, at least +0.0.
@@ -85,19 +83,6 @@ fn sweep(matrix: &[f64], dim: usize, shift: f64, work: &mut [f64]) -> Sweeps
     svd_sweeps::settle_alone(work, dim, dim, false)
 }
 
-// The list backward, in place.
-fn reverse(l: &mut [f64])
-    ensures { l.new ≡ backward l.old }
-{
-    let half = l.len() / 2;
-    for j in 0..half {
-        let k = l.len() - 1 - j;
-        let t = l[j];
-        l[j] = l[k];
-        l[k] = t;
-    }
-}
-
 // The singular values of the swept matrix at the front of scratch go to `values`, and behind the matrix the order of its
 // columns, both rising.
 fn rank_rising(dim: usize, values: &mut [f64], vectors: &mut [f64], scratch: &mut [f64])
@@ -107,8 +92,8 @@ fn rank_rising(dim: usize, values: &mut [f64], vectors: &mut [f64], scratch: &mu
     let w = 2 * (dim * dim);
     let e = w + dim;
     svd_thin::rank(dim, dim, values, vectors, scratch);
-    reverse(values);
-    reverse(&mut scratch[w..e]);
+    values.reverse();
+    scratch[w..e].reverse();
 }
 
 // The columns of the swept matrix in the order behind it, each scaled by its value.
@@ -152,31 +137,29 @@ fn factor(
 fn lower(values: &mut [f64], shift: f64)
     ensures { values.new ≡ table (length values.old) (λ j. sub binary64 (get_or values.old j nan) shift) }
 {
-    for j in 0..values.len() {
-        values[j] = values[j] - shift;
+    for x in values.iter_mut() {
+        *x = *x - shift;
     }
 }
 
 // Whether every number of both results is finite.
+#[tactic(auto, unfolding(crate::specs::Hermitian::finite_results))]
 fn finite_results(values: &[f64], vectors: &[f64]) -> bool
     ensures { result ≡ finite_results values.now vectors.now }
 {
-    if !values::all_finite(values) {
-        return false;
-    }
-    values::all_finite(vectors)
+    values::all_finite(values) && values::all_finite(vectors)
 }
 
 // 9 where a number of a result is not finite, and then both are +0.0.
-fn finish(values: &mut [f64], vectors: &mut [f64]) -> Answer
+fn finish(values: &mut [f64], vectors: &mut [f64]) -> Result<(), Refusal>
     ensures { HermitianFinished values.old vectors.old result values.new vectors.new }
 {
     if finite_results(values, vectors) {
-        return Answer::Done;
+        return Ok(());
     }
     complex::zero_first(values, values.len());
     complex::zero_first(vectors, vectors.len());
-    Answer::NotFinite
+    Err(Refusal::NotFinite)
 }
 
 // The work of an accepted call, over slices of exactly the needed lengths.
@@ -186,7 +169,7 @@ fn work(
     values: &mut [f64],
     vectors: &mut [f64],
     scratch: &mut [f64],
-) -> Factored
+) -> Result<Sweeps, Refusal>
     requires { HermitianExact dim (length matrix.now) (length values.old) (length vectors.old) (length scratch.old) }
     ensures { HermitianWorked matrix.now dim result values.new vectors.new scratch.new }
 {
@@ -194,32 +177,36 @@ fn work(
     let sweeps = factor(matrix, dim, shift, values, vectors, scratch);
     lower(values, shift);
     complex::zero_first(scratch, scratch.len());
-    let answer = finish(values, vectors);
-    factored::answered(answer, sweeps)
+    finish(values, vectors)?;
+    Ok(sweeps)
 }
 
 // Every refusal that comes before the work.
-fn check(matrix: &[f64], dim: usize, values: usize, vectors: usize, scratch: usize) -> Answer
+#[tactic(auto, unfolding(crate::specs::Hermitian::hermitian_tests))]
+fn check(
+    matrix: &[f64],
+    dim: usize,
+    values: usize,
+    vectors: usize,
+    scratch: usize,
+) -> Result<(), Refusal>
     ensures { paper result ≡ hermitian_tests matrix.now dim values vectors scratch }
 {
-    if dim < 1 {
-        return Answer::Size;
-    }
-    if dim > 64 {
-        return Answer::Size;
+    if dim < 1 || dim > 64 {
+        return Err(Refusal::Size);
     }
     let cells = dim * dim;
     if matrix.len() != 2 * cells {
-        return Answer::Length(0);
+        return Err(Refusal::Length(0));
     }
     if values < dim {
-        return Answer::Length(1);
+        return Err(Refusal::Length(1));
     }
     if vectors < 2 * cells {
-        return Answer::Length(2);
+        return Err(Refusal::Length(2));
     }
     if scratch < 6 * cells + 2 * dim {
-        return Answer::Length(3);
+        return Err(Refusal::Length(3));
     }
     components::check_components(matrix)
 }
@@ -232,14 +219,11 @@ pub fn hermitian_eigen(
     values: &mut [f64],
     vectors: &mut [f64],
     scratch: &mut [f64],
-) -> Factored
+) -> Result<Sweeps, Refusal>
     ensures { Eigen matrix.now dim values.old vectors.old scratch.old result
         values.new vectors.new scratch.new }
 {
-    let answer = check(matrix, dim, values.len(), vectors.len(), scratch.len());
-    let Answer::Done = answer else {
-        return factored::refused(answer);
-    };
+    check(matrix, dim, values.len(), vectors.len(), scratch.len())?;
     let for_vectors = 2 * (dim * dim);
     let for_scratch = 6 * (dim * dim) + 2 * dim;
     work(

@@ -17,6 +17,7 @@ pub fn read_full<R: Read>(from: &mut R, buf: &mut [u8]) -> usize
     ensures bytes { Consumes (R.remaining from.old) (R.remaining from.new) (take result buf.new) }
 {
     let mut done = 0;
+    // A read may take any number of bytes, so no range counts the turns.
     while done < buf.len() {
         match from.read(&mut buf[done..]) {
             Ok(0) | Err(_) => return done,

@@ -2,14 +2,14 @@
 use mathlib.Core.Path.{◌≡◌, ap}
 use mathlib.Core.Bool.{Bool, true, false}
 use mathlib.Core.List.{List, [], ◌∷◌, ◌++◌}
-use Prim.Native.Nat.{ℕ, zero, suc, ◌+◌, ◌-◌, ◌*◌, ◌≤◌, ◌<◌}
+use Prim.Native.Nat.{ℕ, zero, suc, ◌+◌, ◌*◌, ◌≤◌, ◌<◌}
 use native.Mathlib.Numerals.{add-one}
 use native.Mathlib.Omega.{arith}
 use lib.ListN.{length, get_or, length-append}
 use lib.Ieee.{Float, nan, binary64, to_bits}
 use Rattle.answers.specs.Paper.{Reply}
 use Rattle.texts.specs.Text.{Puts, hex, item_text, pair_line}
-use Rattle.texts.proofs.TextLaws.{puts_then, puts-as, puts_none, length-puts, length-hex, length-item, length-pair}
+use Rattle.texts.proofs.TextLaws.{puts_then, puts-as, puts_none, length-hex, length-item, length-pair}
 use Rattle.lines.specs.Lines.{cut_word, side_word, value_word, entropy_word, end_word, refused_word, blank, refused_line, cut_line, value_line, items, side_line, value_lines, quiet_text, end_line, entropy_line, last_lines, listing}
 
 pub length-items : (m : ℕ) (l : List ℕ) → length (items m l) ≤ 21 * m
@@ -54,17 +54,6 @@ pub values-step : (at m r s b : ℕ) (l : List Float) (old mid new : List ℕ) �
 unfolding value_lines
 values-step at m r s b l old mid new room e p q =
     rw add-one (puts_then at r s (value_lines m l) _ old mid new (omega (arith, length-values m l)) p (puts-as r s _ _ mid new (ap (value_line m) e) q))
-
--- inside the loops: the room, and what is left of it
-pub items-room : (at m r : ℕ) (l old out : List ℕ) → at + 21 * length l ≤ length old → m ≤ length l → Puts at (items m l) old r out → (length out ≡ length old) × (r ≤ at + 21 * m)
-items-room at m r l old out room h p =
-    let i = length-items m l in
-    (length-puts at r (items m l) old out (omega arith) p, omega (arith, p.next))
-
-pub values-room : (at m r : ℕ) (l : List Float) (old out : List ℕ) → at + 64 * length l ≤ length old → m ≤ length l → Puts at (value_lines m l) old r out → (length out ≡ length old) × (r ≤ at + 64 * m)
-values-room at m r l old out room h p =
-    let i = length-values m l in
-    (length-puts at r (value_lines m l) old out (omega arith) p, omega (arith, p.next))
 
 pub length_cut : (n k rows cols : ℕ) → length (cut_line n k rows cols) ≤ 88
 unfolding cut_line

@@ -7,14 +7,15 @@ ghost use Rattle.answers.specs.Paper.{paper};
 ghost use Rattle.texts.specs.Text.{Puts};
 ghost use Rattle.lines.specs.Lines.{refused_line, cut_line, value_line, items, side_line, value_lines, quiet_text, end_line, entropy_line, last_lines, listing};
 
-use answers::Answer;
+use answers::Refusal;
 
 // Puts the one line of a refusal.
-pub fn put_refused(out: &mut [u8], answer: Answer) -> usize
+#[tactic(auto, unfolding(crate::specs::Lines::refused_line))]
+pub fn put_refused(out: &mut [u8], answer: Result<(), Refusal>) -> usize
     requires { 50 ≤ length out.old }
     ensures { Puts 0 (refused_line (paper answer)) out.old result out.new }
 {
-    let reply = answers::number_of(answer);
+    let reply = answers::number_of(&answer);
     texts::put_pair_line(out, 0, b"refused ", reply.number, reply.place)
 }
 
@@ -55,10 +56,8 @@ pub fn put_items(out: &mut [u8], at: usize, list: &[usize]) -> usize
     ensures { Puts at (items (length list.now) list.now) out.old result out.new }
 {
     let mut next = at;
-    let mut i = 0;
-    while i < list.len() {
-        next = texts::put_item(out, next, b" ", list[i]);
-        i += 1;
+    for n in list {
+        next = texts::put_item(out, next, b" ", *n);
     }
     next
 }
@@ -69,24 +68,23 @@ pub fn put_values(out: &mut [u8], at: usize, values: &[f64]) -> usize
     ensures { Puts at (value_lines (length values.now) values.now) out.old result out.new }
 {
     let mut next = at;
-    let mut i = 0;
-    while i < values.len() {
-        let bits = bits::bits_of(values[i]);
-        next = put_value(out, next, i, bits);
-        i += 1;
+    for (rank, value) in values.iter().enumerate() {
+        next = put_value(out, next, rank, bits::bits_of(*value));
     }
     next
 }
 
 // Puts the end of a line that says yes or no, as the last line does of the last sweep.
+#[tactic(auto, unfolding(crate::specs::Lines::quiet_text))]
 pub fn put_quiet(out: &mut [u8], at: usize, quiet: bool) -> usize
     requires { at + 5 ≤ length out.old }
     ensures { Puts at (quiet_text quiet) out.old result out.new }
 {
     if quiet {
-        return texts::put_text(out, at, b" yes\n");
+        texts::put_text(out, at, b" yes\n")
+    } else {
+        texts::put_text(out, at, b" no\n")
     }
-    texts::put_text(out, at, b" no\n")
 }
 
 // Puts the last line: how many values there are, how many sweeps were begun, and whether the last one was quiet.

@@ -12,10 +12,8 @@ fn put_counts(out: &mut [u8], at: usize, word: &[u8], first: usize, counts: &[us
     ensures { Puts at (count_lines word.now first (length counts.now) counts.now) out.old result out.new }
 {
     let mut next = at;
-    let mut i = 0;
-    while i < counts.len() {
-        next = texts::put_pair_line(out, next, word, first + i, counts[i]);
-        i += 1;
+    for (i, count) in counts.iter().enumerate() {
+        next = texts::put_pair_line(out, next, word, first + i, *count);
     }
     next
 }

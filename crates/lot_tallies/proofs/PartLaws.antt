@@ -9,18 +9,6 @@ use lib.Seq.{paste, paste-zero, paste-suc, take_at, take-length, drop-append-add
 use Rattle.lot_tallies.specs.declared.Sheet.{Sheet}
 use Rattle.lot_tallies.specs.Tallies.{sheet_numbers, part_put}
 
-pub part_none : (out part : List ℕ) (at : ℕ) → out ≡ part_put at part 0 out
-unfolding part_put
-part_none out part at = paste-zero out at part
-
-pub part-more : (out₀ out part : List ℕ) (at i : ℕ) → at + length part ≤ length out₀ → i < length part → out ≡ part_put at part i out₀
-    → set out (at + i) (get_or part i 0) ≡ part_put at part (i + 1) out₀
-unfolding part_put
-part-more out₀ out part at i f h e =
-    ap (λ (x : List ℕ). set x (at + i) (get_or part i 0)) e
-    ∙ paste-suc out₀ at part i 0 (omega arith) h
-    ∙ ap (λ (n : ℕ). paste out₀ at part n) (sym (add-one i))
-
 pub part_end : (out₀ out part : List ℕ) (at i : ℕ) → out ≡ part_put at part i out₀ → i ≤ length part → length part ≤ i → out ≡ part_put at part (length part) out₀
 part_end out₀ out part at i e h k =
     let s : i ≡ length part = omega arith in

@@ -197,18 +197,6 @@ pub held_more : (held first rank file : ℕ) → (held ≡ 0 → ⊥) → rank <
 unfolding smaller_mark
 held_more held first rank file n l = rw (ne_eqb held 0 n, lt-ltb rank held l) refl
 
-pub held-less : (held first rank file : ℕ) → (held ≡ 0 → ⊥) → held ≤ rank → record { rank = held; file = first } ≡ smaller_mark held first rank file
-unfolding smaller_mark
-held-less held first rank file n l = rw (ne_eqb held 0 n, le-ltb rank held l) refl
-
-pub most-less : (held first rank file : ℕ) → held < rank → record { rank = rank; file = file } ≡ larger_mark held first rank file
-unfolding larger_mark
-most-less held first rank file l = rw (lt-ltb held rank l) refl
-
-pub most-more : (held first rank file : ℕ) → rank ≤ held → record { rank = held; file = first } ≡ larger_mark held first rank file
-unfolding larger_mark
-most-more held first rank file l = rw (le-ltb held rank l) refl
-
 -- ---- the whole sheet
 
 same-sheet : {a a' b b' : List ℕ} {c c' d d' e e' f f' g g' : ℕ} → a ≡ a' → b ≡ b' → c ≡ c' → d ≡ d' → e ≡ e' → f ≡ f' → g ≡ g'

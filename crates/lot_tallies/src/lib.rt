@@ -41,13 +41,11 @@ pub fn empty() -> Sheet
 }
 
 // The smaller rank of the held one and a file's: a later file with the same rank does not take its place.
+#[tactic(auto, unfolding(crate::specs::Tallies::smaller_mark))]
 fn smaller(held: usize, first: usize, rank: usize, file: usize) -> Mark
     ensures { result ≡ smaller_mark held first rank file }
 {
-    if held == 0 {
-        return Mark { rank, file };
-    }
-    if rank < held {
+    if held == 0 || rank < held {
         return Mark { rank, file };
     }
     Mark {
@@ -57,6 +55,7 @@ fn smaller(held: usize, first: usize, rank: usize, file: usize) -> Mark
 }
 
 // The larger rank of the held one and a file's.
+#[tactic(auto, unfolding(crate::specs::Tallies::larger_mark))]
 fn larger(held: usize, first: usize, rank: usize, file: usize) -> Mark
     ensures { result ≡ larger_mark held first rank file }
 {
@@ -75,20 +74,20 @@ pub fn add(sheet: Sheet, files: usize, number: usize, rank: usize) -> Sheet
     ensures { Adds sheet files number rank result }
 {
     let mut out = sheet;
-    out.answers[number] = out.answers[number] + 1;
+    out.answers[number] += 1;
     if 0 < number {
         return out;
     }
     let at = rank - 1;
     let file = files + 1;
-    out.ranks[at] = out.ranks[at] + 1;
+    out.ranks[at] += 1;
     let least = smaller(out.smallest, out.smallest_file, rank, file);
     let most = larger(out.largest, out.largest_file, rank, file);
     out.smallest = least.rank;
     out.smallest_file = least.file;
     out.largest = most.rank;
     out.largest_file = most.file;
-    out.sum = out.sum + rank;
+    out.sum += rank;
     out
 }
 
@@ -97,9 +96,7 @@ fn put_part(out: &mut [usize], at: usize, part: &[usize])
     requires { at + length part.now ≤ length out.old }
     ensures { out.new ≡ part_put at part.now (length part.now) out.old }
 {
-    for i in 0..part.len() {
-        out[at + i] = part[i];
-    }
+    out[at..at + part.len()].copy_from_slice(part);
 }
 
 // The 32 numbers of the sheet stand in out.
@@ -107,8 +104,6 @@ pub fn put_sheet(sheet: Sheet, out: &mut [usize])
     requires { (length sheet.answers ≡ 11) × (length sheet.ranks ≡ 16) × (length out.old ≡ 32) }
     ensures { out.new ≡ sheet_numbers sheet }
 {
-    let answers = sheet.answers;
-    let ranks = sheet.ranks;
     let last = [
         sheet.smallest,
         sheet.smallest_file,
@@ -116,7 +111,7 @@ pub fn put_sheet(sheet: Sheet, out: &mut [usize])
         sheet.largest_file,
         sheet.sum,
     ];
-    put_part(out, 0, &answers);
-    put_part(out, 11, &ranks);
+    put_part(out, 0, &sheet.answers);
+    put_part(out, 11, &sheet.ranks);
     put_part(out, 27, &last);
 }

@@ -10,16 +10,18 @@ use lib.Dec.{ltb}
 use lib.ListN.{length, get_or, set, take, drop, length-append, length-take, length-drop, length-set, get_or-append}
 use lib.Seq.{get_or_at, get_or-take, get_or-drop, take-suc, take-suc-set, take-length}
 use borrow.Author.Tests.{lt-ltb, le-ltb, ltb-false}
-use Rattle.answers.specs.declared.Answer.{Answer}
-use Rattle.answers.specs.Paper.{Reply, paper, done, refuse}
-use Rattle.answers.proofs.PaperLaws.{refuse-done, done-new, done-old}
+use Rattle.std.proofs.Common.{Result, Ok, Err}
+use Rattle.std.specs.Result.{result_unwrap_or}
+use Rattle.answers.specs.declared.Refusal.{Refusal}
+use Rattle.answers.specs.Paper.{Reply, given, done, refuse}
+use Rattle.answers.proofs.PaperLaws.{refuse-done}
 use Rattle.cutfile.specs.Bytes.{word32}
 use Rattle.lot_verdicts.specs.Verdict.{verdict_of}
 use Rattle.lot_verdicts.proofs.Theorems.{verdict-number, verdict-accepted, verdict-refused, verdict-front}
 use Rattle.lot_tallies.specs.declared.Sheet.{Sheet}
-use Rattle.lot_tallies.specs.Tallies.{Single, Fair, AllFair, Tallied, Adds, sheet_of, sheet_numbers}
+use Rattle.lot_tallies.specs.Tallies.{Single, Fair, AllFair, Tallied, Adds, sheet_of}
 use Rattle.lot_tallies.proofs.SheetLaws.{fair-none, fair-more}
-use Rattle.lots.specs.Lot.{lot_header, size_at, start_of, file_from, file_of, results_to, results, Lot, Read, AddsFile}
+use Rattle.lots.specs.Lot.{lot_header, size_at, start_of, file_from, file_of, results_to, results, Read, AddsFile}
 
 -- ---- the header
 
@@ -137,6 +139,10 @@ results_at lot (suc m) i h =
 pub single-fair : (file : List ℕ) (number rank : ℕ) → number ≡ (verdict_of file).0 → rank ≡ (verdict_of file).1 → Fair number rank
 single-fair file number rank e f = rw (e, f) (verdict-fair file)
 
+pub unwrapped : (r : Result ℕ Refusal) → result_unwrap_or r 0 ≡ given 0 r
+unwrapped (Ok k) = refl
+unwrapped (Err e) = refl
+
 pub adds-file : (sheet : Sheet) (files : ℕ) (file : List ℕ) (number rank : ℕ) (r : Sheet) → number ≡ (verdict_of file).0 → rank ≡ (verdict_of file).1
     → Adds sheet files number rank r → AddsFile sheet files file r
 adds-file sheet files file number rank r e f a rs is n = a rs is n ∙ ap₂ (λ (x y : ℕ). sheet_of (rs ++ (x, y) ∷ [])) e f
@@ -193,18 +199,3 @@ header-fits lot e =
     let b = refuse-done (ltb 1000 (word32 lot 0)) 15 0 last a.1 in
     let c = refuse-done (ltb (length lot) (4 + 4 * word32 lot 0)) 15 0 done b.1 in
     (ltb-false (length lot) 4 a.0, ltb-false 1000 (word32 lot 0) b.0, ltb-false (length lot) (4 + 4 * word32 lot 0) c.0)
-
-module _ (lot old : List ℕ) (r : Answer) (e : paper r ≡ lot_header lot) where
-  pub lot-refused : ((paper r).0 ≡ 0 → ⊥) → Lot lot old r old
-  lot-refused f =
-      record {
-        answer = e;
-        sheet-is = done-old (lot_header lot).0 (sheet_numbers (sheet_of (results lot))) old (λ h. f (ap (λ (x : Reply). x.0) e ∙ h));
-      }
-
-  pub lot-done : (lot_header lot).0 ≡ 0 → (s : Sheet) (new : List ℕ) → s ≡ sheet_of (results lot) → new ≡ sheet_numbers s → Lot lot old r new
-  lot-done d s new f g =
-      record {
-        answer = e;
-        sheet-is = g ∙ ap sheet_numbers f ∙ done-new (lot_header lot).0 (sheet_numbers (sheet_of (results lot))) old d;
-      }

@@ -5,8 +5,7 @@ use mathlib.Core.List.{List}
 use Prim.Native.Nat.{ℕ, ◌+◌, ◌*◌, ◌≤◌, ◌<◌}
 use native.Mathlib.Omega.{arith}
 use lib.ListN.{length, get_or}
-use Rattle.answers.specs.declared.Answer.{Answer}
-use Rattle.answers.specs.Paper.{Reply, paper}
+use Rattle.answers.specs.Paper.{Answer, Reply, paper}
 use Rattle.answers.proofs.PaperLaws.{done-new, done-old}
 use Rattle.answers.proofs.Theorems.{paper-one}
 use Rattle.cutfile.specs.Bytes.{word32}

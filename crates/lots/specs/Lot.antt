@@ -1,7 +1,6 @@
 -- A lot, for every list of bytes: its header, its files, their single results, and the sheet over these. Definitions only.
 use Rattle.std.specs.Prelude.{◌≡◌, List, [], ◌∷◌, ◌++◌, ℕ, zero, suc, ◌+◌, ◌*◌, ltb, length, take, drop}
-use Rattle.answers.specs.declared.Answer.{Answer}
-use Rattle.answers.specs.Paper.{Reply, paper, done, refuse, if_done}
+use Rattle.answers.specs.Paper.{Answer, Reply, paper, done, refuse, if_done}
 use Rattle.cutfile.specs.Bytes.{word32}
 use Rattle.lot_verdicts.specs.Verdict.{verdict_of}
 use Rattle.lot_tallies.specs.declared.Sheet.{Sheet}

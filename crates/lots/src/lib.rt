@@ -3,13 +3,13 @@
 // handed on.
 #![tactic(auto)]
 
-ghost use Rattle.std.specs.Prelude.{◌≡◌, ◌+◌, ◌-◌, ◌*◌, ◌<◌, ◌≤◌, min, length};
+ghost use Rattle.std.specs.Prelude.{◌≡◌, ◌+◌, ◌-◌, ◌*◌, ◌<◌, ◌≤◌, length};
 ghost use Rattle.answers.specs.Paper.{paper};
 ghost use Rattle.cutfile.specs.Bytes.{word32};
 ghost use Rattle.lot_tallies.specs.Tallies.{Tallied, sheet_of};
 ghost use Rattle.lots.specs.Lot.{lot_header, Read, AddsFile, results, Lot};
 
-use answers::Answer;
+use answers::Refusal;
 use lot_tallies::Sheet;
 
 // Inner: a number of the lot's header.
@@ -21,48 +21,26 @@ pub fn number_at(lot: &[u8], at: usize) -> usize
 }
 
 // Inner: what a lot is answered by: 16 where the count is over 1,000 or the header is cut short.
-pub fn check_lot(lot: &[u8]) -> Answer
+#[tactic(auto, unfolding(crate::specs::Lot::lot_header))]
+pub fn check_lot(lot: &[u8]) -> Result<(), Refusal>
     ensures { paper result ≡ lot_header lot.now }
 {
     if lot.len() < 4 {
-        return Answer::BrokenLot;
+        return Err(Refusal::BrokenLot);
     }
     let count = number_at(lot, 0);
-    if 1000 < count {
-        return Answer::BrokenLot;
+    if count > 1000 || lot.len() < 4 + 4 * count {
+        return Err(Refusal::BrokenLot);
     }
-    if lot.len() < 4 + 4 * count {
-        return Answer::BrokenLot;
-    }
-    Answer::Done
+    Ok(())
 }
 
-// How many bytes are read of a file of that size: as far as the lot goes, and no more than the room has.
-fn bytes_here(length: usize, from: usize, size: usize) -> usize
-    ensures { result ≡ min 8480 (min size (length - from)) }
-{
-    if length <= from {
-        return 0;
-    }
-    let left = length - from;
-    if 8480 < left {
-        if 8480 < size {
-            return 8480;
-        }
-        return size;
-    }
-    if left < size {
-        return left;
-    }
-    size
-}
-
-// The bytes of a file at the front of the room, and how many they are.
+// The bytes of a file at the front of the room, and how many they are: as far as the lot goes, and no more than the room has.
 fn read_file(lot: &[u8], from: usize, size: usize, room: &mut [u8]) -> usize
     requires { length room.old ≡ 8480 }
     ensures { Read lot.now from size result room.new }
 {
-    let many = bytes_here(lot.len(), from, size);
+    let many = size.min(lot.len().saturating_sub(from)).min(8480);
     for i in 0..many {
         room[i] = lot[from + i];
     }
@@ -76,7 +54,12 @@ pub fn add_file(sheet: Sheet, files: usize, file: &[u8]) -> Sheet
     ensures tallied { Tallied result (files + 1) }
 {
     let single = lot_verdicts::single_result(file);
-    lot_tallies::add(sheet, files, single.number, single.rank)
+    lot_tallies::add(
+        sheet,
+        files,
+        answers::number_of(&single).number,
+        single.unwrap_or(0),
+    )
 }
 
 // The sheet of all files of a lot whose header was answered 0.
@@ -98,15 +81,11 @@ fn tally(lot: &[u8], count: usize) -> Sheet
 
 // The sheet of a lot: how many files gave each answer from 0 to 10, how many kept each rank from 1 to 16, the smallest rank, its first
 // file, the largest rank, its first file, counted from 1, and the sum of the ranks. 16 leaves it as it was.
-pub fn lot_sheet(lot: &[u8], sheet: &mut [usize; 32]) -> Answer
+pub fn lot_sheet(lot: &[u8], sheet: &mut [usize; 32]) -> Result<(), Refusal>
     ensures { Lot lot.now sheet.old result sheet.new }
 {
-    let answer = check_lot(lot);
-    let Answer::Done = answer else {
-        return answer;
-    };
+    check_lot(lot)?;
     let count = number_at(lot, 0);
-    let end = tally(lot, count);
-    lot_tallies::put_sheet(end, sheet);
-    answer
+    lot_tallies::put_sheet(tally(lot, count), sheet);
+    Ok(())
 }

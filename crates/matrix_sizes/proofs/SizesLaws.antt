@@ -5,7 +5,7 @@ use Prim.Native.Nat.{ℕ, zero, suc, ◌*◌, ◌≤◌, ◌<◌}
 use native.Mathlib.Nat.{mul-le-mul, mul-le-mul_left, mul-le-mul_right, le-mul_of_pos_right}
 use native.Mathlib.Omega.{arith}
 use lib.Dec.{leb, ltb}
-use borrow.Author.Tests.{lt-ltb, le-ltb, le-leb, lt-leb, ltb-true, ltb-false, leb-true, not-false}
+use borrow.Author.Tests.{lt-ltb, le-ltb, ltb-true, ltb-false, leb-true, not-false}
 use Rattle.answers.specs.Paper.{done, refuse}
 use Rattle.answers.proofs.PaperLaws.{refuse-done, refuse-small}
 use Rattle.matrix_sizes.specs.Sizes.{side_of, rows_of, matrix_sizes, MatrixSized}
@@ -46,34 +46,6 @@ side-cells m n k e =
     (mul-le-mul_left m b, mul-le-mul_right n a, omega (arith, square-has k))
 
 -- ---- 1
-
--- a size above 4096 leaves no room for the other
-pub too_many : (m n : ℕ) → 1 ≤ m → 1 ≤ n → 4096 < m → 4096 < m * n
-too_many m n a b h =
-    let p : 4097 * 1 ≤ m * n = mul-le-mul h b in
-    omega arith
-
-pub too-many' : (m n : ℕ) → 1 ≤ m → 1 ≤ n → 4096 < n → 4096 < m * n
-too-many' m n a b h =
-    let p : 1 * 4097 ≤ m * n = mul-le-mul a h in
-    omega arith
-
--- a size below 1 is refused, and so is a product above 4096
-pub size-rows : (m n : ℕ) → m < 1 → (1, 0) ≡ matrix_sizes m n
-unfolding matrix_sizes
-size-rows m n h = rw (lt-leb 1 m h)
-
-pub size-columns : (m n : ℕ) → 1 ≤ m → n < 1 → (1, 0) ≡ matrix_sizes m n
-unfolding matrix_sizes
-size-columns m n a h = rw (le-leb 1 m a, lt-leb 1 n h)
-
-pub size-cells : (m n : ℕ) → 1 ≤ m → 1 ≤ n → 4096 < m * n → (1, 0) ≡ matrix_sizes m n
-unfolding matrix_sizes
-size-cells m n a b h = rw (le-leb 1 m a, le-leb 1 n b, lt-ltb 4096 (m * n) h)
-
-pub size-good : (m n : ℕ) → 1 ≤ m → 1 ≤ n → m * n ≤ 4096 → done ≡ matrix_sizes m n
-unfolding matrix_sizes
-size-good m n a b h = rw (le-leb 1 m a, le-leb 1 n b, le-ltb 4096 (m * n) h)
 
 pub size-done : (m n : ℕ) → (matrix_sizes m n).0 ≡ 0 → MatrixSized m n
 unfolding matrix_sizes

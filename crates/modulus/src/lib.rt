@@ -21,12 +21,6 @@ fn size_bits(x: f64) -> u64
     f64::to_bits(x) % 0x8000_0000_0000_0000
 }
 
-fn larger(a: u64, b: u64) -> u64
-    ensures { result ≡ max a b }
-{
-    if a < b { b } else { a }
-}
-
 // 2^(1023 - f). The one such power that has no full exponent is 2^-1023.
 fn power_under(f: u64) -> f64
     requires { (1 ≤ f) × (f ≤ 2046) }
@@ -57,10 +51,7 @@ fn root_of_squares(a: f64, b: f64, t: f64) -> f64
 fn same(x: f64, y: f64) -> bool
     ensures { result ≡ true → x ≡ y }
 {
-    if x != x {
-        return false;
-    }
-    if y != y {
+    if x != x || y != y {
         return false;
     }
     f64::to_bits(x) == f64::to_bits(y)
@@ -72,10 +63,8 @@ fn scaled_back(a: f64, b: f64, g: f64, p: f64, t: f64) -> f64
     ensures { result ≡ mul binary64 (root_of_squares a b) p }
 {
     let x = a * a + b * b;
-    if root_guesses::is_root(x, g) {
-        if same(g * p, t) {
-            return t;
-        }
+    if root_guesses::is_root(x, g) && same(g * p, t) {
+        return t;
     }
     root_guesses::root_near(x, g) * p
 }
@@ -102,7 +91,7 @@ fn faint(re: f64, im: f64, m: u64) -> f64
     requires { (0 < m) × (m < 2 ^ 52) × (is_finite re ≡ true) × (is_finite im ≡ true) × (units_of re < 2 ^ 52) × (units_of im < 2 ^ 52) }
     ensures { result ≡ scaled_by (leading m) re im }
 {
-    let z = u64::leading_zeros(m) as u64;
+    let z = u64::from(m.leading_zeros());
     root_of_squares(faint_part(re, z), faint_part(im, z), 1.0) * f64::from_bits(1u64 << (63 - z))
 }
 
@@ -111,7 +100,7 @@ fn scaled(re: f64, im: f64, t: f64) -> f64
     requires { (is_finite re ≡ true) × (is_finite im ≡ true) }
     ensures { result ≡ scaled_modulus (max (units_of re) (units_of im)) re im }
 {
-    let m = larger(size_bits(re), size_bits(im));
+    let m = size_bits(re).max(size_bits(im));
     if m < 0x10_0000_0000_0000 {
         if m == 0 {
             return 0.0;
@@ -125,10 +114,7 @@ fn scaled(re: f64, im: f64, t: f64) -> f64
 fn both_finite(z: Complex) -> bool
     ensures { result ≡ is_finite z.re && is_finite z.im }
 {
-    if numbers::is_finite(z.re) {
-        return numbers::is_finite(z.im);
-    }
-    false
+    numbers::is_finite(z.re) && numbers::is_finite(z.im)
 }
 
 // Inner: the modulus of z, for which t, a guess at the root of norm_sqr, decides the time and never the result.

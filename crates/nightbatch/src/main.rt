@@ -7,25 +7,10 @@ ghost use Rattle.std.specs.Prelude.{◌≡◌, ◌+◌, ◌*◌, ◌<◌, ◌≤
 ghost use Rattle.io.specs.Counts.{IsPrefixLen};
 ghost use Rattle.lot_tallies.specs.Tallies.{Tallied};
 
-use answers::Answer;
 use lot_tallies::Sheet;
 use std::fs;
 use std::io::{Read, Seek, SeekFrom, empty};
 use std::rt::Files;
-
-// How many bytes of a file of that size the room takes.
-fn room_for(size: usize) -> usize
-    ensures { result ≤ 8480 }
-{
-    if size < 8480 {
-        return size;
-    }
-    8480
-}
-
-fn place(from: usize) -> SeekFrom {
-    SeekFrom::Start(from as u64)
-}
 
 // The front of the file at a place of the lot, and how many bytes of it there are.
 fn read_at<F: Read + Seek>(lot: &mut F, from: SeekFrom, size: usize, room: &mut [u8]) -> usize
@@ -35,8 +20,7 @@ fn read_at<F: Read + Seek>(lot: &mut F, from: SeekFrom, size: usize, room: &mut 
     if lot.seek(from).is_err() {
         return 0;
     }
-    let most = room_for(size);
-    inputs::read_full(lot, &mut room[..most])
+    inputs::read_full(lot, &mut room[..size.min(8480)])
 }
 
 // The sheet of the files whose lengths the header has.
@@ -49,8 +33,7 @@ fn tally<F: Read + Seek>(lot: &mut F, head: &[u8], count: usize) -> Sheet
     let mut from = 4 + 4 * count;
     for i in 0..count {
         let size = lots::number_at(head, 4 + 4 * i);
-        let at = place(from);
-        let got = read_at(lot, at, size, &mut room);
+        let got = read_at(lot, SeekFrom::Start(from as u64), size, &mut room);
         sheet = lots::add_file(sheet, i, &room[..got]);
         from += size;
     }
@@ -62,22 +45,16 @@ fn put_lot<F: Read + Seek>(lot: &mut F, head: &[u8], text: &mut [u8]) -> usize
     requires { length text.old ≡ 2048 }
     ensures { IsPrefixLen result text.new }
 {
-    let answer = lots::check_lot(head);
-    let Answer::Done = answer else {
-        return lines::put_refused(text, answer);
-    };
-    let count = lots::number_at(head, 0);
-    let sheet = tally(lot, head, count);
-    let mut numbers = [0usize; 32];
-    lot_tallies::put_sheet(sheet, &mut numbers);
-    lot_lines::put_lines(text, count, &numbers)
-}
-
-// The lot's first bytes.
-fn read_head<F: Read>(lot: &mut F, head: &mut [u8]) -> usize
-    ensures { IsPrefixLen result head.new }
-{
-    inputs::read_full(lot, head)
+    match lots::check_lot(head) {
+        Ok(()) => {
+            let count = lots::number_at(head, 0);
+            let sheet = tally(lot, head, count);
+            let mut numbers = [0usize; 32];
+            lot_tallies::put_sheet(sheet, &mut numbers);
+            lot_lines::put_lines(text, count, &numbers)
+        }
+        Err(refusal) => lines::put_refused(text, Err(refusal)),
+    }
 }
 
 // Reads the lot, puts what is written of it, and answers its length.
@@ -86,7 +63,7 @@ fn put_whole<F: Read + Seek>(lot: &mut F, text: &mut [u8]) -> usize
     ensures { IsPrefixLen result text.new }
 {
     let mut head = [0u8; 4004];
-    let got = read_head(lot, &mut head);
+    let got = inputs::read_full(lot, &mut head);
     put_lot(lot, &head[..got], text)
 }
 

@@ -8,7 +8,7 @@ use lib.Dec.{T, leb}
 use lib.Ieee.{Float, nan, inf, fin, binary64, up, down, fits, is_nan, ne, eq, lt, neg, to_bits}
 use lib.Ieee.Compare.{differs_from_itself}
 use Rattle.numbers.specs.Numbers.{minus_sign, magnitude_of, sign_of, is_finite, total_less, total_order, one_float}
-use Rattle.numbers.specs.declared.Order.TheVariants.{Less, Equal, Greater}
+use Rattle.std.proofs.Common.{Less, Equal, Greater}
 use Rattle.numbers.proofs.Cases.{minus-bits, plus-bits}
 
 -- the sign stands in the pattern's top bit
@@ -23,9 +23,9 @@ sign_bit (fin false m e) f h = lt-leb (2 ^ 63) (to_bits binary64 (fin false m e)
 is-nan : (x : Float) → ne x x ≡ true → x ≡ nan
 is-nan x h = differs_from_itself x (subst T (sym h) tt)
 
-pub nan-no-sign : (x : Float) → ne x x ≡ true → false ≡ minus_sign x
-unfolding minus_sign
-nan-no-sign x h = rw (is-nan x h)
+pub nan-no-sign : (x : Float) → eq x x ≡ false → eq x x ≡ minus_sign x
+unfolding ne minus_sign
+nan-no-sign x h = rw (is-nan x (ap not h))
 
 pub cleared : (x : Float) → minus_sign x ≡ true → neg x ≡ magnitude_of x
 unfolding minus_sign neg magnitude_of
@@ -78,6 +78,9 @@ same_self (inf true) = refl
 same_self (inf false) = refl
 same_self (fin true m e) = rw (eq-eqb (m * up e * down e) (m * up e * down e) refl)
 same_self (fin false m e) = rw (eq-eqb (m * up e * down e) (m * up e * down e) refl)
+
+pub number : (x : Float) → eq x x ≡ true → T (not (is_nan x))
+number x h = subst T (sym (sym (same_self x) ∙ h)) tt
 
 not-not : (b : Bool) → not (not b) ≡ b
 not-not true = refl

@@ -47,12 +47,6 @@ not-down w q = (2 ^ 63 + w + q - (2 ^ 54 + 1)) / 2 ^ 63
 abbrev pub step : ℕ → ℕ → ℕ
 step w q = q + is_up w q + not-down w q - 1
 
-pub up-most : (w q : ℕ) → q < 2 ^ 53 → w ≤ 2 ^ 54 + 3 * q → is_up w q ≤ 1
-up-most w q m h = omega arith
-
-pub not-down-most : (w q : ℕ) → q < 2 ^ 53 → w ≤ 2 ^ 54 + 3 * q → not-down w q ≤ 1
-not-down-most w q m h = omega arith
-
 plus_one : (q a b : ℕ) → a ≡ 1 → b ≡ 1 → q + a + b - 1 ≡ q + 1
 plus_one q a b e f = omega arith
 

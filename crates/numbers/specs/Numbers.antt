@@ -1,9 +1,9 @@
 -- The number helpers of 01, for every float: NaN, both zeros and both infinities included. Definitions only.
 use Rattle.std.specs.Prelude.{Bool, true, false, not, ◌&&◌, ◌||◌, cond, ℕ, ◌*◌, ◌^◌, leb, Float}
+use Rattle.std.specs.declared.cmp.Ordering.{Ordering}
+use Rattle.std.specs.declared.cmp.Ordering.TheVariants.{Less, Equal, Greater}
 use Rattle.std.specs.Float.{nan, inf, fin, binary64}
 use Rattle.std.specs.Float.Ieee.{up, down, neg, lt, eq, is_nan, of_bits}
-use Rattle.numbers.specs.declared.Order.{Order}
-use Rattle.numbers.specs.declared.Order.TheVariants.{Less, Equal, Greater}
 
 -- a minus sign, that of -0 too; a NaN has none
 unfoldable pub minus_sign : Float → Bool
@@ -42,12 +42,12 @@ unfoldable pub total_less : Float → Float → Bool
 unfolding minus_sign
 total_less x y = cond (is_nan y) (not (is_nan x)) (lt x y || (eq x y && (minus_sign x && not (minus_sign y))))
 
-unfoldable pub total_order : Float → Float → Order
+unfoldable pub total_order : Float → Float → Ordering
 unfolding total_less
 total_order x y = cond (total_less x y) Less (cond (total_less y x) Greater Equal)
 
 -- the number of each case, as exported
-abbrev pub order_number : Order → ℕ
+abbrev pub order_number : Ordering → ℕ
 order_number Less = 0
 order_number Equal = 1
 order_number Greater = 2

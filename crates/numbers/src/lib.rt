@@ -2,12 +2,14 @@
 // whole numbers; magnitude, sign, finite test, total order, and the test of an allowed component.
 #![tactic(auto)]
 
-ghost use Rattle.std.specs.Prelude.{◌≡◌, ◌+◌, ◌-◌, ◌*◌, ◌^◌, ◌≤◌, ◌<◌};
+ghost use Rattle.std.specs.Prelude.{◌≡◌, ◌+◌, ◌-◌, ◌*◌, ◌^◌, ◌≤◌, ◌<◌, IfSome};
 ghost use Rattle.std.specs.Float.{nan, binary64};
 ghost use Rattle.std.specs.Float.Ieee.{to_bits, of_bits};
 ghost use Rattle.numbers.specs.Root.{Sqrt, sqrt_of};
 ghost use Rattle.numbers.specs.Numbers.{larger_of, minus_sign, magnitude_of, sign_of, is_finite, total_less, total_order, order_number, allowed};
 ghost use Rattle.numbers.specs.Steps.{NearestWhole, Scaled, RootBits, normal_size};
+
+use std::cmp::Ordering;
 
 // The square root of x: ±0 and +inf give themselves, a negative x and a NaN give the NaN, and any
 // other x the float nearest to its root.
@@ -25,10 +27,7 @@ pub fn sqrt(x: f64) -> f64
         }
         return f64::from_bits(root_bits(b));
     }
-    if b == 0x7ff0_0000_0000_0000 {
-        return x;
-    }
-    if b == 0x8000_0000_0000_0000 {
+    if b == 0x7ff0_0000_0000_0000 || b == 0x8000_0000_0000_0000 {
         return x;
     }
     not_a_number()
@@ -45,10 +44,7 @@ pub fn sqrt_bits(b: u64) -> u64
         }
         return root_bits(b);
     }
-    if b == 0x7ff0_0000_0000_0000 {
-        return b;
-    }
-    if b == 0x8000_0000_0000_0000 {
+    if b == 0x7ff0_0000_0000_0000 || b == 0x8000_0000_0000_0000 {
         return b;
     }
     0x7ff8_0000_0000_0000
@@ -68,7 +64,7 @@ fn root_bits(b: u64) -> u64
     ensures { (b < 2 ^ 52 → RootBits b result) × (2 ^ 52 ≤ b → RootBits (normal_size b) result) }
 {
     if b < 0x10_0000_0000_0000 {
-        let z = u64::leading_zeros(b) as u64 - 11;
+        let z = u64::from(b.leading_zeros()) - 11;
         return scaled_root(b << z, 52 - z);
     }
     scaled_root(
@@ -96,8 +92,7 @@ fn nearest_root(n: u64, v: u64) -> u64
     requires { (2 ^ 52 ≤ n) × (n < 2 ^ 54 - 1) × (v < 1025 * 2 ^ 52) }
     ensures { NearestWhole (n * 2 ^ 52) result }
 {
-    let q = mended(n, guess(v));
-    if q != 0 {
+    if let Some(q) = mended(n, guess(v)) {
         return q;
     }
     slow_root(n)
@@ -124,47 +119,44 @@ fn guess(b: u64) -> u64
 }
 
 // The guess q, or the number above or below it, if that is the whole number nearest to the root of
-// n * 2^52, and otherwise 0. With q = h * 2^26 + l, w is n * 2^52 - q * q + 2^54. The last lines go
+// n * 2^52. With q = h * 2^26 + l, w is n * 2^52 - q * q + 2^54. The last lines go
 // without a branch, which would be hard to foretell.
-fn mended(n: u64, q: u64) -> u64
+fn mended(n: u64, q: u64) -> Option<u64>
     requires { (2 ^ 52 ≤ n) × (n < 2 ^ 54 - 1) × (2 ^ 52 ≤ q) × (q < 2 ^ 53) }
-    ensures { (result ≡ 0 → ⊥) → NearestWhole (n * 2 ^ 52) result }
+    ensures { IfSome result (NearestWhole (n * 2 ^ 52)) }
 {
     let h = q / 0x400_0000;
     let l = q % 0x400_0000;
     let hh = h * h;
     if n + 4 < hh {
-        return 0;
+        return None;
     }
     let d = n + 4 - hh;
     if d > 0x3f_ffff_ffff {
-        return 0;
+        return None;
     }
     let hl = h * l;
     let dd = d * 0x200_0000;
     if dd < hl {
-        return 0;
+        return None;
     }
     let e = dd - hl;
     if e > 0xf_ffff_ffff {
-        return 0;
+        return None;
     }
     let ll = l * l;
     let c = e * 0x800_0000;
     if c < ll {
-        return 0;
+        return None;
     }
     let w = c - ll;
-    if w > 0x40_0000_0000_0000 + 3 * q {
-        return 0;
-    }
-    if w + 3 * q <= 0x40_0000_0000_0002 {
-        return 0;
+    if w > 0x40_0000_0000_0000 + 3 * q || w + 3 * q <= 0x40_0000_0000_0002 {
+        return None;
     }
     // 1 where w is above 2^54 + q, and 0 where w + q is at most 2^54
     let up = (0x8000_0000_0000_0000 + w - (0x40_0000_0000_0001 + q)) / 0x8000_0000_0000_0000;
     let not_down = (0x8000_0000_0000_0000 + w + q - 0x40_0000_0000_0001) / 0x8000_0000_0000_0000;
-    q + up + not_down - 1
+    Some(q + up + not_down - 1)
 }
 
 // The whole number nearest to the root of n * 2^52, one binary digit after another, as by hand: s is
@@ -177,8 +169,7 @@ fn slow_root(n: u64) -> u64
     let mut w = n << 10;
     let mut s = 0u64;
     let mut r = 0u64;
-    let mut i = 0u64;
-    while i < 53 {
+    for _ in 0..53u64 {
         let t = s * 4 + 1;
         let d = r * 4 + (w >> 62);
         w = w << 2;
@@ -189,7 +180,6 @@ fn slow_root(n: u64) -> u64
             r = d;
             s = s * 2;
         }
-        i += 1;
     }
     if s < r {
         return s + 1;
@@ -201,10 +191,7 @@ fn slow_root(n: u64) -> u64
 pub fn minus_sign(x: f64) -> bool
     ensures { result ≡ minus_sign x }
 {
-    if x != x {
-        return false;
-    }
-    0x8000_0000_0000_0000 <= f64::to_bits(x)
+    x == x && 0x8000_0000_0000_0000 <= f64::to_bits(x)
 }
 
 // x with its sign cleared, that of -0 too. A NaN gives itself.
@@ -239,14 +226,7 @@ pub fn is_finite(x: f64) -> bool
     ensures { result ≡ is_finite x }
 {
     let infinity = f64::from_bits(0x7ff0_0000_0000_0000);
-    if x < infinity { -infinity < x } else { false }
-}
-
-#[derive(Clone, Copy)]
-pub enum Order {
-    Less,
-    Equal,
-    Greater,
+    x < infinity && -infinity < x
 }
 
 // Whether x stands below y in the total order, in which -0 is below +0 and the NaN above all else.
@@ -259,33 +239,30 @@ pub fn total_less(x: f64, y: f64) -> bool
     if x < y {
         return true;
     }
-    if x == y {
-        return if minus_sign(x) { !minus_sign(y) } else { false };
-    }
-    false
+    x == y && minus_sign(x) && !minus_sign(y)
 }
 
 // How x stands to y in the total order.
-pub fn total_order(x: f64, y: f64) -> Order
+pub fn total_order(x: f64, y: f64) -> Ordering
     ensures { result ≡ total_order x y }
 {
     if total_less(x, y) {
-        return Order::Less;
+        return Ordering::Less;
     }
     if total_less(y, x) {
-        return Order::Greater;
+        return Ordering::Greater;
     }
-    Order::Equal
+    Ordering::Equal
 }
 
 // The number of an order: 0 below, 1 equal, 2 above.
-pub fn order_number(o: Order) -> u32
+pub fn order_number(o: Ordering) -> u32
     ensures { result ≡ order_number o }
 {
     match o {
-        Order::Less => 0,
-        Order::Equal => 1,
-        Order::Greater => 2,
+        Ordering::Less => 0,
+        Ordering::Equal => 1,
+        Ordering::Greater => 2,
     }
 }
 
@@ -293,9 +270,6 @@ pub fn order_number(o: Order) -> u32
 pub fn component_allowed(x: f64) -> bool
     ensures { result ≡ allowed x }
 {
-    if x <= 1606938044258990275541962092341162602522202993782792835301376.0 {
-        -1606938044258990275541962092341162602522202993782792835301376.0 <= x
-    } else {
-        false
-    }
+    let most = 1606938044258990275541962092341162602522202993782792835301376.0;
+    x <= most && -most <= x
 }

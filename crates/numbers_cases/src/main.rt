@@ -8,106 +8,72 @@
 #![tactic(auto)]
 
 use complex::Complex;
-use std::io::Result;
+use std::io;
 
-fn print_complex(rt: &impl Print, z: Complex) -> Result<()> {
-    replay::print_word(rt, bits::bits_of(z.re))?;
-    replay::print_word(rt, bits::bits_of(z.im))
+fn print_complex(rt: &impl Print, z: Complex) -> io::Result<()> {
+    replay::print_number(rt, z.re)?;
+    replay::print_number(rt, z.im)
 }
 
-fn roots(rt: &impl Print, text: &[u8], at: usize) -> Result<usize> {
-    let word = replay::next_word(text, at);
-    replay::print_word(rt, numbers::sqrt_bits(word.value))?;
-    let marked = exact_roots::sqrt_marked(replay::float_of(word.value));
-    replay::print_word(rt, bits::bits_of(marked.root))?;
+fn roots(rt: &impl Print, text: &[u8], at: usize) -> io::Result<usize> {
+    replay::print_word(rt, numbers::sqrt_bits(replay::word_at(text, at)))?;
+    let marked = exact_roots::sqrt_marked(replay::float_at(text, at));
+    replay::print_number(rt, marked.root)?;
     replay::print_yes(rt, marked.exact)?;
-    Ok(word.next)
+    Ok(replay::past(text, at))
 }
 
-fn helpers(rt: &impl Print, text: &[u8], at: usize) -> Result<usize> {
-    let word = replay::next_word(text, at);
-    let x = replay::float_of(word.value);
-    replay::print_word(rt, bits::bits_of(numbers::magnitude(x)))?;
-    replay::print_word(rt, bits::bits_of(numbers::sign(x)))?;
+fn helpers(rt: &impl Print, text: &[u8], at: usize) -> io::Result<usize> {
+    let x = replay::float_at(text, at);
+    replay::print_number(rt, numbers::magnitude(x))?;
+    replay::print_number(rt, numbers::sign(x))?;
     replay::print_yes(rt, numbers::is_finite(x))?;
     replay::print_yes(rt, numbers::component_allowed(x))?;
-    Ok(word.next)
+    Ok(replay::past(text, at))
 }
 
-fn order(rt: &impl Print, text: &[u8], at: usize) -> Result<usize> {
-    let first = replay::next_word(text, at);
-    let second = replay::next_word(text, first.next);
-    let o = numbers::total_order(
-        replay::float_of(first.value),
-        replay::float_of(second.value),
-    );
-    replay::print_word(rt, wide(numbers::order_number(o)))?;
-    Ok(second.next)
-}
-
-fn wide(x: u32) -> u64 {
-    x as u64
+fn order(rt: &impl Print, text: &[u8], at: usize) -> io::Result<usize> {
+    let second = replay::past(text, at);
+    let order = numbers::total_order(replay::float_at(text, at), replay::float_at(text, second));
+    replay::print_number(rt, numbers::order_number(order))?;
+    Ok(replay::past(text, second))
 }
 
 fn cell(text: &[u8], at: usize) -> Complex {
-    let re = replay::next_word(text, at);
-    let im = replay::next_word(text, re.next);
     Complex {
-        re: replay::float_of(re.value),
-        im: replay::float_of(im.value),
+        re: replay::float_at(text, at),
+        im: replay::float_at(text, replay::past(text, at)),
     }
 }
 
-fn past(text: &[u8], at: usize) -> usize {
-    let re = replay::next_word(text, at);
-    let im = replay::next_word(text, re.next);
-    im.next
-}
-
-fn arithmetic(rt: &impl Print, text: &[u8], at: usize) -> Result<usize> {
+fn arithmetic(rt: &impl Print, text: &[u8], at: usize) -> io::Result<usize> {
+    let next = replay::skip(text, at, 2);
     let a = cell(text, at);
-    let next = past(text, at);
     let b = cell(text, next);
     print_complex(rt, a.mul(b))?;
     print_complex(rt, a.add(b))?;
     print_complex(rt, a.sub(b))?;
     print_complex(rt, a.neg())?;
     print_complex(rt, a.conj())?;
-    replay::print_word(rt, bits::bits_of(a.norm_sqr()))?;
-    replay::print_word(rt, bits::bits_of(modulus::modulus(a)))?;
+    replay::print_number(rt, a.norm_sqr())?;
+    replay::print_number(rt, modulus::modulus(a))?;
     print_complex(rt, a.scale(b.re))?;
     print_complex(rt, a.div_real(b.re))?;
-    Ok(past(text, next))
+    Ok(replay::skip(text, next, 2))
 }
 
-fn case(rt: &impl Print, text: &[u8], at: usize, kind: u64) -> Result<usize> {
-    if kind == 1 {
-        return roots(rt, text, at);
+fn case(rt: &impl Print, text: &[u8], kind: u64, at: usize) -> io::Result<usize> {
+    match kind {
+        1 => roots(rt, text, at),
+        2 => helpers(rt, text, at),
+        3 => order(rt, text, at),
+        _ => arithmetic(rt, text, at),
     }
-    if kind == 2 {
-        return helpers(rt, text, at);
-    }
-    if kind == 3 {
-        return order(rt, text, at);
-    }
-    arithmetic(rt, text, at)
 }
 
-fn run(rt: &impl Print, text: &[u8]) -> Result<()> {
-    let mut at = 0;
-    for _ in 0..10000usize {
-        let kind = replay::next_word(text, at);
-        if !kind.found {
-            return Ok(());
-        }
-        at = case(rt, text, kind.next, kind.value)?;
-        replay::end_line(rt)?;
-    }
-    Ok(())
-}
-
-fn main(rt: HostRuntime) -> Result<()> {
+fn main(rt: HostRuntime) -> io::Result<()> {
     let mut text = [0u8; 262144];
     let n = inputs::read_full(&mut rt.reader(), &mut text);
-    run(&rt, &text[..n])
+    let text = &text[..n];
+    replay::run(&rt, text, |kind, at| case(&rt, text, kind, at))
 }

@@ -13,7 +13,7 @@ use lib.ListN.{length, length-append}
 use Rattle.complex.specs.declared.Complex.{Complex}
 use Rattle.complex.specs.Cells.{cell_at}
 use Rattle.texts.specs.Text.{Puts, places, decimal, item_text}
-use Rattle.texts.proofs.TextLaws.{puts_none, puts_then, puts-as, length-puts, length_digits}
+use Rattle.texts.proofs.TextLaws.{puts_none, puts_then, puts-as, length_digits}
 use Rattle.lines.specs.Lines.{blank}
 use Rattle.page_lines.specs.PageLines.{hex_item, bits_line}
 use Rattle.page_lines.proofs.PageLineLaws.{length-hex-item, length-bits}
@@ -81,12 +81,6 @@ unfolding cell_lines
 cells-none w dim s at d = puts_none at d
 
 module _ (w : List ℕ) (dim : ℕ) (s : List Float) (at : ℕ) (old : List ℕ) (is : Lined w dim s at (length old)) where
-  -- inside the loop: the room, and what is left of it
-  pub cells-room : (m r : ℕ) (out : List ℕ) → m ≤ dim * dim → Puts at (cell_lines w dim m s) old r out → (length out ≡ length old) × (r ≤ at + 48 * m)
-  cells-room m r out h p =
-      let l = length-cells w dim s is.short is.some is.small m h in
-      (length-puts at r (cell_lines w dim m s) old out (omega (arith, is.fits)) p, omega (arith, p.next))
-
   pub cells-step : (m r t a b : ℕ) (z : Complex) (mid new : List ℕ) → m < dim * dim → z ≡ cell_at s m → a ≡ to_bits binary64 z.re → b ≡ to_bits binary64 z.im
       → Puts at (cell_lines w dim m s) old r mid → Puts r (cell_line w (m / dim) (m % dim) a b) mid t new → Puts at (cell_lines w dim (m + 1) s) old t new
   unfolding cell_lines

@@ -30,15 +30,12 @@ pub fn put_cells(out: &mut [u8], at: usize, word: &[u8], cells: &[f64], dim: usi
     requires { Lined word.now dim cells.now at (length out.old) }
     ensures { Puts at (cell_lines word.now dim (dim * dim) cells.now) out.old result out.new }
 {
-    let count = dim * dim;
     let mut next = at;
-    let mut k = 0;
-    while k < count {
+    for k in 0..dim * dim {
         let z = complex::read_cell(cells, k);
         let re = bits::bits_of(z.re);
         let im = bits::bits_of(z.im);
         next = put_cell(out, next, word, k / dim, k % dim, re, im);
-        k += 1;
     }
     next
 }

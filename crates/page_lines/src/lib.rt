@@ -7,7 +7,7 @@ ghost use Rattle.answers.specs.Paper.{paper};
 ghost use Rattle.texts.specs.Text.{Puts};
 ghost use Rattle.page_lines.specs.PageLines.{hex_item, bits_line, said_line, list_line, reply_line};
 
-use answers::Answer;
+use answers::Refusal;
 
 // Puts a word and sixteen hexadecimal digits.
 pub fn put_hex_item(out: &mut [u8], at: usize, word: &[u8], bits: u64) -> usize
@@ -46,11 +46,12 @@ pub fn put_list(out: &mut [u8], at: usize, list: &[usize]) -> usize
     texts::put_text(out, last, b"\n")
 }
 
-// Puts a line of a word and an answer's number and place.
-pub fn put_reply(out: &mut [u8], at: usize, word: &[u8], answer: Answer) -> usize
+// Puts a line of a word and a refusal's number and place.
+#[tactic(auto, unfolding(crate::specs::PageLines::reply_line))]
+pub fn put_reply(out: &mut [u8], at: usize, word: &[u8], answer: Result<(), Refusal>) -> usize
     requires { at + length word.now + 42 ≤ length out.old }
     ensures { Puts at (reply_line word.now (paper answer)) out.old result out.new }
 {
-    let reply = answers::number_of(answer);
+    let reply = answers::number_of(&answer);
     texts::put_pair_line(out, at, word, reply.number, reply.place)
 }

@@ -6,15 +6,17 @@ use Prim.Native.Nat.{ℕ, zero, suc, ◌+◌, ◌*◌, ◌≤◌}
 use native.Mathlib.Nat.{mul-le-mul}
 use native.Mathlib.Omega.{arith}
 use lib.Ieee.{Float, binary64, to_bits}
+use Rattle.std.specs.Prelude.{Ok, Err}
 use lib.ListN.{length, length-append}
-use Rattle.answers.specs.declared.Answer.{Answer}
-use Rattle.answers.specs.Paper.{Reply, paper, if_done}
+use Rattle.answers.specs.declared.Refusal.{Refusal}
+use Rattle.answers.specs.Paper.{Answer, Reply, paper, table, if_done}
+use Rattle.answers.proofs.Stopped.{stopped-number, was-done}
 use Rattle.answers.proofs.PaperLaws.{done-new, done-old}
 use Rattle.densities.specs.Square.{InPlace}
 use Rattle.density_entries.specs.Squares.{Square}
 use Rattle.density_trace.specs.Trace.{trace_of, normalize_answer, normalized}
 use Rattle.texts.specs.Text.{Puts}
-use Rattle.texts.proofs.TextLaws.{puts_none, puts-as}
+use Rattle.texts.proofs.TextLaws.{puts-as}
 use Rattle.page_lines.specs.PageLines.{bits_line, said_line, reply_line}
 use Rattle.page_lines.proofs.PageLineLaws.{length-bits, length-said, length-reply}
 use Rattle.page_cells.specs.PageCells.{cell_lines, Lined}
@@ -83,18 +85,19 @@ drawn-lined w dim s at next room long short is e h = record {
 -- ---- the scaled matrix
 
 module _ (rho : List Float) (dim : ℕ) (a : Answer) (end : List Float) (is : InPlace (normalize_answer rho dim) (normalized rho dim) rho a end) (at r : ℕ) (old new : List ℕ) where
-  pub scaled-refused : ((paper a).0 ≡ 0 → ⊥) → Puts at (reply_line scaled_refused_word (paper a)) old r new → Puts at (scaled_text rho dim) old r new
+  pub scaled-refused : (e : Refusal) → a ≡ Err e → Puts at (reply_line scaled_refused_word (table e)) old r new → Puts at (scaled_text rho dim) old r new
   unfolding scaled_text
-  scaled-refused h p =
+  scaled-refused e h p =
+      let said : table e ≡ normalize_answer rho dim = ap paper (sym h) ∙ is.answer in
       puts-as at r _ _ old new
-      (ap (reply_line scaled_refused_word) is.answer
+      (ap (reply_line scaled_refused_word) said
       ∙ done-old (normalize_answer rho dim).0 (cell_lines scaled_word dim (dim * dim) (normalized rho dim)) (reply_line scaled_refused_word (normalize_answer rho dim))
-      (λ z. h (ap (λ (x : Reply). x.0) is.answer ∙ z))) p
+      (λ z. stopped-number e (ap (λ (x : Reply). x.0) said ∙ z))) p
 
-  pub scaled-done : (paper a).0 ≡ 0 → Puts at (cell_lines scaled_word dim (dim * dim) end) old r new → Puts at (scaled_text rho dim) old r new
+  pub scaled-done : a ≡ Ok tt → Puts at (cell_lines scaled_word dim (dim * dim) end) old r new → Puts at (scaled_text rho dim) old r new
   unfolding scaled_text
-  scaled-done e p =
-      let z : (normalize_answer rho dim).0 ≡ 0 = sym (ap (λ (x : Reply). x.0) is.answer) ∙ e in
+  scaled-done h p =
+      let z : (normalize_answer rho dim).0 ≡ 0 = was-done a (normalize_answer rho dim) is.answer h in
       puts-as at r _ _ old new
       (ap (cell_lines scaled_word dim (dim * dim)) (is.matrix ∙ sym (done-new (normalize_answer rho dim).0 (normalized rho dim) rho z))
       ∙ done-new (normalize_answer rho dim).0 (cell_lines scaled_word dim (dim * dim) (normalized rho dim)) (reply_line scaled_refused_word (normalize_answer rho dim)) z) p
@@ -102,13 +105,3 @@ module _ (rho : List Float) (dim : ℕ) (a : Answer) (end : List Float) (is : In
 pub scaled-left : (rho : List Float) (dim : ℕ) (a : Answer) (end : List Float) → InPlace (normalize_answer rho dim) (normalized rho dim) rho a end → end ≡ scaled_at rho dim
 unfolding scaled_at
 scaled-left rho dim a end is = is.matrix
-
--- ---- the total of page one
-
-pub kept-yes : (b : Bool) (bits at r : ℕ) (old new : List ℕ) → b ≡ true → Puts at (bits_line kept_word bits) old r new → Puts at (kept_text b bits) old r new
-unfolding kept_text
-kept-yes b bits at r old new e p = puts-as at r _ _ old new (sym (ap (λ (x : Bool). kept_text x bits) e)) p
-
-pub kept-no : (b : Bool) (bits at : ℕ) (old : List ℕ) → b ≡ false → Puts at (kept_text b bits) old at old
-unfolding kept_text
-kept-no b bits at old e = puts-as at at _ _ old old (sym (ap (λ (x : Bool). kept_text x bits) e)) (puts_none at old)

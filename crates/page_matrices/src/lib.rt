@@ -7,8 +7,6 @@ ghost use Rattle.texts.specs.Text.{Puts};
 ghost use Rattle.page_cells.specs.PageCells.{Lined};
 ghost use Rattle.page_matrices.specs.Matrices.{cell_word, scaled_word, unscaled_text, kept_text, scaled_text, scaled_at, matrices_text, Drawn};
 
-use answers::Answer;
-
 // Puts the lines of the unscaled matrix and of its trace.
 pub fn put_unscaled(out: &mut [u8], at: usize, rho: &[f64], dim: usize) -> usize
     requires { Lined cell_word dim rho.now at (length out.old) }
@@ -20,14 +18,16 @@ pub fn put_unscaled(out: &mut [u8], at: usize, rho: &[f64], dim: usize) -> usize
 }
 
 // Puts the line of page one's total, or nothing.
+#[tactic(auto, using(texts::proofs::TextLaws::puts_none), unfolding(crate::specs::Matrices::kept_text))]
 pub fn put_kept(out: &mut [u8], at: usize, accepted: bool, bits: u64) -> usize
     requires { at + 22 ≤ length out.old }
     ensures { Puts at (kept_text accepted bits) out.old result out.new }
 {
     if accepted {
-        return page_lines::put_bits(out, at, b"kept ", bits);
+        page_lines::put_bits(out, at, b"kept ", bits)
+    } else {
+        at
     }
-    at
 }
 
 // Puts the lines of the scaled matrix, or of its refusal; the matrix is then as the call that scales it left it.
@@ -36,11 +36,10 @@ pub fn put_scaled(out: &mut [u8], at: usize, rho: &mut [f64], dim: usize) -> usi
     ensures puts { Puts at (scaled_text rho.old dim) out.old result out.new }
     ensures rho_after { rho.new ≡ scaled_at rho.old dim }
 {
-    let answer = density_trace::normalize_trace(rho, dim);
-    let Answer::Done = answer else {
-        return page_lines::put_reply(out, at, b"scaled refused ", answer);
-    };
-    page_cells::put_cells(out, at, b"scaled ", rho, dim)
+    match density_trace::normalize_trace(rho, dim) {
+        Ok(()) => page_cells::put_cells(out, at, b"scaled ", rho, dim),
+        Err(refusal) => page_lines::put_reply(out, at, b"scaled refused ", Err(refusal)),
+    }
 }
 
 // Puts all of them, in their order.

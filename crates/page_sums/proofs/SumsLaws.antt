@@ -9,8 +9,7 @@ use lib.Ieee.{Float}
 use lib.ListN.{length, take}
 use lib.Pow.{pow_mono}
 use lib.Seq.{length-take-le, drop-nil}
-use Rattle.answers.specs.declared.Answer.{Answer}
-use Rattle.answers.specs.Paper.{Reply, done, refuse, and_then}
+use Rattle.answers.specs.Paper.{Answer, Reply, done, refuse, and_then}
 use Rattle.answers.proofs.PaperLaws.{and_then-done, done-new}
 use Rattle.complex.specs.declared.Complex.{Complex}
 use Rattle.complex.specs.Cells.{cells_of, written, components}

@@ -12,10 +12,8 @@ pub fn summed(state: &[f64], n: usize, list: &[usize], density: &[f64]) -> bool
     ensures { result ≡ pages_same state.now n list.now }
 {
     let mut matrix = [0.0f64; 1024];
-    cuts::cut_matrix(state, n, list, 10, &mut matrix);
+    let _ = cuts::cut_matrix(state, n, list, 10, &mut matrix);
     let mut again = [0.0f64; 2048];
-    let components = state.len();
-    density_recount::sum_from_cut(&matrix[..components], n, list, &mut again);
-    let need = density.len();
-    pages::same_floats(density, &again[..need])
+    density_recount::sum_from_cut(&matrix[..state.len()], n, list, &mut again);
+    pages::same_floats(density, &again[..density.len()])
 }

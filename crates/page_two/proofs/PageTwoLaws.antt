@@ -9,8 +9,10 @@ use lib.Dec.{ltb}
 use lib.Ieee.{Float}
 use lib.ListN.{length, take, length-append}
 use lib.Pow.{pow_mono}
-use Rattle.answers.specs.declared.Answer.{Answer}
-use Rattle.answers.specs.Paper.{Reply, paper, done, refuse, and_then, if_done}
+use Rattle.std.specs.Prelude.{Ok, Err}
+use Rattle.answers.specs.declared.Refusal.{Refusal}
+use Rattle.answers.specs.Paper.{Answer, Reply, paper, table, done, refuse, and_then, if_done}
+use Rattle.answers.proofs.Stopped.{stopped-number, was-done}
 use Rattle.answers.proofs.PaperLaws.{refuse-done, and_then-done, done-new, done-old}
 use Rattle.complex.specs.Cells.{components}
 use Rattle.qubits.specs.Lists.{density_sizes, qubit_set}
@@ -25,6 +27,7 @@ use Rattle.texts.proofs.TextLaws.{puts_then, puts-as}
 use Rattle.lines.specs.Lines.{refused_word}
 use Rattle.page_lines.specs.PageLines.{reply_line}
 use Rattle.page_lines.proofs.PageLineLaws.{length-reply}
+use Rattle.page_cells.proofs.PageCellLaws.{square-small}
 use Rattle.page_sums.specs.Sums.{Summable}
 use Rattle.page_sums.proofs.SumsLaws.{length_whole}
 use Rattle.page_matrices.specs.Matrices.{kept_text, matrices_text, Drawn}
@@ -64,26 +67,27 @@ length_two s n l accepted total = go (density_answer s n l 10 2048 64).0 (λ e. 
     go zero h = length-matrices (density_of s n l) (2 ^ length l) accepted total (pages_same s n l) (some-rows (length l)) (h refl)
     go (suc x) h = omega (arith, length-append (reply_line refused_word R) (kept_text accepted total), length-reply refused_word R, length-kept accepted total)
 
-module _ (s : List Float) (n : ℕ) (l : List ℕ) (o w : List Float) (a : Answer) (d w' : List Float) (f : Density s n l 10 o w a d w') (eo : length o ≡ 2048) (ew : length w ≡ 64) where
+module _ {s : List Float} {n : ℕ} {l : List ℕ} {o w : List Float} {a : Answer} {d w' : List Float} (f : Density s n l 10 o w a d w') (eo : length o ≡ 2048) (ew : length w ≡ 64) where
   said : paper a ≡ page_two_reply s n l
   unfolding page_two_reply
   said = f.answer ∙ ap₂ (density_answer s n l 10) eo ew
 
   -- the density is refused
-  pub two-refused : (accepted : Bool) (total at r t : ℕ) (old mid new : List ℕ) → ((paper a).0 ≡ 0 → ⊥) → at + 98500 ≤ length old
-      → Puts at (reply_line refused_word (paper a)) old r mid → Puts r (kept_text accepted total) mid t new → Puts at (page_two_text s n l accepted total) old t new
+  pub two-refused : (accepted : Bool) (total at r t : ℕ) (old mid new : List ℕ) (e : Refusal) → a ≡ Err e → at + 98500 ≤ length old
+      → Puts at (reply_line refused_word (table e)) old r mid → Puts r (kept_text accepted total) mid t new → Puts at (page_two_text s n l accepted total) old t new
   unfolding page_two_text
-  two-refused accepted total at r t old mid new h room p q =
+  two-refused accepted total at r t old mid new e h room p q =
+      let is : table e ≡ page_two_reply s n l = ap paper (sym h) ∙ said in
       puts-as at t _ _ old new
-      (ap (λ (x : Reply). reply_line refused_word x ++ kept_text accepted total) said
+      (ap (λ (x : Reply). reply_line refused_word x ++ kept_text accepted total) is
       ∙ done-old (page_two_reply s n l).0 (matrices_text (density_of s n l) (2 ^ length l) accepted total (pages_same s n l)) (reply_line refused_word (page_two_reply s n l) ++ kept_text accepted total)
-      (λ z. h (ap (λ (x : Reply). x.0) said ∙ z)))
-      (puts_then at r t (reply_line refused_word (paper a)) (kept_text accepted total) old mid new (omega (arith, room, length-reply refused_word (paper a))) p q)
+      (λ z. stopped-number e (ap (λ (x : Reply). x.0) is ∙ z)))
+      (puts_then at r t (reply_line refused_word (table e)) (kept_text accepted total) old mid new (omega (arith, room, length-reply refused_word (table e))) p q)
 
   -- it is accepted
-  module _ (e : (paper a).0 ≡ 0) where
+  module _ (h : a ≡ Ok tt) where
     zero-said : (page_two_reply s n l).0 ≡ 0
-    zero-said = sym (ap (λ (x : Reply). x.0) said) ∙ e
+    zero-said = was-done a (page_two_reply s n l) said h
 
     answered : (density_answer s n l 10 2048 64).0 ≡ 0
     unfolding page_two_reply
@@ -92,30 +96,32 @@ module _ (s : List Float) (n : ℕ) (l : List ℕ) (o w : List Float) (a : Answe
     pub listed-few : length l ≤ 5
     listed-few = few s n l 2048 64 answered
 
-    pub rows_few : (dim : ℕ) → dim ≡ 2 ^ length l → dim ≤ 32
-    rows_few dim g = rw g (rows s n l 2048 64 answered)
+    -- the front of the array is the density, and fits into it
+    module _ (dim : ℕ) (g : dim ≡ 2 ^ length l) where
+      pub square-fits : (dim ≤ 32) × (dim * dim ≤ 1024)
+      square-fits = let few : dim ≤ 32 = rw g (rows s n l 2048 64 answered) in (few, square-small dim few)
 
-    pub front-is : (dim need : ℕ) → dim ≡ 2 ^ length l → need ≡ 2 * (dim * dim) → take need d ≡ density_of s n l
-    front-is dim need g h =
-        ap₂ (λ (k : ℕ) (x : List Float). take k x) (h ∙ ap (λ (k : ℕ). 2 * (k * k)) g) (density-left s n l 10 o w a d w' f e)
-        ∙ front (2 ^ length l * 2 ^ length l) (density_cell n l s) o
+      pub front-is : take (2 * (dim * dim)) d ≡ density_of s n l
+      front-is =
+          ap₂ (λ (k : ℕ) (x : List Float). take (2 * (k * k)) x) g (density-left s n l 10 o w a d w' f (ap (λ (r : Answer). (paper r).0) h))
+          ∙ front (2 ^ length l * 2 ^ length l) (density_cell n l s) o
 
-    pub sums-asked : (at room : ℕ) (m : List Float) → Shown n l at room → m ≡ density_of s n l → Summable s n l m
-    sums-asked at room m is g = record { small = is.small; taken = is.taken; accepted = answered; density = g }
+      pub sums-asked : (at room : ℕ) → Shown n l at room → Summable s n l (take (2 * (dim * dim)) d)
+      sums-asked at room is = record { small = is.small; taken = is.taken; accepted = answered; density = front-is }
 
-    pub matrices-asked : (dim at room : ℕ) (m : List Float) → dim ≡ 2 ^ length l → Shown n l at room → m ≡ density_of s n l → Drawn dim m at room
-    matrices-asked dim at room m g is h = record {
-      some = rw g (some-rows (length l));
-      small = rows_few dim g;
-      cells = omega (arith, ap length h, length_whole (2 ^ length l * 2 ^ length l) (density_cell n l s), ap (λ (k : ℕ). k * k) g);
-      fits = is.fits;
-    }
+      pub matrices-asked : (at room : ℕ) → Shown n l at room → Drawn dim (take (2 * (dim * dim)) d) at room
+      matrices-asked at room is = record {
+        some = rw g (some-rows (length l));
+        small = square-fits.0;
+        cells = omega (arith, ap length front-is, length_whole (2 ^ length l * 2 ^ length l) (density_cell n l s), ap (λ (k : ℕ). k * k) g);
+        fits = is.fits;
+      }
 
-    pub two-done : (dim : ℕ) (accepted : Bool) (total : ℕ) (same : Bool) (at r : ℕ) (m : List Float) (old new : List ℕ) → dim ≡ 2 ^ length l → m ≡ density_of s n l → same ≡ pages_same s n l
-        → Puts at (matrices_text m dim accepted total same) old r new → Puts at (page_two_text s n l accepted total) old r new
-    unfolding page_two_text
-    two-done dim accepted total same at r m old new g h i p =
-        puts-as at r _ _ old new
-        (ap₂ (λ (x : List Float) (y : ℕ). matrices_text x y accepted total same) h g
-        ∙ ap (matrices_text (density_of s n l) (2 ^ length l) accepted total) i
-        ∙ done-new (page_two_reply s n l).0 (matrices_text (density_of s n l) (2 ^ length l) accepted total (pages_same s n l)) (reply_line refused_word (page_two_reply s n l) ++ kept_text accepted total) zero-said) p
+      pub two-done : (accepted : Bool) (total : ℕ) (same : Bool) (at r : ℕ) (old new : List ℕ) → same ≡ pages_same s n l
+          → Puts at (matrices_text (take (2 * (dim * dim)) d) dim accepted total same) old r new → Puts at (page_two_text s n l accepted total) old r new
+      unfolding page_two_text
+      two-done accepted total same at r old new i p =
+          puts-as at r _ _ old new
+          (ap₂ (λ (x : List Float) (y : ℕ). matrices_text x y accepted total same) front-is g
+          ∙ ap (matrices_text (density_of s n l) (2 ^ length l) accepted total) i
+          ∙ done-new (page_two_reply s n l).0 (matrices_text (density_of s n l) (2 ^ length l) accepted total (pages_same s n l)) (reply_line refused_word (page_two_reply s n l) ++ kept_text accepted total) zero-said) p

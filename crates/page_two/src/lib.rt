@@ -6,8 +6,6 @@ ghost use Rattle.std.specs.Prelude.{◌≡◌, length};
 ghost use Rattle.texts.specs.Text.{Puts};
 ghost use Rattle.page_two.specs.PageTwo.{page_two_text, Shown};
 
-use answers::Answer;
-
 // Puts the lines of the matrices, or of the density's refusal and page one's total.
 pub fn put_two(
     out: &mut [u8],
@@ -23,13 +21,16 @@ pub fn put_two(
 {
     let mut density = [0.0f64; 2048];
     let mut scratch = [0.0f64; 64];
-    let answer = densities::dense_reduced_density(state, n, list, 10, &mut density, &mut scratch);
-    let Answer::Done = answer else {
-        let next = page_lines::put_reply(out, at, b"refused ", answer);
-        return page_matrices::put_kept(out, next, accepted, total);
-    };
-    let dim = submasks::bit(list.len());
-    let need = 2 * (dim * dim);
-    let same = page_sums::summed(state, n, list, &density[..need]);
-    page_matrices::put_matrices(out, at, &mut density[..need], dim, accepted, total, same)
+    match densities::dense_reduced_density(state, n, list, 10, &mut density, &mut scratch) {
+        Ok(()) => {
+            let dim = submasks::bit(list.len());
+            let rho = &mut density[..2 * (dim * dim)];
+            let same = page_sums::summed(state, n, list, rho);
+            page_matrices::put_matrices(out, at, rho, dim, accepted, total, same)
+        }
+        Err(refusal) => {
+            let next = page_lines::put_reply(out, at, b"refused ", Err(refusal));
+            page_matrices::put_kept(out, next, accepted, total)
+        }
+    }
 }

@@ -11,15 +11,16 @@ use lib.Ieee.{Float, nan, binary64, to_bits, fits, of_bits}
 use lib.Ieee.Bits.{of_bits-to_bits}
 use lib.ListN.{length, get_or, take, drop, drop_of_length-le}
 use lib.Seq.{drop-cons}
-use Rattle.answers.specs.declared.Answer.{Answer}
-use Rattle.answers.specs.declared.Answer.TheVariants.{Done}
-use Rattle.answers.specs.Paper.{Reply, paper, and_then, if_done}
+use Rattle.std.specs.Prelude.{Ok, Err}
+use Rattle.answers.specs.declared.Refusal.{Refusal}
+use Rattle.answers.specs.Paper.{Answer, Done, Reply, paper, table, and_then, if_done}
+use Rattle.answers.proofs.Stopped.{stopped-number, was-done}
 use Rattle.answers.proofs.PaperLaws.{and_then-done, stays, done-old}
 use Rattle.complex.specs.Cells.{written, components}
 use Rattle.submasks.specs.Submasks.{others}
 use Rattle.submasks.proofs.SubmaskLaws.{others-lt}
 use Rattle.qubits.specs.Lists.{subsystem}
-use Rattle.qubits.specs.Spread.{named}
+use Rattle.qubits.specs.Spread.{named, row_offset}
 use Rattle.qubits.proofs.SpreadLaws.{spread-lt}
 use Rattle.cut_sides.specs.Sides.{cut_sizes, cut_refusal, Parted, side, named_rows}
 use Rattle.cuts.specs.Cut.{cut_cell, cut_lengths, cut_answer, CutMatrix}
@@ -28,7 +29,6 @@ use Rattle.densities.specs.Density.{density_answer, density_list}
 use Rattle.densities.proofs.DensityLaws.{side-small, even_power}
 use Rattle.density_entries.specs.Entries.{density_cell, setting_amplitude}
 use Rattle.density_entries.specs.Filled.{table_entry, EntriesReady}
-use Rattle.density_entries.specs.OffsetLoop.{OffsetSteps}
 use Rattle.density_entries.proofs.EntryLaws.{table-entry}
 use Rattle.agreement.specs.FromCut.{cut_amplitude, cut_density_cell}
 use Rattle.agreement.proofs.SameDensity.{same-density, same-amplitude, entry-same}
@@ -97,16 +97,13 @@ same_end a b i h g = ap₂ same_floats (drop_of_length-le a h) (drop_of_length-l
 
 -- ---- answers
 
-number : (a : Answer) (x : Reply) → paper a ≡ x → a ≡ Done → x.0 ≡ 0
-number a x e d = ap (λ (r : Reply). r.0) (sym e ∙ ap paper d)
-
--- an answer that is not 0: it stays, and the check says no
-module _ (a : Answer) (x b : Reply) (e : paper a ≡ x) (h : (paper a).0 ≡ 0 → ⊥) where
-  stopped : paper a ≡ and_then x b
-  stopped = e ∙ stays x b (λ z. h (ap (λ (r : Reply). r.0) e ∙ z))
+-- a call's refusal stays, and the check says no
+module _ (f : Refusal) (x b : Reply) (e : table f ≡ x) where
+  stopped : table f ≡ and_then x b
+  stopped = e ∙ stays x b (λ z. stopped-number f (ap (λ (r : Reply). r.0) e ∙ z))
 
   says-no : (t : Bool) → false ≡ if_done (and_then x b).0 t false
-  says-no t = done-old (and_then x b).0 t false (λ z. h (ap (λ (r : Reply). r.0) stopped ∙ z))
+  says-no t = done-old (and_then x b).0 t false (λ z. stopped-number f (ap (λ (r : Reply). r.0) stopped ∙ z))
 
 -- ---- the cut
 
@@ -128,54 +125,58 @@ pages-same s n l p = ap (same_floats (density_list n l s [])) (same-densities s 
 
 -- ---- the check
 
-module _ (s : List Float) (n : ℕ) (l : List ℕ) (cap : ℕ) (a : Answer) (e : paper a ≡ recount_sizes n (length l) cap) where
-  pub pages-refused : ((paper a).0 ≡ 0 → ⊥) → Says (pages_answer s n l cap) (pages_same s n l) (record { answer = a; yes = false })
-  pages-refused h = record { answer = stopped a _ _ e h; agree = says-no a _ _ e h (pages_same s n l) }
+module _ (s : List Float) (n : ℕ) (l : List ℕ) (cap : ℕ) where
+  pub pages-refused : (f : Refusal) → table f ≡ recount_sizes n (length l) cap → Says (pages_answer s n l cap) (pages_same s n l) (Err f)
+  pages-refused f e = record { answer = stopped f _ _ e; agree = says-no f _ _ e (pages_same s n l) }
 
   -- past the sizes
-  module _ (d : a ≡ Done) (o : List Float) (b : Answer) (m : List Float) (f : CutMatrix s n l cap o b m) (eo : length o ≡ 8192) where
+  module _ (sized : (recount_sizes n (length l) cap).0 ≡ 0) (o : List Float) (b : Answer) (m : List Float) (c : CutMatrix s n l cap o b m) (eo : length o ≡ 8192) where
     cut-said : paper b ≡ cut_answer s n l cap 8192
-    cut-said = f.answer ∙ ap (cut_answer s n l cap) eo
+    cut-said = c.answer ∙ ap (cut_answer s n l cap) eo
 
     sizes-said : both_answer s n l cap ≡ pages_answer s n l cap
-    sizes-said = goes (recount_sizes n (length l) cap) (both_answer s n l cap) (number a _ e d)
+    sizes-said = goes (recount_sizes n (length l) cap) (both_answer s n l cap) sized
 
-    pub cut-refused : ((paper b).0 ≡ 0 → ⊥) → Says (pages_answer s n l cap) (pages_same s n l) (record { answer = b; yes = false })
-    cut-refused h = record {
-      answer = stopped b _ _ cut-said h ∙ sizes-said;
-      agree = says-no b _ _ cut-said h (pages_same s n l) ∙ ap (λ (x : Reply). if_done x.0 (pages_same s n l) false) sizes-said;
-    }
+    pub cut-refused : (f : Refusal) → b ≡ Err f → Says (pages_answer s n l cap) (pages_same s n l) (Err f)
+    cut-refused f d =
+        let e : table f ≡ cut_answer s n l cap 8192 = ap paper (sym d) ∙ cut-said in
+        record {
+          answer = stopped f _ _ e ∙ sizes-said;
+          agree = says-no f _ _ e (pages_same s n l) ∙ ap (λ (x : Reply). if_done x.0 (pages_same s n l) false) sizes-said;
+        }
 
     -- past the cut
     module _ (z : b ≡ Done) where
       zero-said : (paper b).0 ≡ 0
       zero-said = ap (λ (x : Answer). (paper x).0) z
 
+      taken : (cut_answer s n l cap 8192).0 ≡ 0
+      taken = was-done b _ cut-said z
+
       state-length : length s ≡ 2 * 2 ^ n
-      state-length = (cut-lengths s n l cap 8192 (number b _ cut-said z)).0
+      state-length = (cut-lengths s n l cap 8192 taken).0
 
       pub state-fits : length s ≤ 8192
-      state-fits = omega (arith, state-length, (cut-lengths s n l cap 8192 (number b _ cut-said z)).1)
+      state-fits = omega (arith, state-length, (cut-lengths s n l cap 8192 taken).1)
 
       -- what was cut, as a matrix of its own
       pub held : Held s (take (length s) m) n l
       held =
-          let g = and_then-done (cut_refusal l n cap) (and_then (cut_lengths n (length s) 8192) (components 0 s)) (number b _ cut-said z) in
+          let g = and_then-done (cut_refusal l n cap) (and_then (cut_lengths n (length s) 8192) (components 0 s)) taken in
           record {
-            parted = cut-parted s n l cap o b m f zero-said;
+            parted = cut-parted s n l cap o b m c zero-said;
             some = (parted-done n l (and_then-done (cut_sizes n cap) (subsystem n l) g.0).1).1;
-            few = (sizes-done n (length l) cap (number a _ e d)).1;
+            few = (sizes-done n (length l) cap sized).1;
             state = state-length;
             matrix =
-                ap (λ (k : ℕ). take k m) state-length ∙ ap (take (2 * 2 ^ n)) (cut_left s n l cap o b m f zero-said) ∙ front (2 ^ n) (cut_cell s n l) o;
+                ap (λ (k : ℕ). take k m) state-length ∙ ap (take (2 * 2 ^ n)) (cut_left s n l cap o b m c zero-said) ∙ front (2 ^ n) (cut_cell s n l) o;
           }
 
       -- THE ANSWER IS 0, AND YES IS THE COMPARISON
-      pub agreed : (y : Bool) → y ≡ pages_same s n l → Says (pages_answer s n l cap) (pages_same s n l) (record { answer = Done; yes = y })
+      pub agreed : (y : Bool) → y ≡ pages_same s n l → Says (pages_answer s n l cap) (pages_same s n l) (Ok y)
       agreed y ey =
-          let c = number b _ cut-said z in
           let q : (0, 0) ≡ pages_answer s n l cap =
-          sym (density-done s n l cap c (density-accepted s n l cap (number a _ e d) c)) ∙ goes (cut_answer s n l cap 8192) (density_answer s n l cap 8192 128) c ∙ sizes-said in
+          sym (density-done s n l cap taken (density-accepted s n l cap sized taken)) ∙ goes (cut_answer s n l cap 8192) (density_answer s n l cap 8192 128) taken ∙ sizes-said in
           record { answer = q; agree = ey ∙ ap (λ (x : Reply). if_done x.0 (pages_same s n l) false) q }
 
 -- ---- the comparison, a block at a time
@@ -184,15 +185,15 @@ module _ (s m : List Float) (n : ℕ) (l : List ℕ) (p : Held s m n l) (dim : �
   pub held_small : dim ≤ 64
   held_small = rw ed (side-small (length l) p.few)
 
-  pub held-state : (rest : ℕ) (old table : List ℕ) → rest ≡ others n (named l) → OffsetSteps l dim old table dim → dim ≤ length old
+  pub held-state : (rest : ℕ) (table : List ℕ) → rest ≡ others n (named l) → ((k : ℕ) → k < dim → get_or table k 0 ≡ row_offset l k) → dim ≤ length table
       → EntriesReady n s rest table dim
-  held-state rest old table er t room = record {
+  held-state rest table er t room = record {
     small = p.parted.listed.small;
     long = p.state;
     mask_lt = rw er (others-lt n (named l));
     even = rw ed (even_power (length l) p.some);
-    table = omega (arith, t.long);
-    below = λ k h. rw (t.are k h) (spread-lt n l k p.parted.listed.below);
+    table = room;
+    below = λ k h. rw (t k h) (spread-lt n l k p.parted.listed.below);
   }
 
   module _ (z : Layout) (ez : z ≡ layout_of (named_rows l n) (2 ^ side l n) (2 ^ n)) where
@@ -207,14 +208,14 @@ module _ (s m : List Float) (n : ℕ) (l : List ℕ) (p : Held s m n l) (dim : �
     }
 
     -- THE BLOCKS ARE THE SAME, and so are the two densities
-    pub held_same : (rest groups : ℕ) (old table old' table' : List ℕ) (y : Bool) → rest ≡ others n (named l) → groups ≡ 2 ^ (n - length l)
-        → OffsetSteps l dim old table dim → Numbers l n z.scale dim old' table' dim
+    pub held_same : (rest groups : ℕ) (table old' table' : List ℕ) (y : Bool) → rest ≡ others n (named l) → groups ≡ 2 ^ (n - length l)
+        → ((k : ℕ) → k < dim → get_or table k 0 ≡ row_offset l k) → Numbers l n z.scale dim old' table' dim
         → y ≡ same_rows (table_entry n s rest groups table) (table_entry n m z.mask groups table') (dim / 2) → y ≡ pages_same s n l
-    held_same rest groups old table old' table' y er eg t t' ey =
+    held_same rest groups table old' table' y er eg t t' ey =
         let entry : (r c : ℕ) → r < dim → c < dim → table_entry n s rest groups table r c ≡ table_entry n m z.mask groups table' r c
         = λ r c hr hc.
         rw (er, eg, p.matrix)
-        (table-entry n l s old table dim r c p.parted.listed t hr hc
+        (table-entry n l s table dim r c p.parted.listed t hr hc
         ∙ sym (entry-same (2 ^ (n - length l)) (cut_amplitude n l (written (2 ^ n) (cut_cell s n l) [])) (setting_amplitude n l s) (same-amplitude n l p.parted s []) r c)
         ∙ sym (entry-is l n p.parted z ez (written (2 ^ n) (cut_cell s n l) []) dim old' table' r c t' hr hc)) in
         ey ∙ rows-yes _ _ dim entry (dim / 2) (omega arith) ∙ sym (pages-same s n l p.parted)

@@ -4,8 +4,7 @@ use mathlib.Core.Path.{◌≡◌, refl, sym, ap, ap₂, ◌∙◌}
 use Prim.Native.Nat.{ℕ, zero, suc, ◌+◌, ◌*◌, ◌≤◌, ◌<◌}
 use native.Mathlib.Numerals.{add-one}
 use native.Mathlib.Omega.{arith}
-use borrow.Author.Tests.{eq-eqb, ne_eqb}
-use lib.Dec.{eqb}
+use borrow.Author.Tests.{eq-eqb}
 use lib.Ieee.{binary64, to_bits}
 use Rattle.complex.specs.declared.Complex.{Complex}
 use Rattle.density_entries.specs.declared.Block.{Block}
@@ -23,22 +22,7 @@ module _ (z w : Complex) where
   unfolding same_cell
   cell-yes e f = ap₂ ◌&&◌ (eq-eqb _ _ e) (eq-eqb _ _ f)
 
-  pub first-differs : (to_bits binary64 z.re ≡ to_bits binary64 w.re → ⊥) → same_cell z w ≡ false
-  unfolding same_cell
-  first-differs e = ap (λ (t : Bool). t && eqb (to_bits binary64 z.im) (to_bits binary64 w.im)) (ne_eqb _ _ e)
-
-  pub second-differs : (to_bits binary64 z.im ≡ to_bits binary64 w.im → ⊥) → same_cell z w ≡ false
-  unfolding same_cell
-  second-differs e =
-      ap (λ (t : Bool). eqb (to_bits binary64 z.re) (to_bits binary64 w.re) && t) (ne_eqb _ _ e)
-      ∙ and-false (eqb (to_bits binary64 z.re) (to_bits binary64 w.re))
-
 -- ---- a block
-
-pub block-said : (a b : Block) {p q r s x y t : Bool} → t ≡ x && y → x ≡ p && q → y ≡ r && s → p ≡ same_cell a.first b.first
-    → q ≡ same_cell a.second b.second → r ≡ same_cell a.third b.third → s ≡ same_cell a.fourth b.fourth → t ≡ same_block a b
-unfolding same_block
-block-said a b et ex ey ep eq er es = et ∙ ap₂ ◌&&◌ (ex ∙ ap₂ ◌&&◌ ep eq) (ey ∙ ap₂ ◌&&◌ er es)
 
 block-self : (a : Block) → same_block a a ≡ true
 unfolding same_block
@@ -58,9 +42,6 @@ module _ (f g : ℕ → ℕ → Complex) where
   unfolding same_row
   row_more t u y y' same i e h = h ∙ ap₂ ◌&&◌ i e ∙ ap (same_row f g t) (sym (add-one u))
 
-  pub row-end : (t u stop : ℕ) (y : Bool) → y ≡ same_row f g t u → u ≤ stop → stop ≤ u → y ≡ same_row f g t stop
-  row-end t u stop y i h l = let e : u ≡ stop = omega arith in i ∙ ap (same_row f g t) e
-
   pub rows_none : true ≡ same_rows f g 0
   unfolding same_rows
   rows_none = refl
@@ -68,9 +49,6 @@ module _ (f g : ℕ → ℕ → Complex) where
   pub rows_more : (t : ℕ) (y y' same : Bool) → y ≡ same_rows f g t → same ≡ same_row f g t (t + 1) → y' ≡ y && same → y' ≡ same_rows f g (t + 1)
   unfolding same_rows
   rows_more t y y' same i e h = h ∙ ap₂ ◌&&◌ i e ∙ ap (same_rows f g) (sym (add-one t))
-
-  pub rows_end : (t half : ℕ) (y : Bool) → y ≡ same_rows f g t → t ≤ half → half ≤ t → y ≡ same_rows f g half
-  rows_end t half y i h l = let e : t ≡ half = omega arith in i ∙ ap (same_rows f g) e
 
   -- two tables that have the same entries
   module _ (dim : ℕ) (h : (r c : ℕ) → r < dim → c < dim → f r c ≡ g r c) where

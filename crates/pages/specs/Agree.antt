@@ -1,14 +1,14 @@
 -- The check that a state's two pages agree: its answer, and its yes or no. Assumes nothing.
-use Rattle.std.specs.Prelude.{Bool, true, false, ◌&&◌, ◌≡◌, List, [], ◌∷◌, ℕ, ◌*◌, ◌^◌, ◌≤◌, eqb, Float, length}
+use Rattle.std.specs.Prelude.{Bool, true, false, ◌&&◌, ◌≡◌, List, [], ◌∷◌, ℕ, ◌*◌, ◌^◌, ◌≤◌, eqb, Float, length, Result}
 use Rattle.std.specs.Float.{binary64}
 use Rattle.std.specs.Float.Ieee.{to_bits}
-use Rattle.answers.specs.Paper.{Reply, paper, and_then, if_done}
+use Rattle.answers.specs.declared.Refusal.{Refusal}
+use Rattle.answers.specs.Paper.{Reply, paper, given, and_then, if_done}
 use Rattle.complex.specs.Cells.{written}
 use Rattle.cut_sides.specs.Sides.{Parted}
 use Rattle.cuts.specs.Cut.{cut_answer, cut_cell}
 use Rattle.densities.specs.Density.{density_answer, density_list}
 use Rattle.density_recount.specs.Recount.{recount_sizes, recounted}
-use Rattle.pages.specs.declared.Agreement.{Agreement}
 
 -- the same length, and the same bits throughout
 unfoldable pub same_floats : List Float → List Float → Bool
@@ -31,9 +31,9 @@ unfolding same_floats
 pages_same s n l = same_floats (density_list n l s []) (recounted n l (written (2 ^ n) (cut_cell s n l) []) [])
 
 -- what the check says where its answer is a: the comparison on answer 0, and no on any other
-pub record Says (a : Reply) (same : Bool) (r : Agreement) : Type 0 where
-  pub answer : paper r.answer ≡ a
-  pub agree : r.yes ≡ if_done a.0 same false
+pub record Says (a : Reply) (same : Bool) (r : Result Bool Refusal) : Type 0 where
+  pub answer : paper r ≡ a
+  pub agree : given false r ≡ if_done a.0 same false
 
 -- what the comparison asks: an accepted list of at most six qubits, the state, and its cut matrix
 pub record Held (s m : List Float) (n : ℕ) (l : List ℕ) : Type 0 where

@@ -1,12 +1,12 @@
 // The two pages of one state, worked out and held against each other.
 #![tactic(auto)]
 
-ghost use Rattle.std.specs.Prelude.{◌≡◌, ◌&&◌, ◌+◌, ◌*◌, ◌/◌, ◌<◌, ◌≤◌};
+ghost use Rattle.std.specs.Prelude.{◌≡◌, ◌+◌, ◌*◌, ◌/◌, ◌<◌, ◌≤◌};
 ghost use Rattle.density_entries.specs.Filled.{table_entry, EntriesReady};
 ghost use Rattle.pages.specs.Agree.{same_floats, Says, pages_answer, pages_same, Held};
 ghost use Rattle.pages.specs.Blocks.{same_cell, same_block, block_at, same_row, same_rows};
 
-use answers::Answer;
+use answers::Refusal;
 use complex::Complex;
 use density_entries::Block;
 
@@ -17,47 +17,29 @@ pub fn same_floats(a: &[f64], b: &[f64]) -> bool
     if a.len() != b.len() {
         return false;
     }
-    let mut i = 0;
-    while i < a.len() {
-        if bits::bits_of(a[i]) != bits::bits_of(b[i]) {
+    for (i, x) in a.iter().enumerate() {
+        if bits::bits_of(*x) != bits::bits_of(b[i]) {
             return false;
         }
-        i += 1;
     }
     true
 }
 
 // Whether two cells have the same bits in both parts.
+#[tactic(auto, unfolding(crate::specs::Blocks::same_cell))]
 fn same_cell(z: Complex, w: Complex) -> bool
     ensures { result ≡ same_cell z w }
 {
-    if bits::bits_of(z.re) != bits::bits_of(w.re) {
-        return false;
-    }
-    if bits::bits_of(z.im) != bits::bits_of(w.im) {
-        return false;
-    }
-    true
+    bits::bits_of(z.re) == bits::bits_of(w.re) && bits::bits_of(z.im) == bits::bits_of(w.im)
 }
 
 // Whether two blocks have the same bits in all four entries.
+#[tactic(auto, unfolding(crate::specs::Blocks::same_block))]
 fn same_block(a: Block, b: Block) -> bool
     ensures { result ≡ same_block a b }
 {
-    let p = same_cell(a.first, b.first);
-    let q = same_cell(a.second, b.second);
-    let r = same_cell(a.third, b.third);
-    let s = same_cell(a.fourth, b.fourth);
-    both_yes(both_yes(p, q), both_yes(r, s))
-}
-
-fn both_yes(x: bool, y: bool) -> bool
-    ensures { result ≡ x && y }
-{
-    if x {
-        return y;
-    }
-    false
+    (same_cell(a.first, b.first) && same_cell(a.second, b.second))
+        && (same_cell(a.third, b.third) && same_cell(a.fourth, b.fourth))
 }
 
 // The block of the rows 2t and 2t + 1 and the columns 2u and 2u + 1, by a table of offsets.
@@ -108,14 +90,11 @@ fn same_row(
     ensures { result ≡ same_row (table_entry n state.now rest groups offsets.now)
         (table_entry n matrix.now mask groups table.now) t (t + 1) }
 {
-    let stop = t + 1;
     let mut yes = true;
-    let mut u: usize = 0;
-    while u < stop {
+    for u in 0..t + 1 {
         let a = block_at(state, n, rest, groups, offsets, dim, t, u);
         let b = block_at(matrix, n, mask, groups, table, dim, t, u);
-        yes = both_yes(yes, same_block(a, b));
-        u += 1;
+        yes = yes && same_block(a, b);
     }
     yes
 }
@@ -137,13 +116,9 @@ fn same_rows(
     ensures { result ≡ same_rows (table_entry n state.now rest groups offsets.now)
         (table_entry n matrix.now mask groups table.now) (dim / 2) }
 {
-    let half = dim / 2;
     let mut yes = true;
-    let mut t: usize = 0;
-    while t < half {
-        let same = same_row(state, matrix, n, rest, mask, groups, offsets, table, dim, t);
-        yes = both_yes(yes, same);
-        t += 1;
+    for t in 0..dim / 2 {
+        yes = yes && same_row(state, matrix, n, rest, mask, groups, offsets, table, dim, t);
     }
     yes
 }
@@ -162,7 +137,7 @@ fn same_densities(state: &[f64], matrix: &[f64], n: usize, list: &[usize]) -> bo
     let s = cut_sides::sides_of(list, n);
     let z = density_recount::layout_of(s.named, s.rows, size);
     let mut offsets = [0usize; 64];
-    density_entries::fill_offsets(list, n, dim, &mut offsets);
+    qubit_offsets::fill_offsets(list, n, dim, &mut offsets);
     let mut table = [0usize; 64];
     density_recount::fill_numbers(list, n, named, z.scale, dim, &mut table);
     let rest = size - 1 - named;
@@ -171,35 +146,13 @@ fn same_densities(state: &[f64], matrix: &[f64], n: usize, list: &[usize]) -> bo
     )
 }
 
-// The answer of the check, and yes where the two densities have the same bits; no on a refusal.
-#[derive(Clone, Copy)]
-pub struct Agreement {
-    pub answer: Answer,
-    pub yes: bool,
-}
-
 // Whether the two pages of a state agree: its density, and the density summed from its cut matrix alone. Refused as the cut and the density
 // are, with the sizes of both first; always yes where it is not.
-pub fn pages_agree(state: &[f64], n: usize, list: &[usize], cap: usize) -> Agreement
+pub fn pages_agree(state: &[f64], n: usize, list: &[usize], cap: usize) -> Result<bool, Refusal>
     ensures { Says (pages_answer state.now n list.now cap) (pages_same state.now n list.now) result }
 {
-    let first = density_recount::recount_size(n, list.len(), cap);
-    let Answer::Done = first else {
-        return Agreement {
-            answer: first,
-            yes: false,
-        };
-    };
+    density_recount::recount_size(n, list.len(), cap)?;
     let mut matrix = [0.0; 8192];
-    let second = cuts::cut_matrix(state, n, list, cap, &mut matrix);
-    let Answer::Done = second else {
-        return Agreement {
-            answer: second,
-            yes: false,
-        };
-    };
-    Agreement {
-        answer: Answer::Done,
-        yes: same_densities(state, &matrix[..state.len()], n, list),
-    }
+    cuts::cut_matrix(state, n, list, cap, &mut matrix)?;
+    Ok(same_densities(state, &matrix[..state.len()], n, list))
 }

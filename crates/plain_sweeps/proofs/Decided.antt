@@ -14,9 +14,8 @@ use Rattle.modulus.specs.Modulus.{modulus_of}
 use Rattle.zero_signs.proofs.Cells.{Like, like-self, like-product, like-sum, like-conjugate, like-quotient, like-norm, like-modulus}
 use Rattle.svd_gram.specs.declared.GramSums.{GramSums}
 use Rattle.svd_gram.specs.Gram.{no_sums, one_row, gram_to}
-use Rattle.svd_pair.specs.declared.Decision.{Decision}
-use Rattle.svd_pair.specs.declared.Decision.TheVariants.{Leave, Turn}
-use Rattle.svd_pair.specs.Decisions.{skip_bound, tau_of, tangent_of, turn_at, decision_of}
+use Rattle.std.proofs.Common.{None, Some}
+use Rattle.svd_pair.specs.Decisions.{Decision, skip_bound, tau_of, tangent_of, turn_at, decision_of}
 use Rattle.svd_pair.specs.Turns.{Making, exact, real, turn_factors, applied}
 use Rattle.svd_pair.specs.Plain.{plain}
 use Rattle.svd_pair.proofs.ZeroProductsLaws.{factors-real}
@@ -54,16 +53,17 @@ gram-alike xs ys c a b (suc k) ha hb s =
 
 -- both leave the pair, or both turn it with the same cosine and sine and with phases that are alike
 pub data AlikeDecisions : Decision → Decision → Type 0 where
-  both-leave : AlikeDecisions Leave Leave
-  both-turn : (cosine sine : Float) {phase phase' : Complex} → Like phase phase' → AlikeDecisions (Turn cosine sine phase) (Turn cosine sine phase')
+  both-leave : AlikeDecisions None None
+  both-turn : (cosine sine : Float) {phase phase' : Complex} → Like phase phase'
+      → AlikeDecisions (Some (record { cosine = cosine; sine = sine; phase = phase })) (Some (record { cosine = cosine; sine = sine; phase = phase' }))
 
 -- the same test, over turns that are alike
-tested : (b : Bool) {d d' : Decision} → AlikeDecisions d d' → AlikeDecisions (cond b Leave d) (cond b Leave d')
+tested : (b : Bool) {d d' : Decision} → AlikeDecisions d d' → AlikeDecisions (cond b None d) (cond b None d')
 tested true h = both-leave
 tested false h = h
 
 -- the same tangent, and mixed sums that are alike over the same modulus
-turned : (beta t : Float) {pq pq' : Complex} → Like pq pq' → AlikeDecisions (turn_at pq beta t) (turn_at pq' beta t)
+turned : (beta t : Float) {pq pq' : Complex} → Like pq pq' → AlikeDecisions (Some (turn_at pq beta t)) (Some (turn_at pq' beta t))
 unfolding turn_at
 turned beta t h = both-turn _ _ (like-quotient beta h)
 
@@ -71,7 +71,7 @@ turned beta t h = both-turn _ _ (like-quotient beta h)
 abbrev decided : Float → Float → Float → Float → Complex → Decision
 decided pp qq norm beta pq =
     let g : GramSums = record { pp = pp; qq = qq; pq = pq } in
-    cond (Ieee.le norm (skip_bound g)) Leave (turn_at pq beta (tangent_of (tau_of g beta)))
+    cond (Ieee.le norm (skip_bound g)) None (Some (turn_at pq beta (tangent_of (tau_of g beta))))
 
 -- sums that are alike give decisions that are alike
 pub decided-alike : (g g' : GramSums) → AlikeSums g g' → AlikeDecisions (decision_of g) (decision_of g')
@@ -104,14 +104,14 @@ factors-alike cosine sine {phase} {phase'} h =
 -- the list keeps its length
 pub applied-length : (g : Making) (d : Decision) (c a b m : ℕ) (xs : List Float) → length (applied g d c a b m xs) ≡ length xs
 unfolding applied
-applied-length g Leave c a b m xs = refl
-applied-length g (Turn cosine sine phase) c a b m xs = rows-length g (turn_factors cosine sine phase) c a b m xs
+applied-length g None c a b m xs = refl
+applied-length g (Some t) c a b m xs = rows-length g (turn_factors t.cosine t.sine t.phase) c a b m xs
 
 -- what is finite after it was finite before
 pub applied_back : (d : Decision) (c a b m : ℕ) (ys : List Float) → a + m ≤ b → b + m ≤ c → Fine c (applied plain d c a b m ys) → Fine c ys
 unfolding applied
-applied_back Leave c a b m ys ha hb h = h
-applied_back (Turn cosine sine phase) c a b m ys ha hb h = rows_back (turn_factors cosine sine phase) c a b m ys ha hb h
+applied_back None c a b m ys ha hb h = h
+applied_back (Some t) c a b m ys ha hb h = rows_back (turn_factors t.cosine t.sine t.phase) c a b m ys ha hb h
 
 -- decisions that are alike leave matrices alike, one exactly and the other plainly, where what the plain one leaves is finite
 pub applied-alike : {d d' : Decision} (c a b m : ℕ) (xs ys : List Float) → a + m ≤ b → b + m ≤ c → AlikeDecisions d d' → Fine c (applied plain d' c a b m ys) → Alike c xs ys

@@ -21,8 +21,7 @@ use Rattle.exact_roots.specs.Exact.{exact_root, all_exact}
 use Rattle.zero_signs.proofs.Bare.{bare, is_zero, bare-same}
 use Rattle.zero_signs.proofs.Cells.{like-norm}
 use Rattle.svd_gram.specs.Gram.{gram_to}
-use Rattle.svd_pair.specs.declared.Decision.{Decision}
-use Rattle.svd_pair.specs.Decisions.{decision_of}
+use Rattle.svd_pair.specs.Decisions.{Decision, decision_of}
 use Rattle.svd_pair.specs.Turns.{Making, exact, applied}
 use Rattle.svd_pair.specs.Plain.{plain}
 use Rattle.svd_pair.proofs.TurnsLaws.{applied-nothing}

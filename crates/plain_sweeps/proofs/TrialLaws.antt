@@ -1,6 +1,7 @@
 -- Laws of what `specs/Trial.antt` defines. Assumes nothing.
 use mathlib.Core.Path.{◌≡◌, refl, ap, subst, ◌∙◌}
-use mathlib.Core.Bool.{Bool, true, false, false≢true}
+use mathlib.Core.Bool.{true, false}
+use Rattle.std.proofs.Common.{None, Some}
 use mathlib.Core.List.{List, ◌++◌}
 use Prim.Native.Nat.{ℕ, zero, suc, ◌*◌}
 use lib.ListN.{length, take, drop, length-set}
@@ -50,10 +51,9 @@ swept-exactly rows side front rest v s {work} l h =
 behind : (w : ℕ) (old copied front : List Float) → CopiedBehind w old copied → length front ≡ w → take w (drop w (front ++ drop w copied)) ≡ take w old
 behind w old copied front h l = ap (take w) (drop_at front (drop w copied) w l) ∙ h.behind
 
-pub tried-unclean : (rows side : ℕ) (old copied front v : List Float) (s : Sweeps) → CopiedBehind (2 * (side * rows)) old copied → length front ≡ 2 * (side * rows)
-    → Tried rows side (take (2 * (side * rows)) old) false s (front ++ drop (2 * (side * rows)) copied) v
-tried-unclean rows side old copied front v s h l =
-    record { done = λ e. absurd (false≢true e); kept = λ e. behind (2 * (side * rows)) old copied front h l }
+pub tried-unclean : (rows side : ℕ) (old copied front v : List Float) → CopiedBehind (2 * (side * rows)) old copied → length front ≡ 2 * (side * rows)
+    → Tried rows side (take (2 * (side * rows)) old) None (front ++ drop (2 * (side * rows)) copied) v
+tried-unclean rows side old copied front v h l = record { done = tt; kept = λ _. behind (2 * (side * rows)) old copied front h l }
 
 -- a clean trial is the sweeps
 trial-is : (rows side : ℕ) (work front v : List Float) (s : Sweeps) → length work ≡ 2 * (side * rows)
@@ -65,18 +65,18 @@ trial-is rows side work front v s l h f g =
     let u : v ≡ (settled_with plain rows side work (unit_planes side)).v = ap (λ (x : State). x.v) h in
     h ∙ plain-is-exact rows side work (unit_planes side) l (unit-length side) (subst EachClean w f) (subst EachClean u g)
 
-pub tried-clean : (rows side : ℕ) (old copied front v : List Float) (s : Sweeps) (b : Bool) → length (take (2 * (side * rows)) copied) ≡ 2 * (side * rows)
+pub tried-clean : (rows side : ℕ) (old copied front v : List Float) (s : Sweeps) → length (take (2 * (side * rows)) copied) ≡ 2 * (side * rows)
     → CopiedBehind (2 * (side * rows)) old copied → length front ≡ 2 * (side * rows)
     → state front v s ≡ settled_with (making true) rows side (take (2 * (side * rows)) copied) (unit_planes side)
-    → EachClean (take (2 * (side * rows)) (front ++ drop (2 * (side * rows)) copied)) → (b ≡ true → EachClean v)
-    → Tried rows side (take (2 * (side * rows)) old) b s (front ++ drop (2 * (side * rows)) copied) v
-tried-clean rows side old copied front v s b lc c l h f g =
+    → EachClean (take (2 * (side * rows)) (front ++ drop (2 * (side * rows)) copied)) → EachClean v
+    → Tried rows side (take (2 * (side * rows)) old) (Some s) (front ++ drop (2 * (side * rows)) copied) v
+tried-clean rows side old copied front v s lc c l h f g =
     let w = 2 * (side * rows) in
     let t : take w (front ++ drop w copied) ≡ front = take_at front (drop w copied) w l in
     record {
-      done = λ e. record {
-        is = ap (λ (x : List Float). state x v s) t ∙ trial-is rows side (take w copied) front v s lc h (subst EachClean t f) (g e)
+      done = record {
+        is = ap (λ (x : List Float). state x v s) t ∙ trial-is rows side (take w copied) front v s lc h (subst EachClean t f) g
             ∙ ap (λ (x : List Float). settled rows side x (unit_planes side)) c.front;
       };
-      kept = λ e. behind w old copied front c l;
+      kept = λ e. cc;
     }

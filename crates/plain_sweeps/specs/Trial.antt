@@ -1,5 +1,5 @@
 -- What a trial of the plain sweeps leaves. Definitions only.
-use Rattle.std.specs.Prelude.{◌≡◌, Bool, true, false, List, ℕ, ◌*◌, ◌≤◌, take, drop, Float}
+use Rattle.std.specs.Prelude.{◌≡◌, Option, None, IfSome, List, ℕ, ◌*◌, ◌≤◌, take, drop, Float}
 use Rattle.sweeps.specs.declared.Sweeps.{Sweeps}
 use Rattle.sweeps.specs.Sweeping.{state}
 use Rattle.svd_load.specs.Loading.{unit_planes}
@@ -17,6 +17,6 @@ pub record Swept (rows side : ℕ) (work : List Float) (s : Sweeps) (scratch v :
   pub is : state (take (2 * (side * rows)) scratch) v s ≡ settled rows side work (unit_planes side)
 
 -- a clean trial is the sweeps; after another one the work matrix stands behind what is left of it
-pub record Tried (rows side : ℕ) (work : List Float) (clean : Bool) (s : Sweeps) (scratch v : List Float) : Type 0 where
-  pub done : clean ≡ true → Swept rows side work s scratch v
-  pub kept : clean ≡ false → take (2 * (side * rows)) (drop (2 * (side * rows)) scratch) ≡ work
+pub record Tried (rows side : ℕ) (work : List Float) (trial : Option Sweeps) (scratch v : List Float) : Type 0 where
+  pub done : IfSome trial (λ s. Swept rows side work s scratch v)
+  pub kept : trial ≡ None → take (2 * (side * rows)) (drop (2 * (side * rows)) scratch) ≡ work

@@ -32,39 +32,23 @@ fn exactly(scratch: &mut [f64], v: &mut [f64], rows: usize, side: usize) -> Swee
     from_unit(&mut scratch[..w], v, rows, side, false)
 }
 
-// How the plain sweeps went, and whether they are 01's.
-#[derive(Clone, Copy)]
-struct Trial {
-    clean: bool,
-    sweeps: Sweeps,
-}
-
-// The plain sweeps of the work matrix at the front of scratch, which is kept behind it.
-fn attempt(scratch: &mut [f64], v: &mut [f64], rows: usize, side: usize) -> Trial
+// The plain sweeps of the work matrix at the front of scratch, which is kept behind it: how they went, where they are 01's.
+fn attempt(scratch: &mut [f64], v: &mut [f64], rows: usize, side: usize) -> Option<Sweeps>
     requires { PlainRoom rows side (length scratch.old) (length v.old) }
-    ensures { Tried rows side (take (2 * (side * rows)) scratch.old) result.clean result.sweeps scratch.new v.new }
+    ensures { Tried rows side (take (2 * (side * rows)) scratch.old) result scratch.new v.new }
 {
     let w = 2 * (side * rows);
     clean_numbers::copy_behind(scratch, w);
     let sweeps = from_unit(&mut scratch[..w], v, rows, side, true);
-    if clean_numbers::all_clean(&scratch[..w]) {
-        return Trial {
-            clean: clean_numbers::all_clean(v),
-            sweeps,
-        };
+    if clean_numbers::all_clean(&scratch[..w]) && clean_numbers::all_clean(v) {
+        return Some(sweeps);
     }
-    Trial {
-        clean: false,
-        sweeps,
-    }
+    None
 }
 
 // Whether a trial is worth its while: many columns, and no zero to begin with. Nothing is promised.
 fn promising(work: &[f64], side: usize) -> bool {
-    if side < FEWEST {
-        return false;
-    }
-    clean_numbers::all_clean(work)
+    side >= FEWEST && clean_numbers::all_clean(work)
 }
 
 // The sweeps of the work matrix at the front of scratch, with V from the unit matrix on.
@@ -76,9 +60,8 @@ pub fn sweep(scratch: &mut [f64], v: &mut [f64], rows: usize, side: usize) -> Sw
     if !promising(&scratch[..w], side) {
         return exactly(scratch, v, rows, side);
     }
-    let trial = attempt(scratch, v, rows, side);
-    if trial.clean {
-        return trial.sweeps;
+    if let Some(sweeps) = attempt(scratch, v, rows, side) {
+        return sweeps;
     }
     clean_numbers::copy_back(scratch, w);
     exactly(scratch, v, rows, side)

@@ -1,7 +1,6 @@
 -- A call on a plan that is lent as thirty numbers: the answer, and the numbers at the end. Assumes nothing.
 use Rattle.std.specs.Prelude.{◌≡◌, List, ℕ}
-use Rattle.answers.specs.declared.Answer.{Answer}
-use Rattle.answers.specs.Paper.{paper, if_done}
+use Rattle.answers.specs.Paper.{Answer, paper, if_done}
 use Rattle.cut_sides.specs.Sides.{cut_refusal}
 use Rattle.plans.specs.Plans.{plan_of}
 use Rattle.plan_changes.specs.Changes.{Change, change_reply, changed}

@@ -5,9 +5,11 @@ use mathlib.Core.Logic.{⊎_elim}
 use mathlib.Core.List.{List, [], ◌∷◌, ◌++◌}
 use Prim.Native.Nat.{ℕ, zero, suc, ◌≤◌}
 use native.Mathlib.Omega.{arith}
-use Rattle.answers.specs.Paper.{Reply, if_done}
+use Rattle.std.specs.Prelude.{Result}
+use Rattle.answers.specs.declared.Refusal.{Refusal}
+use Rattle.answers.specs.Paper.{Reply, given, if_done}
 use Rattle.answers.proofs.PaperLaws.{refuse-done, and_then-done, done-new}
-use Rattle.answers.proofs.Theorems.{paper-one}
+use Rattle.answers.proofs.Theorems.{result-one}
 use Rattle.qubits.specs.Lists.{stands}
 use Rattle.qubits.specs.Spread.{other_qubits, unless}
 use Rattle.cut_sides.specs.Sides.{cut_refusal}
@@ -16,7 +18,6 @@ use Rattle.cut_naming.proofs.ReorderedLaws.{either}
 use Rattle.cut_naming.proofs.Others.{stands-named, stands-other}
 use Rattle.cut_naming.proofs.Theorems as naming
 use Rattle.plans.specs.declared.Plan.{Plan}
-use Rattle.plans.specs.declared.Planned.{Planned}
 use Rattle.plans.specs.Plans.{plan_of, list_of, made, made_reply}
 use Rattle.plans.proofs.PlanLaws.{made-accepted, made-plan, list-plan}
 use Rattle.plan_changes.specs.Changes.{Change, adding, dropping, switching, changed_list, unlisted, change_reply, changed, Changed, changes, rising}
@@ -24,19 +25,19 @@ use Rattle.plan_changes.proofs.ChangeLaws.{reply-list}
 
 -- ---- one outcome
 
-one : (c : Change) (p : Plan) (r r' : Planned) → Changed c p r → Changed c p r' → (r.answer ≡ r'.answer) × (r.plan ≡ r'.plan)
-one c p r r' a b = (paper-one r.answer r'.answer (a.answer ∙ sym b.answer), a.plan ∙ sym b.plan)
+one : (c : Change) (p : Plan) (r r' : Result Plan Refusal) → Changed c p r → Changed c p r' → r ≡ r'
+one c p r r' a b = result-one r r' (a.answer ∙ sym b.answer) (λ x y e f. sym (ap (given p) e) ∙ a.plan ∙ sym b.plan ∙ ap (given p) f)
 
--- Only one answer and one plan meet the contract of `plan_add`.
-pub plan-add-one : (p : Plan) (q : ℕ) (r r' : Planned) → Changed (adding q) p r → Changed (adding q) p r' → (r.answer ≡ r'.answer) × (r.plan ≡ r'.plan)
+-- Only one outcome meets the contract of `plan_add`.
+pub plan-add-one : (p : Plan) (q : ℕ) (r r' : Result Plan Refusal) → Changed (adding q) p r → Changed (adding q) p r' → r ≡ r'
 plan-add-one p q = one (adding q) p
 
--- Only one answer and one plan meet the contract of `plan_drop`.
-pub plan-drop-one : (p : Plan) (q : ℕ) (r r' : Planned) → Changed (dropping q) p r → Changed (dropping q) p r' → (r.answer ≡ r'.answer) × (r.plan ≡ r'.plan)
+-- Only one outcome meets the contract of `plan_drop`.
+pub plan-drop-one : (p : Plan) (q : ℕ) (r r' : Result Plan Refusal) → Changed (dropping q) p r → Changed (dropping q) p r' → r ≡ r'
 plan-drop-one p q = one (dropping q) p
 
--- Only one answer and one plan meet the contract of `plan_switch`.
-pub plan-switch-one : (p : Plan) (r r' : Planned) → Changed switching p r → Changed switching p r' → (r.answer ≡ r'.answer) × (r.plan ≡ r'.plan)
+-- Only one outcome meets the contract of `plan_switch`.
+pub plan-switch-one : (p : Plan) (r r' : Result Plan Refusal) → Changed switching p r → Changed switching p r' → r ≡ r'
 plan-switch-one p = one switching p
 
 -- ---- any changes

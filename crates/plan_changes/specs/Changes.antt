@@ -1,12 +1,12 @@
 -- The three changes of a plan: what each answers, the list that it leaves, and the plan at its end. Assumes nothing.
-use Rattle.std.specs.Prelude.{not, ◌≡◌, List, [], ◌∷◌, ◌++◌, ℕ, zero, suc}
-use Rattle.answers.specs.Paper.{Reply, paper, refuse, and_then, if_done}
+use Rattle.std.specs.Prelude.{not, ◌≡◌, List, [], ◌∷◌, ◌++◌, ℕ, zero, suc, Result}
+use Rattle.answers.specs.declared.Refusal.{Refusal}
+use Rattle.answers.specs.Paper.{Reply, paper, given, refuse, and_then, if_done}
 use Rattle.qubits.specs.Lists.{stands}
 use Rattle.qubits.specs.Spread.{other_qubits, unless}
 use Rattle.cut_sides.specs.Sides.{cut_refusal}
 use Rattle.plan_lists.specs.Padded.{without}
 use Rattle.plans.specs.declared.Plan.{Plan}
-use Rattle.plans.specs.declared.Planned.{Planned}
 use Rattle.plans.specs.Plans.{plan_of, list_of, made_reply}
 
 -- a qubit added, a qubit dropped, the other side named
@@ -34,10 +34,10 @@ change_reply c p = and_then (made_reply p) (unlisted c p (cut_refusal (changed_l
 unfoldable pub changed : Change → Plan → Plan
 changed c p = if_done (change_reply c p).0 (plan_of (changed_list c p) p.n) p
 
--- a call of a change
-pub record Changed (c : Change) (p : Plan) (r : Planned) : Type 0 where
-  pub answer : paper r.answer ≡ change_reply c p
-  pub plan : r.plan ≡ changed c p
+-- a call of a change: the answer, and the plan, which on a refusal is the caller's
+pub record Changed (c : Change) (p : Plan) (r : Result Plan Refusal) : Type 0 where
+  pub answer : paper r ≡ change_reply c p
+  pub plan : given p r ≡ changed c p
 
 -- changes one after the other
 unfoldable pub changes : List Change → Plan → Plan

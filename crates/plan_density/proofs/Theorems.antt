@@ -7,8 +7,7 @@ use Prim.Native.Nat.{ℕ, ◌*◌, ◌^◌, ◌<◌}
 use borrow.Author.Tests.{not-false}
 use lib.Ieee.{Float}
 use lib.ListN.{length}
-use Rattle.answers.specs.declared.Answer.{Answer}
-use Rattle.answers.specs.Paper.{Reply, paper, done}
+use Rattle.answers.specs.Paper.{Answer, Reply, paper, done}
 use Rattle.answers.proofs.PaperLaws.{refuse-done, and_then-done}
 use Rattle.answers.proofs.Theorems.{paper-one}
 use Rattle.complex.specs.Cells.{written}

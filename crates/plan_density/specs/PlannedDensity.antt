@@ -1,7 +1,6 @@
 -- The density of a plan's list: the answer, and what a call leaves behind. Assumes nothing.
 use Rattle.std.specs.Prelude.{◌≡◌, List, ℕ, ◌*◌, ◌^◌, Float, length}
-use Rattle.answers.specs.declared.Answer.{Answer}
-use Rattle.answers.specs.Paper.{Reply, paper, and_then, if_done}
+use Rattle.answers.specs.Paper.{Answer, Reply, paper, and_then, if_done}
 use Rattle.complex.specs.Zeros.{zeroed}
 use Rattle.densities.specs.Density.{density_answer, density_list}
 use Rattle.plans.specs.declared.Plan.{Plan}

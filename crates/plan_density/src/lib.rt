@@ -7,7 +7,7 @@ ghost use Rattle.qubits.specs.Spread.{named};
 ghost use Rattle.plans.specs.Plans.{list_of, made};
 ghost use Rattle.plan_density.specs.PlannedDensity.{PlannedDensity};
 
-use answers::Answer;
+use answers::Refusal;
 use plans::Plan;
 
 // The mask of the qubits that a plan's list does not name: it is kept.
@@ -16,10 +16,7 @@ fn traced_mask(plan: Plan) -> usize
     ensures { result ≡ others plan.n (named (list_of plan)) }
 {
     let cut = plans::kept_sides(plan);
-    if cut.named {
-        return cut.column;
-    }
-    cut.row
+    if cut.named { cut.column } else { cut.row }
 }
 
 // 1 where no list makes the plan or it names more than 6 qubits; else the call of its list under cap 13, over the mask that the plan
@@ -29,17 +26,12 @@ pub fn planned_reduced_density(
     plan: Plan,
     out: &mut [f64],
     scratch: &mut [f64],
-) -> Answer
+) -> Result<(), Refusal>
     ensures { PlannedDensity state.now plan out.old scratch.old result out.new scratch.new }
 {
-    if !plans::is_made(plan) {
-        return Answer::Size;
-    }
-    let k = plan.k;
-    if 6 < k {
-        return Answer::Size;
+    if !plans::is_made(plan) || 6 < plan.k {
+        return Err(Refusal::Size);
     }
     let rest = traced_mask(plan);
-    let list = plan.named;
-    densities::density_over(state, plan.n, &list[..k], rest, out, scratch)
+    densities::density_over(state, plan.n, &plan.named[..plan.k], rest, out, scratch)
 }

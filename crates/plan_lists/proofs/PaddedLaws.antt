@@ -2,13 +2,14 @@
 use mathlib.Core.Path.{◌≡◌, refl, sym, ap, ap₂, ◌∙◌}
 use mathlib.Core.Bool.{Bool, true, false, cond, ◌&&◌, true≢false}
 use mathlib.Core.List.{List, [], ◌∷◌, ◌++◌, append-nil}
-use Prim.Native.Nat.{ℕ, suc, ◌+◌, ◌-◌, ◌≤◌, ◌<◌}
+use Prim.Native.Nat.{ℕ, suc, ◌+◌, ◌≤◌, ◌<◌}
 use native.Mathlib.Numerals.{add-one}
 use native.Mathlib.Omega.{arith}
 use borrow.Author.Tests.{eqb-true, eq-eqb, ne_eqb}
 use lib.Dec.{eqb}
-use lib.ListN.{length, set, take, drop, get_or, replicate, length-append, length-replicate, drop_of_length-le}
-use lib.Seq.{take-suc, take_at, take-length, drop-cons, length-take-le}
+use lib.Pointwise.{pointwise}
+use lib.ListN.{length, set, take, drop, get_or, replicate, length-append, length-replicate}
+use lib.Seq.{take-suc, take_at}
 use Rattle.qubit_offsets.proofs.CallLaws.{length-fronted}
 use Rattle.cut_sides.proofs.SideLaws.{fronted-more}
 use Rattle.plan_lists.specs.Padded.{padded, without, same_list}
@@ -24,34 +25,6 @@ front-padded l = take_at l (drop (length l) (replicate 12 0)) (length l) refl
 
 pub padded-more : (v : List ℕ) (x : ℕ) → length v < 12 → set (padded v) (length v) x ≡ padded (v ++ x ∷ [])
 padded-more v x h = fronted-more v (replicate 12 0) x (rw (length-replicate {A = ℕ} 12 0) h)
-
--- ---- the loop that pads: the first i numbers stand in their places
-
-pub record Padding (l : List ℕ) (i : ℕ) (out : List ℕ) : Type 0 where
-  pub more : i ≤ length l
-  pub front : out ≡ padded (take i l)
-
-module _ (l : List ℕ) (short : length l ≤ 12) where
-  pub pad-begin : Padding l 0 (replicate 12 0)
-  pad-begin = record { more = omega arith; front = refl }
-
-  module _ (i : ℕ) (out : List ℕ) (p : Padding l i out) where
-    pub pad-long : length out ≡ 12
-    pad-long = ap length p.front ∙ length-padded (take i l) (rw (length-take-le i l p.more) (omega (arith, p.more)))
-
-    pub pad-more : i < length l → Padding l (i + 1) (set out i (get_or l i 0))
-    pad-more h =
-        let k : length (take i l) ≡ i = length-take-le i l p.more in
-        let g : length (take i l) < 12 = rw k (omega arith) in
-        let m : set (padded (take i l)) i (get_or l i 0) ≡ padded (take i l ++ get_or l i 0 ∷ [])
-        = ap (λ (j : ℕ). set (padded (take i l)) j (get_or l i 0)) (sym k) ∙ padded-more (take i l) (get_or l i 0) g in
-        record {
-          more = omega arith;
-          front = ap (λ (o : List ℕ). set o i (get_or l i 0)) p.front ∙ m ∙ ap padded (sym (take-suc l i 0 h) ∙ ap (λ (j : ℕ). take j l) (sym (add-one i)));
-        }
-
-    pub pad-end : length l ≤ i → out ≡ padded l
-    pad-end h = let e : i ≡ length l = omega (arith, p.more) in p.front ∙ ap padded (ap (λ (j : ℕ). take j l) e ∙ take-length l)
 
 -- ---- a qubit left out
 
@@ -89,30 +62,26 @@ without-short q (x ∷ l) =
 
 pub record Leaving (l : List ℕ) (q i count : ℕ) (out : List ℕ) : Type 0 where
   pub more : i ≤ length l
+  pub low : count ≤ i
   pub counted : count ≡ length (without q (take i l))
   pub front : out ≡ padded (without q (take i l))
 
 module _ (l : List ℕ) (q : ℕ) (short : length l ≤ 12) where
   pub leave-begin : Leaving l q 0 0 (replicate 12 0)
   unfolding without
-  leave-begin = record { more = omega arith; counted = refl; front = refl }
+  leave-begin = record { more = omega arith; low = omega arith; counted = refl; front = refl }
 
   module _ (i count : ℕ) (out : List ℕ) (p : Leaving l q i count out) where
-    pub leave_low : count ≤ i
-    leave_low = omega (arith, p.counted, without-short q (take i l), length-take-le i l p.more)
-
-    pub leave-long : length out ≡ 12
-    leave-long = ap length p.front ∙ length-padded (without q (take i l)) (omega (arith, leave_low, p.counted, p.more))
-
     next : i < length l → without q (take (i + 1) l) ≡ without q (take i l) ++ without q (get_or l i 0 ∷ [])
     next h = ap (λ (j : ℕ). without q (take j l)) (add-one i) ∙ ap (without q) (take-suc l i 0 h) ∙ without-append q (take i l) (get_or l i 0 ∷ [])
 
     pub leave-keep : i < length l → (get_or l i 0 ≡ q → ⊥) → Leaving l q (i + 1) (count + 1) (set out count (get_or l i 0))
     leave-keep h d =
         let e : without q (take (i + 1) l) ≡ without q (take i l) ++ get_or l i 0 ∷ [] = next h ∙ ap (λ (b : List ℕ). without q (take i l) ++ b) (without_other q (get_or l i 0) d) in
-        let g : length (without q (take i l)) < 12 = omega (arith, p.counted, leave_low) in
+        let g : length (without q (take i l)) < 12 = omega (arith, p.counted, p.low) in
         record {
           more = omega arith;
+          low = omega (arith, p.low);
           counted = ap (λ (x : ℕ). x + 1) p.counted ∙ sym (ap length e ∙ length-append (without q (take i l)) (get_or l i 0 ∷ []));
           front =
               ap₂ (λ (o : List ℕ) (j : ℕ). set o j (get_or l i 0)) p.front p.counted
@@ -123,12 +92,7 @@ module _ (l : List ℕ) (q : ℕ) (short : length l ≤ 12) where
     pub leave-skip : i < length l → get_or l i 0 ≡ q → Leaving l q (i + 1) count out
     leave-skip h d =
         let e : without q (take (i + 1) l) ≡ without q (take i l) = next h ∙ ap (λ (b : List ℕ). without q (take i l) ++ b) (without-self q (get_or l i 0) d) ∙ append-nil (without q (take i l)) in
-        record { more = omega arith; counted = rw e p.counted; front = rw e p.front }
-
-    pub leave-end : length l ≤ i → (out ≡ padded (without q l)) × (count ≡ length (without q l))
-    leave-end h =
-        let e : take i l ≡ l = (let f : i ≡ length l = omega (arith, p.more) in ap (λ (j : ℕ). take j l) f ∙ take-length l) in
-        (p.front ∙ ap (λ (b : List ℕ). padded (without q b)) e, p.counted ∙ ap (λ (b : List ℕ). length (without q b)) e)
+        record { more = omega arith; low = omega (arith, p.low); counted = rw e p.counted; front = rw e p.front }
 
 -- ---- the same list
 
@@ -152,42 +116,10 @@ unfolding same_list
 is_same [] = refl
 is_same (x ∷ l) = rw (eq-eqb x x refl) (is_same l)
 
--- ---- the loop that compares: the two are the same where what is left of them is
-
-pub record Comparing (a b : List ℕ) (i : ℕ) : Type 0 where
-  pub more : i ≤ 12
-  pub first : length a ≡ 12
-  pub second : length b ≡ 12
-  pub left : same_list a b ≡ same_list (drop i a) (drop i b)
-
-module _ (a b : List ℕ) where
-  pub compare-begin : length a ≡ 12 → length b ≡ 12 → Comparing a b 0
-  compare-begin e f = record { more = omega arith; first = e; second = f; left = refl }
-
-  module _ (i : ℕ) (c : Comparing a b i) where
-    module _ (h : i < 12) where
-      cons-a : drop i a ≡ get_or a i 0 ∷ drop (suc i) a
-      cons-a = drop-cons a i 0 (omega (arith, c.first))
-
-      cons-b : drop i b ≡ get_or b i 0 ∷ drop (suc i) b
-      cons-b = drop-cons b i 0 (omega (arith, c.second))
-
-      pub compare-differs : (get_or a i 0 ≡ get_or b i 0 → ⊥) → false ≡ same_list a b
-      unfolding same_list
-      compare-differs d = sym (c.left ∙ rw (cons-a, cons-b, ne_eqb (get_or a i 0) (get_or b i 0) d))
-
-      pub compare-more : get_or a i 0 ≡ get_or b i 0 → Comparing a b (i + 1)
-      unfolding same_list
-      compare-more e = record {
-        more = omega arith;
-        first = c.first;
-        second = c.second;
-        left = c.left ∙ rw (add-one i, cons-a, cons-b, eq-eqb (get_or a i 0) (get_or b i 0) e);
-      }
-
-    pub compare-end : 12 ≤ i → true ≡ same_list a b
-    unfolding same_list
-    compare-end h =
-        let u : length a ≤ i = omega (arith, c.first) in
-        let v : length b ≤ i = omega (arith, c.second) in
-        sym (c.left ∙ rw (drop_of_length-le a u, drop_of_length-le b v))
+-- the library's comparison of two arrays
+pub pointwise-same : (a b : List ℕ) → pointwise eqb a b ≡ same_list a b
+unfolding same_list
+pointwise-same [] [] = refl
+pointwise-same [] (y ∷ m) = refl
+pointwise-same (x ∷ l) [] = refl
+pointwise-same (x ∷ l) (y ∷ m) = ap (λ (b : Bool). eqb x y && b) (pointwise-same l m)

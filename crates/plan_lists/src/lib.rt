@@ -4,7 +4,7 @@
 ghost use Rattle.std.specs.Prelude.{◌≡◌, ◌≤◌, length};
 ghost use Rattle.qubits.specs.Spread.{other_qubits};
 ghost use Rattle.cut_sides.specs.Sides.{Parted};
-ghost use Rattle.plan_lists.specs.Padded.{padded, without, same_list};
+ghost use Rattle.plan_lists.specs.Padded.{padded, without};
 
 // The list, padded.
 pub fn pad(list: &[usize]) -> [usize; 12]
@@ -12,11 +12,7 @@ pub fn pad(list: &[usize]) -> [usize; 12]
     ensures { result ≡ padded list.now }
 {
     let mut out: [usize; 12] = [0; 12];
-    let mut i: usize = 0;
-    while i < list.len() {
-        out[i] = list[i];
-        i += 1;
-    }
+    out[..list.len()].copy_from_slice(list);
     out
 }
 
@@ -44,28 +40,11 @@ pub fn leave_out(list: &[usize], q: usize) -> Front
 {
     let mut numbers: [usize; 12] = [0; 12];
     let mut count: usize = 0;
-    let mut i: usize = 0;
-    while i < list.len() {
-        let x = list[i];
-        if x != q {
-            numbers[count] = x;
+    for x in list {
+        if *x != q {
+            numbers[count] = *x;
             count += 1;
         }
-        i += 1;
     }
     Front { numbers, count }
-}
-
-// The two have the same number at each of the twelve places.
-pub fn same_lists(a: [usize; 12], b: [usize; 12]) -> bool
-    ensures { result ≡ same_list a b }
-{
-    let mut i: usize = 0;
-    while i < 12 {
-        if a[i] != b[i] {
-            return false;
-        }
-        i += 1;
-    }
-    true
 }

@@ -1,10 +1,9 @@
--- The planned cut at each way out: refused as no list's plan, or its list's call. Assumes nothing.
-use mathlib.Core.Bool.{true, false}
+-- The planned cut of a made plan is its list's call. Assumes nothing.
+use mathlib.Core.Bool.{true}
 use mathlib.Core.Path.{◌≡◌}
 use mathlib.Core.List.{List}
 use lib.Ieee.{Float}
-use Rattle.answers.specs.declared.Answer.{Answer}
-use Rattle.answers.specs.declared.Answer.TheVariants.{Size}
+use Rattle.answers.specs.Paper.{Answer}
 use Rattle.cut_sides.specs.declared.Sides.{Sides}
 use Rattle.cut_sides.specs.Sides.{sides_of}
 use Rattle.cuts.specs.Cut.{CutMatrix, CutOver}
@@ -15,9 +14,6 @@ use Rattle.plans.proofs.PlanLaws.{made-accepted}
 use Rattle.plan_matrix.specs.PlannedCut.{PlannedCut}
 
 module _ (s : List Float) (p : Plan) (o : List Float) where
-  pub not_made : made p ≡ false → PlannedCut s p o Size o
-  not_made h = record { answer = rw h; cells = rw h }
-
   module _ (h : made p ≡ true) (r : Answer) (end : List Float) where
     -- a made plan's call is its list's
     pub is_cut : PlannedCut s p o r end → CutMatrix s p.n (list_of p) 13 o r end

@@ -3,7 +3,7 @@ use mathlib.Core.Bool.{true}
 use mathlib.Core.Path.{◌≡◌, sym, ◌∙◌}
 use mathlib.Core.List.{List}
 use lib.Ieee.{Float}
-use Rattle.answers.specs.declared.Answer.{Answer}
+use Rattle.answers.specs.Paper.{Answer}
 use Rattle.answers.proofs.Theorems.{paper-one}
 use Rattle.cuts.specs.Cut.{CutMatrix}
 use Rattle.plans.specs.declared.Plan.{Plan}

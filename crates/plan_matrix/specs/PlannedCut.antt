@@ -1,7 +1,6 @@
 -- The cut matrix of a plan: its answer, and what a call leaves behind. Assumes nothing.
 use Rattle.std.specs.Prelude.{◌≡◌, List, ℕ, ◌^◌, Float, length}
-use Rattle.answers.specs.declared.Answer.{Answer}
-use Rattle.answers.specs.Paper.{Reply, paper, and_then, if_done}
+use Rattle.answers.specs.Paper.{Answer, Reply, paper, and_then, if_done}
 use Rattle.complex.specs.Cells.{written}
 use Rattle.cuts.specs.Cut.{cut_answer, cut_cell}
 use Rattle.plans.specs.declared.Plan.{Plan}

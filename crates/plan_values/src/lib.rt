@@ -3,7 +3,7 @@
 
 ghost use Rattle.plan_values.specs.PlannedValues.{PlannedValues};
 
-use answers::Answer;
+use answers::Refusal;
 use cut_values::CutCounted;
 use plans::Plan;
 
@@ -13,11 +13,11 @@ pub fn planned_schmidt_values(
     plan: Plan,
     out: &mut [f64],
     scratch: &mut [f64],
-) -> CutCounted
+) -> Result<CutCounted, Refusal>
     ensures { PlannedValues state.now plan out.old scratch.old result out.new scratch.new }
 {
     if !plans::is_made(plan) {
-        return cut_values::refused(Answer::Size);
+        return Err(Refusal::Size);
     }
     let cut = plans::kept_sides(plan);
     cut_values::values_over(state, plan.n, cut, out, scratch)

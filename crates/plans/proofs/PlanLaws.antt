@@ -1,27 +1,25 @@
 -- Laws of plans: two with the same numbers are one, what a made plan is, and that a list's plan is made. Assumes nothing.
 use mathlib.Core.Path.{◌≡◌, refl, sym, ap, ◌∙◌}
 use mathlib.Core.Bool.{Bool, true, false, ◌&&◌, and-false}
-use mathlib.Core.List.{List, map}
+use mathlib.Core.List.{List}
 use Prim.Native.Nat.{ℕ, ◌+◌, ◌-◌, ◌≤◌, ◌<◌, min}
 use native.Mathlib.Omega.{arith}
 use borrow.Author.Tests.{eqb-true, eq-eqb, ne_eqb, le-leb, lt-leb, leb-true, ltb-false, le-ltb}
 use lib.Dec.{eqb, leb, ltb}
-use lib.ListN.{length, length-map}
-use Rattle.answers.specs.Paper.{Reply, paper, done, refuse, and_then}
-use Rattle.answers.proofs.PaperLaws.{refuse-done, and_then-done, done-new, done-old}
+use lib.Pointwise.{pointwise}
+use lib.ListN.{length}
+use Rattle.std.specs.Prelude.{Result}
+use Rattle.answers.specs.declared.Refusal.{Refusal}
+use Rattle.answers.specs.Paper.{Reply, given, done, refuse, and_then}
+use Rattle.answers.proofs.PaperLaws.{refuse-done, and_then-done, done-new}
 use Rattle.qubits.specs.Lists.{subsystem}
 use Rattle.cut_sides.specs.declared.Sides.{Sides}
-use Rattle.cut_sides.specs.Sides.{cut_sizes, cut_refusal, Parted, sides_of, side_list}
+use Rattle.cut_sides.specs.Sides.{cut_sizes, cut_refusal, Parted, sides_of}
 use Rattle.cut_sides.proofs.SideLaws.{is-parted}
-use Rattle.plan_lists.specs.Padded.{padded, same_list}
-use Rattle.plan_lists.proofs.PaddedLaws.{first_of, second-of, same-is, is_same, front-padded}
+use Rattle.plan_lists.specs.Padded.{same_list}
+use Rattle.plan_lists.proofs.PaddedLaws.{first_of, second-of, same-is, is_same, pointwise-same, front-padded}
 use Rattle.plans.specs.declared.Plan.{Plan}
-use Rattle.plans.specs.declared.Planned.{Planned}
 use Rattle.plans.specs.Plans.{plan_of, no_plan, CutPlan, list_of, same_plan, made}
-
--- an array that a plan holds has its length, which the prover tells of it as a value
-pub twelve : (l : List ℕ) → length (map (λ (x : ℕ). x) l) ≡ 12 → length l ≡ 12
-twelve l e = sym (length-map l (λ (x : ℕ). x)) ∙ e
 
 -- ---- two plans with the same numbers
 
@@ -62,6 +60,14 @@ is-same-plan a =
       eq-eqb a.columns a.columns refl,
       is_same a.named,
     ) (is_same a.smaller)
+
+-- how `==` compares two plans
+pub same-derived : (a b : Plan)
+    → (eqb a.n b.n && (eqb a.k b.k && (eqb a.row_mask b.row_mask && (eqb a.column_mask b.column_mask
+    && (eqb a.rows b.rows && (eqb a.columns b.columns && (pointwise eqb a.named b.named && pointwise eqb a.smaller b.smaller)))))))
+    ≡ same_plan a b
+unfolding same_plan
+same-derived a b = rw (pointwise-same a.named b.named, pointwise-same a.smaller b.smaller)
 
 -- ---- what a made plan is
 
@@ -129,26 +135,9 @@ cap-wider l n cap e =
     let s : cut_sizes n 13 ≡ done = rw (b.0, c.0, w) in
     ap (λ (x : Reply). (and_then x (subsystem n l)).0) s ∙ a.1
 
--- ---- the call that makes a plan, at its two ways out
-
-module _ (l : List ℕ) (n cap : ℕ) (r : Planned) (e : paper r.answer ≡ cut_refusal l n cap) where
-  pub plan-refused : ((paper r.answer).0 ≡ 0 → ⊥) → r.plan ≡ no_plan → CutPlan l n cap r
-  plan-refused h f = record { answer = e; plan = f ∙ done-old _ _ no_plan (λ z. h (ap (λ (x : Reply). x.0) e ∙ z)) }
-
-  pub plan-made : (cut_refusal l n cap).0 ≡ 0 → r.plan ≡ plan_of l n → CutPlan l n cap r
-  plan-made h f = record { answer = e; plan = f ∙ done-new _ _ no_plan h }
-
--- what the call gave on 0
-pub plan-given : (l : List ℕ) (n cap : ℕ) (r : Planned) → CutPlan l n cap r → (cut_refusal l n cap).0 ≡ 0 → r.plan ≡ plan_of l n
+-- what the call gives where it is not refused
+pub plan-given : (l : List ℕ) (n cap : ℕ) (r : Result Plan Refusal) → CutPlan l n cap r → (cut_refusal l n cap).0 ≡ 0 → given no_plan r ≡ plan_of l n
 plan-given l n cap r c h = c.plan ∙ sym (done-new _ _ no_plan h)
-
--- a plan put together from the sides and the two lists
-pub plan-parts : (l : List ℕ) (n : ℕ) (s : Sides) → s ≡ sides_of l n → (a : List ℕ) → a ≡ padded l → (b : List ℕ) → b ≡ padded (side_list l n)
-    → ◌≡◌ {A = Plan}
-    (record { n = n; k = length l; row_mask = s.row; column_mask = s.column; rows = s.rows; columns = s.columns; named = a; smaller = b })
-    (plan_of l n)
-plan-parts l n s e a f b g =
-    eight refl refl (ap (λ (x : Sides). x.row) e) (ap (λ (x : Sides). x.column) e) (ap (λ (x : Sides). x.rows) e) (ap (λ (x : Sides). x.columns) e) f g
 
 -- the sides that a made plan keeps
 pub sides-kept : (p : Plan) → made p ≡ true → (b : Bool) → b ≡ leb p.k (p.n - p.k)

@@ -1,10 +1,10 @@
 -- A plan of a cut: what it holds, which list it keeps, and whether some list makes it. Assumes nothing.
-use Rattle.std.specs.Prelude.{Bool, not, ◌&&◌, ◌≡◌, List, [], ℕ, ◌-◌, ◌^◌, eqb, leb, length, take}
-use Rattle.answers.specs.Paper.{Reply, paper, done, refuse, if_done}
+use Rattle.std.specs.Prelude.{Bool, not, ◌&&◌, ◌≡◌, List, [], ℕ, ◌-◌, ◌^◌, eqb, leb, length, take, Result}
+use Rattle.answers.specs.declared.Refusal.{Refusal}
+use Rattle.answers.specs.Paper.{Reply, paper, given, done, refuse, if_done}
 use Rattle.cut_sides.specs.Sides.{cut_refusal, side, row_mask, column_mask, side_list}
 use Rattle.plan_lists.specs.Padded.{padded, same_list}
 use Rattle.plans.specs.declared.Plan.{Plan}
-use Rattle.plans.specs.declared.Planned.{Planned}
 
 -- the plan of a list
 abbrev pub plan_of : List ℕ → ℕ → Plan
@@ -19,14 +19,14 @@ plan_of l n = record {
   smaller = padded (side_list l n);
 }
 
--- all zeros
+-- all zeros, which no list makes
 abbrev pub no_plan : Plan
 no_plan = record { n = 0; k = 0; row_mask = 0; column_mask = 0; rows = 0; columns = 0; named = padded []; smaller = padded [] }
 
--- a call of `cut_plan`: the answer, and the plan, all zeros on a refusal
-pub record CutPlan (l : List ℕ) (n cap : ℕ) (r : Planned) : Type 0 where
-  pub answer : paper r.answer ≡ cut_refusal l n cap
-  pub plan : r.plan ≡ if_done (cut_refusal l n cap).0 (plan_of l n) no_plan
+-- a call of `cut_plan`: the answer, and the plan, none on a refusal
+pub record CutPlan (l : List ℕ) (n cap : ℕ) (r : Result Plan Refusal) : Type 0 where
+  pub answer : paper r ≡ cut_refusal l n cap
+  pub plan : given no_plan r ≡ if_done (cut_refusal l n cap).0 (plan_of l n) no_plan
 
 -- the list that a plan keeps
 abbrev pub list_of : Plan → List ℕ

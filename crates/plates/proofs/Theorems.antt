@@ -6,8 +6,7 @@ use native.Mathlib.Omega.{arith}
 use lib.Bits.{bit_or, or_lt}
 use lib.Ieee.{Float}
 use lib.ListN.{length}
-use Rattle.answers.specs.declared.Answer.{Answer}
-use Rattle.answers.specs.Paper.{Reply, and_then, if_done}
+use Rattle.answers.specs.Paper.{Answer, Reply, and_then, if_done}
 use Rattle.answers.proofs.Theorems.{paper-one}
 use Rattle.complex.specs.declared.Complex.{Complex}
 use Rattle.complex.specs.Arithmetic.{complex_of, product, conjugate}

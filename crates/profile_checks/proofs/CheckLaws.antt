@@ -9,37 +9,38 @@ use lib.Dec.{eqb, ltb, leb}
 use lib.ListN.{length}
 use lib.Pow.{pow_mono}
 use lib.Ieee.{Float}
-use Rattle.answers.specs.Paper.{Reply, done, refuse, and_then, exactly, room}
-use Rattle.answers.proofs.PaperLaws.{both, and_then-done, exactly-done, room-done, refuse-small, after_small}
+use Rattle.std.specs.Prelude.{Ok, Err, IfOk}
+use Rattle.answers.specs.Paper.{Answer, Reply, paper, done, refuse, and_then, exactly, room}
+use Rattle.answers.proofs.PaperLaws.{and_then-done, exactly-done, room-done, refuse-small, after_small}
 use Rattle.complex.specs.Cells.{components}
 use Rattle.complex.proofs.CellLaws.{components-small}
 use Rattle.qubits.specs.Lists.{stands, places_from, places, qubit_set, subsystem}
 use Rattle.cut_sides.specs.Sides.{cut_sizes, cut_refusal}
 use Rattle.cut_sides.proofs.SideLaws.{is-parted}
-use Rattle.profile_cut.specs.Cut.{room_at, marks_each}
+use Rattle.profile_cut.specs.Cut.{room_at}
 use Rattle.profile_walk.specs.Page.{cuts_room, WalkRoom}
 use Rattle.profile_walk.proofs.PageLaws.{half-most}
 use Rattle.profile_checks.specs.Checks.{page_header, page_values, page_marks, page_scratch, page_lengths, index_lengths, profile_tests}
 
 -- ---- the room
 
-pub plane-few : (n : ℕ) → n ≤ 12 → 2 ^ n ≤ 4096
-plane-few n h = let m : 2 ^ n ≤ 2 ^ 12 = pow_mono h in omega arith
+pub plane_few : (n : ℕ) → n ≤ 12 → 2 ^ n ≤ 4096
+plane_few n h = let m : 2 ^ n ≤ 2 ^ 12 = pow_mono h in omega arith
 
-pub half-few : (n : ℕ) → n ≤ 12 → 2 ^ (n / 2) ≤ 64
-half-few n h = let m : 2 ^ (n / 2) ≤ 2 ^ 6 = pow_mono {i = n / 2} {j = 6} (omega arith) in omega arith
+pub half_few : (n : ℕ) → n ≤ 12 → 2 ^ (n / 2) ≤ 64
+half_few n h = let m : 2 ^ (n / 2) ≤ 2 ^ 6 = pow_mono {i = n / 2} {j = 6} (omega arith) in omega arith
 
 pub room-few-at : (n j : ℕ) → n ≤ 12 → suc j < n → room_at n j ≤ 64
-room-few-at n j h i = omega (arith, half-few n h, half-most n j i)
+room-few-at n j h i = omega (arith, half_few n h, half-most n j i)
 
 pub room-few : (n j : ℕ) → n ≤ 12 → j < n → cuts_room n j ≤ 64 * j
 unfolding cuts_room
 room-few n zero h i = omega arith
 room-few n (suc j) h i = omega (arith, room-few n j h (omega arith), room-few-at n j h i)
 
-pub room-start : (n : ℕ) → (0 ≤ n - 1) × (0 ≡ cuts_room n 0)
+pub room-none : (n : ℕ) → 0 ≡ cuts_room n 0
 unfolding cuts_room
-room-start n = (omega arith, refl)
+room-none n = refl
 
 term_is : (n j : ℕ) {k more : ℕ} → suc j < n → k ≡ min (j + 1) (n - 1 - j) → more ≡ 2 ^ k → more ≡ room_at n j
 term_is n j h e f =
@@ -58,40 +59,21 @@ pub room-more : (n j : ℕ) {room k more : ℕ} → suc j < n → room ≡ cuts_
 unfolding cuts_room
 room-more n j h e f g = ap₂ (λ (x y : ℕ). x + y) e (term_is n j h f g) ∙ ap (cuts_room n) (sym (add-one j))
 
-pub room-end : (n j : ℕ) {room : ℕ} → j ≤ n - 1 → n - 1 ≤ j → room ≡ cuts_room n j → room ≡ cuts_room n (n - 1)
-room-end n j a b e = let h : j ≡ n - 1 = omega arith in e ∙ ap (cuts_room n) h
-
--- ---- the lengths
-
-pub page-are : (n state header values largest : ℕ) {cells most : ℕ} {r0 r1 r2 r3 q1 q2 q3 : Reply} → cells ≡ 2 ^ n → most ≡ cuts_room n (n - 1)
-    → r0 ≡ exactly 0 state (2 * cells) → r1 ≡ room 1 header (2 * (n - 1)) → r2 ≡ room 2 values most → r3 ≡ room 3 largest (n - 1)
-    → q1 ≡ and_then r2 r3 → q2 ≡ and_then r1 q1 → q3 ≡ and_then r0 q2 → q3 ≡ page_lengths n state header values largest
-unfolding page_lengths
-page-are n state header values largest e f a0 a1 a2 a3 b1 b2 b3 =
-    both b3 (a0 ∙ ap (λ (x : ℕ). exactly 0 state (2 * x)) e) (both b2 a1 (both b1 (a2 ∙ ap (room 2 values) f) a3))
-
-pub index-are : (n ranks marks scratch : ℕ) {cells side : ℕ} {r4 r5 r6 q1 q2 : Reply} → cells ≡ 2 ^ n → side ≡ 2 ^ (n / 2)
-    → r4 ≡ room 4 ranks (n - 1) → r5 ≡ room 5 marks (marks_each * (n - 1)) → r6 ≡ room 6 scratch (8 * cells + 2 * side)
-    → q1 ≡ and_then r5 r6 → q2 ≡ and_then r4 q1 → q2 ≡ index_lengths n ranks marks scratch
-unfolding index_lengths
-index-are n ranks marks scratch e f a4 a5 a6 b1 b2 =
-    both b2 a4 (both b1 a5 (a6 ∙ ap₂ (λ (x y : ℕ). room 6 scratch (8 * x + 2 * y)) e f))
-
 -- ---- what an accepted call has passed
 
 -- two qubits at least: 1 and 5 do not refuse
 pub sizes-done : (n cap : ℕ) → (cut_refusal (0 ∷ []) n cap).0 ≡ 0 → (2 ≤ n) × (n ≤ 12)
 sizes-done n cap e = let p = is-parted (0 ∷ []) n cap e in (omega (arith, p.part), p.listed.small)
 
-pub sizes-within : (n cap : ℕ) → (cut_refusal (0 ∷ []) n cap).0 ≡ 0 → (1 ≤ n) × (n ≤ 12)
-sizes-within n cap e = let z = sizes-done n cap e in (omega (arith, z.0), z.1)
+pub sizes_within : (n cap : ℕ) → (cut_refusal (0 ∷ []) n cap).0 ≡ 0 → (1 ≤ n) × (n ≤ 12)
+sizes_within n cap e = let z = sizes-done n cap e in (omega (arith, z.0), z.1)
 
 pub accepted : (s : List Float) (n cap header values largest ranks marks scratch : ℕ) → (profile_tests s n cap header values largest ranks marks scratch).0 ≡ 0
     → WalkRoom s n cap header values largest ranks marks scratch
 unfolding profile_tests page_lengths index_lengths
 accepted s n cap header values largest ranks marks scratch e =
     let first = and_then-done (cut_refusal (0 ∷ []) n cap) _ e in
-    let z = sizes-within n cap first.0 in
+    let z = sizes_within n cap first.0 in
     let second = and_then-done (page_lengths n (length s) header values largest) _ first.1 in
     let third = and_then-done (index_lengths n ranks marks scratch) (components 0 s) second.1 in
     let a0 = and_then-done (exactly 0 (length s) (2 * 2 ^ n)) _ second.0 in
@@ -112,6 +94,11 @@ accepted s n cap header values largest ranks marks scratch e =
       marks-fit = room-done 5 marks (page_marks n) a5.0;
       scratch-fits = room-done 6 scratch (page_scratch n) a5.1;
     }
+
+pub accepts : (s : List Float) (n cap header values largest ranks marks scratch : ℕ) (r : Answer) → paper r ≡ profile_tests s n cap header values largest ranks marks scratch
+    → IfOk r (λ _. WalkRoom s n cap header values largest ranks marks scratch)
+accepts s n cap header values largest ranks marks scratch (Ok x) e = accepted s n cap header values largest ranks marks scratch (ap (λ (y : Reply). y.0) (sym e))
+accepts s n cap header values largest ranks marks scratch (Err x) e = tt
 
 -- ---- every refusal before the work is below 8
 

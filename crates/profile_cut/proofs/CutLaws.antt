@@ -10,9 +10,9 @@ use lib.Dec.{ltb, eqb}
 use lib.ListN.{length, take, drop, get_or, set, length-append, length-drop}
 use lib.Seq.{take_at, length-take-le, take-length, take-append-le, get_or_at, take-suc-set, take-append_seam}
 use lib.Ieee.{Float}
-use Rattle.answers.specs.declared.Answer.{Answer}
-use Rattle.answers.specs.declared.Answer.TheVariants.{Done}
-use Rattle.answers.specs.Paper.{Reply, paper, done, refuse, if_done}
+use Rattle.std.specs.Prelude.{Result, Ok, Err}
+use Rattle.answers.specs.declared.Refusal.{Refusal}
+use Rattle.answers.specs.Paper.{Reply, paper, given, done, refuse, if_done}
 use Rattle.answers.proofs.PaperLaws.{refuse-done, done-new, end-new}
 use Rattle.complex.specs.Zeros.{zeros}
 use Rattle.qubits.specs.Lists.{stands, places_from, qubit_set, subsystem}
@@ -23,11 +23,10 @@ use Rattle.cut_naming.proofs.ReorderedLaws.{pass, places-pass}
 use Rattle.sweeps.specs.declared.Sweeps.{Sweeps}
 use Rattle.cut_values.specs.declared.CutCounted.{CutCounted}
 use Rattle.factored.specs.Factored.{kept_sweeps}
-use Rattle.factored.proofs.Laws.{kept-done}
 use Rattle.cut_marks.specs.Marks.{one_if, cut_marks}
 use Rattle.finish.specs.Finish.{finish_of, padded}
-use Rattle.cut_values.specs.Schmidt.{cut_rows, singular_values, cut_sweeps, cut_exact, cut_values_tests, values_reply, cut_values_answer, singular_of, sweeps_of, columns_exact_of, CutValuesSized, CutValuesMade, Schmidt}
-use Rattle.cut_values.proofs.SchmidtLaws.{sized, cut-counted-one}
+use Rattle.cut_values.specs.Schmidt.{cut_rows, singular_values, cut_sweeps, cut_exact, cut_values_tests, values_reply, cut_values_answer, singular_of, sweeps_of, columns_exact_of, no_cut, CutValuesSized, CutValuesMade, Schmidt}
+use Rattle.cut_values.proofs.SchmidtLaws.{sized}
 use Rattle.profile_cut.specs.Cut.{first_qubits, cut_list, room_at, values_at, reply_at, result_at, marks_of, marks_each, CutRoom, AloneAt}
 
 -- ---- the first qubits
@@ -146,32 +145,30 @@ sides-ready s n j cap out scratch names z p e h =
     )
 
 -- what the call of cut j leaves, by its parts
-alone-by : (s : List Float) (n j : ℕ) (out : List Float) (r : CutCounted) {out' : List Float} → let kept = finish_of (singular_values s n (cut_list j)) in
-    paper r.answer ≡ values_reply (singular_values s n (cut_list j)) → r.count ≡ if_done (paper r.answer).0 (length kept) 0
-    → ((paper r.answer).0 ≡ 0 → out' ≡ padded (cut_rows n (cut_list j)) kept out) → r.sweeps ≡ kept_sweeps r.answer (cut_sweeps s n (cut_list j))
-    → r.exact ≡ if_done (paper r.answer).0 (cut_exact s n (cut_list j)) false → AloneAt s n j r out'
+alone-by : (s : List Float) (n j : ℕ) (out : List Float) (r : Result CutCounted Refusal) {out' : List Float} → let kept = finish_of (singular_values s n (cut_list j)) in
+    paper r ≡ values_reply (singular_values s n (cut_list j)) → (given no_cut r).count ≡ if_done (paper r).0 (length kept) 0
+    → ((paper r).0 ≡ 0 → out' ≡ padded (cut_rows n (cut_list j)) kept out) → (given no_cut r).sweeps ≡ kept_sweeps r (cut_sweeps s n (cut_list j))
+    → (given no_cut r).exact ≡ if_done (paper r).0 (cut_exact s n (cut_list j)) false → AloneAt s n j r out'
 unfolding reply_at result_at values_at padded
-alone-by s n j out r a c o w x =
+alone-by s n j out (Err e) a c o w x = record { answer = a; result = tt; values = tt }
+alone-by s n j out (Ok r) a c o w x =
     let kept = finish_of (singular_values s n (cut_list j)) in
-    let k = (paper r.answer).0 in
     let rows = cut_rows n (cut_list j) in
     let more = zeros (rows - length kept) in
-    let number : r.answer ≡ Done → k ≡ 0 = λ d. ap (λ (y : Answer). (paper y).0) d in
     let inside : length kept ≤ length (kept ++ more) = omega (arith, length-append kept more) in
     record {
       answer = a;
-      result = λ d.
-          cut-counted-one r _ d (c ∙ sym (done-new k (length kept) 0 (number d)))
-          (w ∙ sym (kept-done r.answer (cut_sweeps s n (cut_list j)) d))
-          (x ∙ sym (done-new k (cut_exact s n (cut_list j)) false (number d)));
-      values = λ d.
-          ap (take (length kept)) (o (number d))
+      result =
+          ap₂ (λ (k : ℕ) (t : Sweeps). record { count = k; sweeps = t; exact = r.exact }) c w
+          ∙ ap (λ (b : Bool). record { count = length kept; sweeps = cut_sweeps s n (cut_list j); exact = b }) x;
+      values =
+          ap (take (length kept)) (o refl)
           ∙ take-append-le (length kept) (kept ++ more) (drop rows out) inside
           ∙ take-append_seam kept more;
     }
 
 -- the call of cut j, by what it leaves
-pub alone-is : (s : List Float) (n j cap : ℕ) (out scratch : List Float) (r : CutCounted) {out' scratch' : List Float}
+pub alone-is : (s : List Float) (n j cap : ℕ) (out scratch : List Float) (r : Result CutCounted Refusal) {out' scratch' : List Float}
     → (cut_values_tests s n (cut_list j) cap (length out) (length scratch)).0 ≡ 0
     → Schmidt s n (cut_list j) cap out scratch r out' scratch' → AloneAt s n j r out'
 unfolding cut_values_answer
@@ -179,16 +176,16 @@ alone-is s n j cap out scratch r t x =
     alone-by s n j out r
     (x.answer ∙ pass (cut_values_tests s n (cut_list j) cap (length out) (length scratch)) (values_reply (singular_values s n (cut_list j))) t)
     x.count
-    (λ d. x.out-is ∙ sym (end-new (paper r.answer).0 _ _ out d))
+    (λ d. x.out-is ∙ sym (end-new (paper r).0 _ _ out d))
     x.sweeps-are
     x.exact-is
 
 -- the work of cut j, by what it leaves
-made-is : (s : List Float) (n j : ℕ) (out : List Float) (r : CutCounted) {out' : List Float} → CutValuesMade s n (sides_of (cut_list j) n) out r out' → AloneAt s n j r out'
+made-is : (s : List Float) (n j : ℕ) (out : List Float) (r : Result CutCounted Refusal) {out' : List Float} → CutValuesMade s n (sides_of (cut_list j) n) out r out' → AloneAt s n j r out'
 unfolding singular_values cut_sweeps cut_exact singular_of sweeps_of columns_exact_of
-made-is s n j out r x = alone-by s n j out r x.answer x.count (λ d. x.out-is ∙ sym (done-new (paper r.answer).0 _ _ d)) x.sweeps-are x.exact-is
+made-is s n j out r x = alone-by s n j out r x.answer x.count (λ d. x.out-is ∙ sym (done-new (paper r).0 _ _ d)) x.sweeps-are x.exact-is
 
-pub alone-made : (s : List Float) (n j : ℕ) (out : List Float) (names : List ℕ) (z : Sides) (r : CutCounted) {out' : List Float}
+pub alone-made : (s : List Float) (n j : ℕ) (out : List Float) (names : List ℕ) (z : Sides) (r : Result CutCounted Refusal) {out' : List Float}
     → names ≡ cut_list j → z ≡ sides_of names n → CutValuesMade s n z out r out' → AloneAt s n j r out'
 alone-made s n j out names z r e h x = made-is s n j out r (rw (h, e) at x)
 

@@ -1,6 +1,6 @@
 -- Cut j of a chain: the qubits 0..j against the rest. Definitions only.
-use Rattle.std.specs.Prelude.{◌≡◌, List, [], ◌∷◌, ◌++◌, ℕ, zero, suc, ◌+◌, ◌-◌, ◌*◌, ◌^◌, ◌≤◌, ◌<◌, min, length, take, Float}
-use Rattle.answers.specs.declared.Answer.TheVariants.{Done}
+use Rattle.std.specs.Prelude.{◌≡◌, List, [], ◌∷◌, ◌++◌, ℕ, zero, suc, ◌+◌, ◌-◌, ◌*◌, ◌^◌, ◌≤◌, ◌<◌, min, length, take, Float, Result, IfOk}
+use Rattle.answers.specs.declared.Refusal.{Refusal}
 use Rattle.answers.specs.Paper.{Reply, paper}
 use Rattle.complex.specs.Cells.{components}
 use Rattle.cut_sides.specs.Sides.{cut_sizes}
@@ -34,7 +34,7 @@ reply_at s n j = values_reply (singular_values s n (cut_list j))
 
 -- what its call returns where it answers 0
 unfoldable pub result_at : List Float → ℕ → ℕ → CutCounted
-result_at s n j = record { answer = Done; count = length (values_at s n j); sweeps = cut_sweeps s n (cut_list j); exact = cut_exact s n (cut_list j) }
+result_at s n j = record { count = length (values_at s n j); sweeps = cut_sweeps s n (cut_list j); exact = cut_exact s n (cut_list j) }
 
 -- ---- the marks
 
@@ -59,7 +59,7 @@ pub record CutRoom (s : List Float) (n j cap out scratch : ℕ) : Type 0 where
   pub scratch-fits : 8 * 2 ^ n + 2 * room_at n j ≤ scratch
 
 -- the answer, and where it is 0 what is returned and the values at the front
-pub record AloneAt (s : List Float) (n j : ℕ) (r : CutCounted) (out : List Float) : Type 0 where
-  pub answer : paper r.answer ≡ reply_at s n j
-  pub result : r.answer ≡ Done → r ≡ result_at s n j
-  pub values : r.answer ≡ Done → take (length (values_at s n j)) out ≡ values_at s n j
+pub record AloneAt (s : List Float) (n j : ℕ) (r : Result CutCounted Refusal) (out : List Float) : Type 0 where
+  pub answer : paper r ≡ reply_at s n j
+  pub result : IfOk r (λ c. c ≡ result_at s n j)
+  pub values : IfOk r (λ c. take (length (values_at s n j)) out ≡ values_at s n j)

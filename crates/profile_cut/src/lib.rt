@@ -4,17 +4,16 @@
 ghost use Rattle.std.specs.Prelude.{◌≡◌, ◌++◌, suc, ◌+◌, ◌*◌, ◌≤◌, length, take};
 ghost use Rattle.profile_cut.specs.Cut.{marks_each, marks_of, CutRoom, AloneAt};
 
+use answers::Refusal;
 use cut_values::CutCounted;
-use sweeps::Sweeps;
 
 // The marks of cut j, from what the call of that cut returned.
 pub fn put_marks(j: usize, res: CutCounted, marks: &mut [usize])
     requires { marks_each * j + marks_each ≤ length marks.old }
     ensures { take (marks_each * suc j) marks.new ≡ take (marks_each * j) marks.old ++ marks_of res }
 {
-    let sweeps: Sweeps = res.sweeps;
     let at = 4 * j;
-    cut_marks::put_sweeps(at, sweeps, marks);
+    cut_marks::put_sweeps(at, res.sweeps, marks);
     marks[at + 3] = cut_marks::one_if(res.exact);
 }
 
@@ -27,7 +26,7 @@ pub fn cut_alone(
     cap: usize,
     out: &mut [f64],
     scratch: &mut [f64],
-) -> CutCounted
+) -> Result<CutCounted, Refusal>
     requires { CutRoom state.now n j cap (length out.old) (length scratch.old) }
     ensures { AloneAt state.now n j result out.new }
 {

@@ -8,9 +8,9 @@ use lib.ListN.{length, take, drop, set, get_or, length-take, length-drop}
 use lib.Seq.{take_all, take-append-add, take-append-le, length-take-le, get_or-take, get_or-append-add, take-suc-set}
 use lib.Pow.{pow_pos}
 use lib.Ieee.{Float, nan}
-use Rattle.answers.specs.declared.Answer.{Answer}
-use Rattle.answers.specs.declared.Answer.TheVariants.{Done}
-use Rattle.answers.specs.Paper.{Reply, paper}
+use Rattle.std.specs.Prelude.{Ok, Err}
+use Rattle.answers.specs.declared.Refusal.{Refusal}
+use Rattle.answers.specs.Paper.{Reply}
 use Rattle.cut_values.specs.declared.CutCounted.{CutCounted}
 use Rattle.profile_cut.specs.Cut.{room_at, values_at, reply_at, result_at, marks_of, marks_each, CutRoom, AloneAt}
 use Rattle.profile_walk.specs.Page.{first_value, PutRoom, PutCut}
@@ -78,28 +78,26 @@ put_two (x ∷ l) (suc k) a b h =
 -- ---- the two ways out
 
 -- a refused cut: nothing is said of the slices
-pub put_refused : (s : List Float) (n j at : ℕ) (header : List ℕ) (values largest : List Float) (ranks marks : List ℕ) (alone : CutCounted) {ys values' : List Float}
-    → AloneAt s n j alone ys → ((paper alone.answer).0 ≡ 0 → ⊥)
-    → PutCut s n j at header values largest ranks marks (record { answer = alone.answer; at = 0 }) header values' largest ranks marks
-put_refused s n j at header values largest ranks marks alone o h =
-    record { answer = o.answer; taken = λ d. absurd (h (ap (λ (x : Answer). (paper x).0) d)) }
+pub put_refused : (s : List Float) (n j at : ℕ) (header : List ℕ) (values largest : List Float) (ranks marks : List ℕ) (e : Refusal) {ys values' : List Float}
+    → AloneAt s n j (Err e) ys → PutCut s n j at header values largest ranks marks (Err e) header values' largest ranks marks
+put_refused s n j at header values largest ranks marks e o = record { answer = o.answer; taken = tt }
 
-count_of : (s : List Float) (n j : ℕ) (alone : CutCounted) {ys : List Float} → AloneAt s n j alone ys → alone.answer ≡ Done → alone.count ≡ length (values_at s n j)
+count_of : (s : List Float) (n j : ℕ) (alone : CutCounted) {ys : List Float} → AloneAt s n j (Ok alone) ys → alone.count ≡ length (values_at s n j)
 unfolding result_at
-count_of s n j alone o d = ap (λ (r : CutCounted). r.count) (o.result d)
+count_of s n j alone o = ap (λ (r : CutCounted). r.count) o.result
 
-pub end-within : (s : List Float) (n j at values : ℕ) (alone : CutCounted) {ys : List Float} → AloneAt s n j alone ys → alone.answer ≡ Done
+pub end-within : (s : List Float) (n j at values : ℕ) (alone : CutCounted) {ys : List Float} → AloneAt s n j (Ok alone) ys
     → at + room_at n j ≤ values → at + alone.count ≤ values
-end-within s n j at values alone o d fits = omega (arith, count_of s n j alone o d, values-few s n j, fits)
+end-within s n j at values alone o fits = omega (arith, count_of s n j alone o, values-few s n j, fits)
 
 module _ (s : List Float) (n j at : ℕ) (header : List ℕ) (values largest : List Float) (ranks marks : List ℕ) (alone : CutCounted) {ys : List Float}
-    (o : AloneAt s n j alone ys) (d : alone.answer ≡ Done) (fits : at + room_at n j ≤ length values) where
+    (o : AloneAt s n j (Ok alone) ys) (fits : at + room_at n j ≤ length values) where
   count-is : alone.count ≡ length (values_at s n j)
-  count-is = count_of s n j alone o d
+  count-is = count_of s n j alone o
 
   pub put-taken : {marks' : List ℕ} → 2 * j + 2 ≤ length header → j < length largest → j < length ranks
       → take (marks_each * suc j) marks' ≡ take (marks_each * j) marks ++ marks_of alone
-      → PutCut s n j at header values largest ranks marks (record { answer = Done; at = at + alone.count })
+      → PutCut s n j at header values largest ranks marks (Ok (at + alone.count))
       (set (set header (2 * j) alone.count) (2 * j + 1) at) (put_mid at (length values - at) values ys)
       (set largest j (get_or (put_mid at (length values - at) values ys) at nan)) (set ranks j alone.count) marks'
   put-taken hh hl hr m =
@@ -107,12 +105,12 @@ module _ (s : List Float) (n j at : ℕ) (header : List ℕ) (values largest : L
       let values' = put_mid at (length values - at) values ys in
       let h : at ≤ length values = omega (arith, fits) in
       let two : 2 * suc j ≡ 2 * j + 2 = omega arith in
-      let z : (reply_at s n j).0 ≡ 0 = ap (λ (x : Reply). x.0) (sym o.answer ∙ ap paper d) in
-      let front : take (at + length kept) values' ≡ take at values ++ kept = front-values at values ys kept h (o.values d) in
+      let z : (reply_at s n j).0 ≡ 0 = ap (λ (x : Reply). x.0) (sym o.answer) in
+      let front : take (at + length kept) values' ≡ take at values ++ kept = front-values at values ys kept h o.values in
       let first : get_or values' at nan ≡ first_value kept = front-first at values values' kept h front (values-some s n j z) in
       record {
-        answer = sym (ap paper d) ∙ o.answer;
-        taken = λ _.
+        answer = o.answer;
+        taken =
             record {
               at-is = ap (λ (x : ℕ). at + x) count-is;
               header_is =
@@ -122,6 +120,6 @@ module _ (s : List Float) (n j at : ℕ) (header : List ℕ) (values largest : L
               values-is = ap (λ (x : ℕ). take (at + x) values') count-is ∙ front;
               largest-is = take-suc-set largest j (get_or values' at nan) hl ∙ ap (λ (x : Float). take j largest ++ x ∷ []) first;
               ranks-is = take-suc-set ranks j alone.count hr ∙ ap (λ (x : ℕ). take j ranks ++ x ∷ []) count-is;
-              marks-is = m ∙ ap (λ (x : CutCounted). take (marks_each * j) marks ++ marks_of x) (o.result d);
+              marks-is = m ∙ ap (λ (x : CutCounted). take (marks_each * j) marks ++ marks_of x) o.result;
             };
       }

@@ -6,12 +6,12 @@ use native.Mathlib.Numerals.{add-one}
 use native.Mathlib.Omega.{arith}
 use lib.ListN.{length, length-append}
 use lib.Ieee.{Float}
-use Rattle.answers.specs.declared.Answer.{Answer}
-use Rattle.answers.specs.declared.Answer.TheVariants.{Done}
+use Rattle.std.specs.Prelude.{Result, Ok, Err}
+use Rattle.answers.specs.declared.Refusal.{Refusal}
 use Rattle.answers.specs.Paper.{Reply, paper, and_then}
+use Rattle.answers.proofs.Stopped.{stopped-number}
 use Rattle.answers.proofs.PaperLaws.{stays}
 use Rattle.profile_cut.specs.Cut.{values_at, reply_at, result_at, marks_of}
-use Rattle.profile_walk.specs.declared.Packed.{Packed}
 use Rattle.profile_walk.specs.Page.{first_value, cuts_to, cuts_reply, PutRoom, PutCut, WalkRoom, Walking, WalkEnd}
 use Rattle.profile_walk.proofs.PageLaws.{room_within, half-most, values-within}
 
@@ -56,44 +56,44 @@ module _ (s : List Float) (n j at : ℕ) (header : List ℕ) (values largest : L
         in-marks = omega (arith, r.marks-fit);
       }
 
-  module _ {r : Packed} {header' : List ℕ} {values' largest' : List Float} {ranks' marks' : List ℕ}
-      (t : PutCut s n j at header values largest ranks marks r header' values' largest' ranks' marks') where
-    answer-is : paper r.answer ≡ cuts_reply s n (suc j)
-    unfolding cuts_reply
-    answer-is = t.answer ∙ sym (ap (λ (x : Reply). and_then x (reply_at s n j)) w.reply-is)
+  answer-is : (r : Result ℕ Refusal) {header' : List ℕ} {values' largest' : List Float} {ranks' marks' : List ℕ}
+      → PutCut s n j at header values largest ranks marks r header' values' largest' ranks' marks' → paper r ≡ cuts_reply s n (suc j)
+  unfolding cuts_reply
+  answer-is r t = t.answer ∙ sym (ap (λ (x : Reply). and_then x (reply_at s n j)) w.reply-is)
 
-    walk_more : r.answer ≡ Done → Walking s n (suc j) r.at header' values' largest' ranks' marks'
-    unfolding cuts_to
-    walk_more d =
-        let p = cuts_to s n j in
-        let k = t.taken d in
-        let kept = values_at s n j in
-        record {
-          at-is = k.at-is ∙ ap (λ (x : ℕ). x + length kept) w.at-is ∙ sym (length-append p.values kept);
-          header_is = k.header_is ∙ ap₂ (λ (x : List ℕ) (y : ℕ). x ++ length kept ∷ y ∷ []) w.header_is w.at-is;
-          values-is = k.values-is ∙ ap (λ (x : List Float). x ++ kept) w.values-is;
-          largest-is = k.largest-is ∙ ap (λ (x : List Float). x ++ first_value kept ∷ []) w.largest-is;
-          ranks-is = k.ranks-is ∙ ap (λ (x : List ℕ). x ++ length kept ∷ []) w.ranks-is;
-          marks-is = k.marks-is ∙ ap (λ (x : List ℕ). x ++ marks_of (result_at s n j)) w.marks-is;
-          reply-is = sym answer-is ∙ ap paper d;
-        }
+  walk_more : (next : ℕ) {header' : List ℕ} {values' largest' : List Float} {ranks' marks' : List ℕ}
+      → PutCut s n j at header values largest ranks marks (Ok next) header' values' largest' ranks' marks' → Walking s n (suc j) next header' values' largest' ranks' marks'
+  unfolding cuts_to
+  walk_more next t =
+      let p = cuts_to s n j in
+      let k = t.taken in
+      let kept = values_at s n j in
+      record {
+        at-is = k.at-is ∙ ap (λ (x : ℕ). x + length kept) w.at-is ∙ sym (length-append p.values kept);
+        header_is = k.header_is ∙ ap₂ (λ (x : List ℕ) (y : ℕ). x ++ length kept ∷ y ∷ []) w.header_is w.at-is;
+        values-is = k.values-is ∙ ap (λ (x : List Float). x ++ kept) w.values-is;
+        largest-is = k.largest-is ∙ ap (λ (x : List Float). x ++ first_value kept ∷ []) w.largest-is;
+        ranks-is = k.ranks-is ∙ ap (λ (x : List ℕ). x ++ length kept ∷ []) w.ranks-is;
+        marks-is = k.marks-is ∙ ap (λ (x : List ℕ). x ++ marks_of (result_at s n j)) w.marks-is;
+        reply-is = sym (answer-is (Ok next) t);
+      }
 
-    pub walk-next : r.answer ≡ Done → Walking s n (j + 1) r.at header' values' largest' ranks' marks'
-    walk-next d = rw add-one (walk_more d)
+  pub walk-next : (next : ℕ) {header' : List ℕ} {values' largest' : List Float} {ranks' marks' : List ℕ}
+      → PutCut s n j at header values largest ranks marks (Ok next) header' values' largest' ranks' marks' → Walking s n (j + 1) next header' values' largest' ranks' marks'
+  walk-next next t = rw add-one (walk_more next t)
 
-    -- a refusal stays to the end
-    pub walk_refused : ((paper r.answer).0 ≡ 0 → ⊥) → WalkEnd s n (record { answer = r.answer; at = 0 }) header' values' largest' ranks' marks'
-    walk_refused b =
-        let m : (cuts_reply s n (suc j)).0 ≡ 0 → ⊥ = λ z. b (ap (λ (x : Reply). x.0) answer-is ∙ z) in
-        let e : n - 1 - suc j + suc j ≡ n - 1 = omega arith in
-        record {
-          answer = answer-is ∙ reply-stays s n (suc j) (n - 1 - suc j) m ∙ ap (cuts_reply s n) e;
-          walked = λ d. absurd (b (ap (λ (x : Answer). (paper x).0) d));
-        }
+  -- a refusal stays to the end
+  pub walk_refused : (e : Refusal) {header' : List ℕ} {values' largest' : List Float} {ranks' marks' : List ℕ}
+      → PutCut s n j at header values largest ranks marks (Err e) header' values' largest' ranks' marks' → WalkEnd s n (Err e) header' values' largest' ranks' marks'
+  walk_refused e t =
+      let a = answer-is (Err e) t in
+      let m : (cuts_reply s n (suc j)).0 ≡ 0 → ⊥ = λ z. stopped-number e (ap (λ (x : Reply). x.0) a ∙ z) in
+      let i : n - 1 - suc j + suc j ≡ n - 1 = omega arith in
+      record { answer = a ∙ reply-stays s n (suc j) (n - 1 - suc j) m ∙ ap (cuts_reply s n) i; walked = tt }
 
 -- every cut was answered 0
 pub walk_end : (s : List Float) (n j at : ℕ) (header : List ℕ) (values largest : List Float) (ranks marks : List ℕ) → j ≡ n - 1
-    → Walking s n j at header values largest ranks marks → WalkEnd s n (record { answer = Done; at = at }) header values largest ranks marks
+    → Walking s n j at header values largest ranks marks → WalkEnd s n (Ok at) header values largest ranks marks
 walk_end s n j at header values largest ranks marks e w =
     let v = rw e at w in
-    record { answer = sym v.reply-is; walked = λ z. v }
+    record { answer = sym v.reply-is; walked = v }

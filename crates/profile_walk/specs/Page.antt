@@ -1,13 +1,12 @@
 -- The page of a chain's cuts: what its first cuts leave, their answer, and the room that they ask. Definitions only.
-use Rattle.std.specs.Prelude.{◌≡◌, List, [], ◌∷◌, ◌++◌, ℕ, zero, suc, ◌+◌, ◌-◌, ◌*◌, ◌/◌, ◌^◌, ◌≤◌, ◌<◌, length, take, get_or, Float}
+use Rattle.std.specs.Prelude.{◌≡◌, List, [], ◌∷◌, ◌++◌, ℕ, zero, suc, ◌+◌, ◌-◌, ◌*◌, ◌/◌, ◌^◌, ◌≤◌, ◌<◌, length, take, get_or, Float, Result, IfOk}
 use Rattle.std.specs.Float.{nan}
-use Rattle.answers.specs.declared.Answer.TheVariants.{Done}
+use Rattle.answers.specs.declared.Refusal.{Refusal}
 use Rattle.answers.specs.Paper.{Reply, paper, done, and_then}
 use Rattle.complex.specs.Cells.{components}
 use Rattle.cut_sides.specs.Sides.{cut_sizes}
 use Rattle.cut_values.specs.declared.CutCounted.{CutCounted}
 use Rattle.profile_cut.specs.Cut.{room_at, values_at, reply_at, result_at, marks_of, marks_each}
-use Rattle.profile_walk.specs.declared.Packed.{Packed}
 
 -- each cut's count and offset, the values one cut after another, each cut's largest value, rank and marks
 pub record Page : Type 0 where
@@ -62,19 +61,19 @@ pub record PutRoom (s : List Float) (n j cap at header values largest ranks mark
   pub in-marks : marks_each * j + marks_each ≤ marks
 
 -- what a cut that is answered 0 leaves at the front of each slice
-pub record Taken (s : List Float) (n j at : ℕ) (header : List ℕ) (values largest : List Float) (ranks marks : List ℕ) (r : Packed)
+pub record Taken (s : List Float) (n j at : ℕ) (header : List ℕ) (values largest : List Float) (ranks marks : List ℕ) (next : ℕ)
     (header' : List ℕ) (values' largest' : List Float) (ranks' marks' : List ℕ) : Type 0 where
-  pub at-is : r.at ≡ at + length (values_at s n j)
+  pub at-is : next ≡ at + length (values_at s n j)
   pub header_is : take (2 * suc j) header' ≡ take (2 * j) header ++ length (values_at s n j) ∷ at ∷ []
-  pub values-is : take r.at values' ≡ take at values ++ values_at s n j
+  pub values-is : take next values' ≡ take at values ++ values_at s n j
   pub largest-is : take (suc j) largest' ≡ take j largest ++ first_value (values_at s n j) ∷ []
   pub ranks-is : take (suc j) ranks' ≡ take j ranks ++ length (values_at s n j) ∷ []
   pub marks-is : take (marks_each * suc j) marks' ≡ take (marks_each * j) marks ++ marks_of (result_at s n j)
 
-pub record PutCut (s : List Float) (n j at : ℕ) (header : List ℕ) (values largest : List Float) (ranks marks : List ℕ) (r : Packed)
+pub record PutCut (s : List Float) (n j at : ℕ) (header : List ℕ) (values largest : List Float) (ranks marks : List ℕ) (r : Result ℕ Refusal)
     (header' : List ℕ) (values' largest' : List Float) (ranks' marks' : List ℕ) : Type 0 where
-  pub answer : paper r.answer ≡ reply_at s n j
-  pub taken : r.answer ≡ Done → Taken s n j at header values largest ranks marks r header' values' largest' ranks' marks'
+  pub answer : paper r ≡ reply_at s n j
+  pub taken : IfOk r (λ next. Taken s n j at header values largest ranks marks next header' values' largest' ranks' marks')
 
 -- ---- the walk
 
@@ -102,6 +101,6 @@ pub record Walking (s : List Float) (n j at : ℕ) (header : List ℕ) (values l
   pub reply-is : cuts_reply s n j ≡ done
 
 -- the answer of every cut, and where it is 0 what they leave
-pub record WalkEnd (s : List Float) (n : ℕ) (r : Packed) (header : List ℕ) (values largest : List Float) (ranks marks : List ℕ) : Type 0 where
-  pub answer : paper r.answer ≡ cuts_reply s n (n - 1)
-  pub walked : r.answer ≡ Done → Walking s n (n - 1) r.at header values largest ranks marks
+pub record WalkEnd (s : List Float) (n : ℕ) (r : Result ℕ Refusal) (header : List ℕ) (values largest : List Float) (ranks marks : List ℕ) : Type 0 where
+  pub answer : paper r ≡ cuts_reply s n (n - 1)
+  pub walked : IfOk r (λ at. Walking s n (n - 1) at header values largest ranks marks)

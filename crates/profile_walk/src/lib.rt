@@ -4,16 +4,9 @@
 ghost use Rattle.std.specs.Prelude.{◌≡◌, length};
 ghost use Rattle.profile_walk.specs.Page.{PutRoom, PutCut, WalkRoom, WalkEnd};
 
-use answers::Answer;
+use answers::Refusal;
 
-// The answer, and how many values are packed so far.
-#[derive(Clone, Copy)]
-pub struct Packed {
-    pub answer: Answer,
-    pub at: usize,
-}
-
-// Cut j: its values go to values from number `at` on, its count and `at` to header, its first value to largest, its count to
+// Cut j; how many values are packed then. Its values go to values from number `at` on, its count and `at` to header, its first value to largest, its count to
 // ranks, and its marks to marks.
 fn put_cut(
     state: &[f64],
@@ -27,16 +20,12 @@ fn put_cut(
     ranks: &mut [usize],
     marks: &mut [usize],
     scratch: &mut [f64],
-) -> Packed
+) -> Result<usize, Refusal>
     requires { PutRoom state.now n j cap at (length header.old) (length values.old) (length largest.old) (length ranks.old) (length marks.old) (length scratch.old) }
     ensures { PutCut state.now n j at header.old values.old largest.old ranks.old marks.old result
         header.new values.new largest.new ranks.new marks.new }
 {
-    let alone = profile_cut::cut_alone(state, n, j, cap, &mut values[at..], scratch);
-    let answer = alone.answer;
-    let Answer::Done = answer else {
-        return Packed { answer, at: 0 };
-    };
+    let alone = profile_cut::cut_alone(state, n, j, cap, &mut values[at..], scratch)?;
     let count = alone.count;
     profile_cut::put_marks(j, alone, marks);
     let place = 2 * j;
@@ -44,13 +33,10 @@ fn put_cut(
     header[place + 1] = at;
     ranks[j] = count;
     largest[j] = values[at];
-    Packed {
-        answer: Answer::Done,
-        at: at + count,
-    }
+    Ok(at + count)
 }
 
-// Every cut, the lowest j first; the first refusal ends the walk.
+// Every cut, the lowest j first; how many values are packed. The first refusal ends the walk.
 pub fn walk(
     state: &[f64],
     n: usize,
@@ -61,24 +47,15 @@ pub fn walk(
     ranks: &mut [usize],
     marks: &mut [usize],
     scratch: &mut [f64],
-) -> Packed
+) -> Result<usize, Refusal>
     requires { WalkRoom state.now n cap (length header.old) (length values.old) (length largest.old) (length ranks.old) (length marks.old) (length scratch.old) }
     ensures { WalkEnd state.now n result header.new values.new largest.new ranks.new marks.new }
 {
-    let cuts = n - 1;
     let mut at = 0;
-    for j in 0..cuts {
-        let step = put_cut(
+    for j in 0..n - 1 {
+        at = put_cut(
             state, n, j, cap, at, header, values, largest, ranks, marks, scratch,
-        );
-        let answer = step.answer;
-        let Answer::Done = answer else {
-            return Packed { answer, at: 0 };
-        };
-        at = step.at;
+        )?;
     }
-    Packed {
-        answer: Answer::Done,
-        at,
-    }
+    Ok(at)
 }

@@ -8,10 +8,11 @@ use borrow.Rule.Slice.PartMut.{mid_of, put_mid}
 use lib.ListN.{length, take, drop, replicate, length-take, length-drop, drop_of_length-le}
 use lib.Seq.{take_all}
 use lib.Ieee.{Float}
-use Rattle.answers.specs.declared.Answer.{Answer}
-use Rattle.answers.specs.declared.Answer.TheVariants.{Done}
-use Rattle.answers.specs.Paper.{Reply, paper, after, and_then, if_done, at_end}
-use Rattle.answers.proofs.PaperLaws.{stays, done-old, worked-new, worked-old, end-old, Ended, nine-ended}
+use Rattle.std.specs.Prelude.{Ok, Err}
+use Rattle.answers.specs.declared.Refusal.{Refusal}
+use Rattle.answers.specs.Paper.{Answer, Done, Reply, paper, table, after, and_then, if_done, at_end}
+use Rattle.answers.proofs.Stopped.{refused, stopped-number}
+use Rattle.answers.proofs.PaperLaws.{done-old, worked-new, worked-old, end-old, Ended, nine-ended}
 use Rattle.complex.specs.Zeros.{zeros, zeroed}
 use Rattle.values.specs.Lists.{all_finite}
 use Rattle.values.specs.Sort.{sorted_down}
@@ -20,7 +21,6 @@ use Rattle.finish.proofs.OutcomeLaws.{reply-worked}
 use Rattle.svd.proofs.SvdLaws.{zeroed-all}
 use Rattle.cut_values.specs.Schmidt.{singular_values, values_reply}
 use Rattle.profile_cut.specs.Cut.{cut_list, reply_at, marks_each}
-use Rattle.profile_walk.specs.declared.Packed.{Packed}
 use Rattle.profile_walk.specs.Page.{cuts_reply, cuts_room, WalkRoom, WalkEnd}
 use Rattle.profile_checks.specs.Checks.{page_header, page_values, page_marks, page_scratch, profile_tests}
 use Rattle.profile_checks.proofs.CheckLaws.{tests-small}
@@ -53,11 +53,11 @@ whole : {A : Type 0} (l page : List A) (m : ℕ) → length l ≡ m → take m l
 whole l page m e h = sym (take_all m l (omega (arith, e))) ∙ h
 
 -- the values packed so far lie within the slice
-pub walked-within : (s : List Float) (n : ℕ) (made : Packed) (header : List ℕ) (values largest : List Float) (ranks marks : List ℕ)
-    → WalkEnd s n made header values largest ranks marks → made.answer ≡ Done → made.at ≤ length values
-walked-within s n made header values largest ranks marks w d =
-    let k = w.walked d in
-    omega (arith, k.at-is, ap length k.values-is, length-take made.at values)
+pub walked-within : (s : List Float) (n at : ℕ) (header : List ℕ) (values largest : List Float) (ranks marks : List ℕ)
+    → WalkEnd s n (Ok at) header values largest ranks marks → at ≤ length values
+walked-within s n at header values largest ranks marks w =
+    let k = w.walked in
+    omega (arith, k.at-is, ap length k.values-is, length-take at values)
 
 -- over slices of exactly the needed lengths
 pub work-room : (s : List Float) (n cap : ℕ) {header values largest ranks marks scratch header' values' largest' ranks' marks' scratch' : ℕ}
@@ -87,30 +87,31 @@ work-room s n cap w a b c d e f =
       scratch-is = f;
     }
 
-module _ (s : List Float) (n : ℕ) (made : Packed) (header : List ℕ) (values largest : List Float) (ranks marks : List ℕ)
-    (w : WalkEnd s n made header values largest ranks marks) (scratch : List Float) {scratch' : List Float}
+module _ (s : List Float) (n : ℕ) (header : List ℕ) (values largest : List Float) (ranks marks : List ℕ) (scratch : List Float) {scratch' : List Float}
     (lh : length header ≡ page_header n) (lv : length values ≡ page_values n) (ll : length largest ≡ n - 1) (lr : length ranks ≡ n - 1) (lm : length marks ≡ page_marks n)
     (ls : length scratch ≡ page_scratch n) (z : scratch' ≡ zeroed (length scratch) scratch) where
-  pub work-done : (left : ℕ) {ys : List Float} → made.answer ≡ Done → left ≡ length values - made.at → ys ≡ zeroed left (mid_of made.at (length values - made.at) values)
-      → ProfileWorked s n Done header (put_mid made.at (length values - made.at) values ys) largest ranks marks scratch'
-  work-done left d f h =
-      let k = w.walked d in
+  pub work-done : (at left : ℕ) {ys : List Float} → WalkEnd s n (Ok at) header values largest ranks marks → left ≡ length values - at
+      → ys ≡ zeroed left (mid_of at (length values - at) values)
+      → ProfileWorked s n Done header (put_mid at (length values - at) values ys) largest ranks marks scratch'
+  work-done at left w f h =
+      let k = w.walked in
       record {
-        answer = sym (ap paper d) ∙ w.answer;
+        answer = w.answer;
         header_is = whole header (profile_of s n).header (page_header n) lh k.header_is;
-        values-is = values-filled values (profile_of s n).values made.at (page_values n) left k.values-is k.at-is lv f h;
+        values-is = values-filled values (profile_of s n).values at (page_values n) left k.values-is k.at-is lv f h;
         largest-is = whole largest (profile_of s n).largest (n - 1) ll k.largest-is;
         ranks-is = whole ranks (profile_of s n).ranks (n - 1) lr k.ranks-is;
         marks-is = whole marks (profile_of s n).marks (page_marks n) lm k.marks-is;
         scratch-is = cleared scratch (page_scratch n) ls z;
       }
 
-  pub work-stopped : {header' : List ℕ} {values' largest' : List Float} {ranks' marks' : List ℕ} → ((paper made.answer).0 ≡ 0 → ⊥)
+  pub work-stopped : (e : Refusal) {header' : List ℕ} {values' largest' : List Float} {ranks' marks' : List ℕ} → WalkEnd s n (Err e) header values largest ranks marks
       → (header' ≡ replicate (length header) 0) × (values' ≡ zeros (length values)) × (largest' ≡ zeros (length largest))
       × (ranks' ≡ replicate (length ranks) 0) × (marks' ≡ replicate (length marks) 0)
-      → ProfileWorked s n made.answer header' values' largest' ranks' marks' scratch'
-  work-stopped b y =
-      let x = (paper made.answer).0 in
+      → ProfileWorked s n (Err e) header' values' largest' ranks' marks' scratch'
+  work-stopped e w y =
+      let x = (table e).0 in
+      let b = stopped-number e in
       record {
         answer = w.answer;
         header_is = y.0 ∙ ap (λ (m : ℕ). replicate m 0) lh ∙ done-old x (profile_of s n).header _ b;
@@ -167,18 +168,19 @@ profile-worked s n cap header values largest ranks marks scratch r ec es em e w 
       scratch-is = rw (ec, es, w.scratch-is) (worked-new a (zeros (page_scratch n) ++ drop (page_scratch n) scratch) scratch p);
     }
 
-pub profile-refused : (s : List Float) (n cap : ℕ) (header : List ℕ) (values largest : List Float) (ranks marks : List ℕ) (scratch : List Float) (r : Answer)
-    → paper r ≡ profile_tests s n cap (length header) (length values) (length largest) (length ranks) (length marks) (length scratch)
-    → ((paper r).0 ≡ 0 → ⊥) → CutProfile s n cap header values largest ranks marks scratch r header values largest ranks marks scratch
+pub profile-refused : (s : List Float) (n cap : ℕ) (header : List ℕ) (values largest : List Float) (ranks marks : List ℕ) (scratch : List Float) (e : Refusal)
+    → table e ≡ profile_tests s n cap (length header) (length values) (length largest) (length ranks) (length marks) (length scratch)
+    → CutProfile s n cap header values largest ranks marks scratch (Err e) header values largest ranks marks scratch
 unfolding profile_reply
-profile-refused s n cap header values largest ranks marks scratch r e h =
-    let b : (paper r).0 < 8 = rw e (tests-small s n cap (length header) (length values) (length largest) (length ranks) (length marks) (length scratch)) in
+profile-refused s n cap header values largest ranks marks scratch e i =
+    let h = stopped-number e in
+    let b : (table e).0 < 8 = rw i (tests-small s n cap (length header) (length values) (length largest) (length ranks) (length marks) (length scratch)) in
     record {
-      answer = stays (paper r) (cuts_reply s n (n - 1)) h ∙ ap (λ (x : Reply). and_then x (cuts_reply s n (n - 1))) e;
-      header_is = end-old (paper r).0 _ _ header h b;
-      values-is = end-old (paper r).0 _ _ values h b;
-      largest-is = end-old (paper r).0 _ _ largest h b;
-      ranks-is = end-old (paper r).0 _ _ ranks h b;
-      marks-is = end-old (paper r).0 _ _ marks h b;
-      scratch-is = worked-old (paper r).0 _ scratch h b;
+      answer = refused e _ _ i;
+      header_is = end-old (table e).0 _ _ header h b;
+      values-is = end-old (table e).0 _ _ values h b;
+      largest-is = end-old (table e).0 _ _ largest h b;
+      ranks-is = end-old (table e).0 _ _ ranks h b;
+      marks-is = end-old (table e).0 _ _ marks h b;
+      scratch-is = worked-old (table e).0 _ scratch h b;
     }

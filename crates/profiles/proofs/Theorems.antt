@@ -9,9 +9,8 @@ use lib.Dec.{eqb, ltb, leb}
 use lib.ListN.{length, take, drop, get_or}
 use lib.Seq.{get_or-take, take-append_seam}
 use lib.Ieee.{Float, nan}
-use Rattle.answers.specs.declared.Answer.{Answer}
-use Rattle.answers.specs.declared.Answer.TheVariants.{Done}
-use Rattle.answers.specs.Paper.{Reply, paper, refuse, after, and_then}
+use Rattle.std.specs.Prelude.{Ok}
+use Rattle.answers.specs.Paper.{Answer, Done, Reply, paper, refuse, after, and_then}
 use Rattle.answers.proofs.PaperLaws.{refuse-done, and_then-done, end-new}
 use Rattle.answers.proofs.Theorems.{paper-one}
 use Rattle.complex.specs.Zeros.{zeros}
@@ -122,22 +121,22 @@ module _ (s : List Float) (n cap : ℕ) (header : List ℕ) (values largest : Li
 
   -- What stands at cut j of an accepted page, its values from the offset on, its count, rank, largest value and marks, is what any outcome
   -- of `dense_schmidt_values` for the list 0..j says that answers 0, whatever its cap, its out and its scratch.
-  pub entry-alone : (cap₂ : ℕ) (out work : List Float) (q : CutCounted) (out' work' : List Float) → Schmidt s n (cut_list j) cap₂ out work q out' work' → q.answer ≡ Done
+  pub entry-alone : (cap₂ : ℕ) (out work : List Float) (q : CutCounted) (out' work' : List Float) → Schmidt s n (cut_list j) cap₂ out work (Ok q) out' work'
       → StandsAt j header' values' largest' ranks' marks' q out'
   unfolding cut_values_answer result_at
-  entry-alone cap₂ out work q out' work' y d =
+  entry-alone cap₂ out work q out' work' y =
       let kept = values_at s n j in
       let long = page-long s n j in
-      let t : (cut_values_answer s n (cut_list j) cap₂ (length out) (length work)).0 ≡ 0 = ap (λ (a : Reply). a.0) (sym y.answer ∙ ap paper d) in
+      let t : (cut_values_answer s n (cut_list j) cap₂ (length out) (length work)).0 ≡ 0 = ap (λ (a : Reply). a.0) (sym y.answer) in
       let passed = (and_then-done (cut_values_tests s n (cut_list j) cap₂ (length out) (length work)) (values_reply (singular_values s n (cut_list j))) t).0 in
-      let o : AloneAt s n j q out' = alone-is s n j cap₂ out work q passed y in
-      let c : q.count ≡ length kept = ap (λ (k : CutCounted). k.count) (o.result d) in
-      let z : (reply_at s n j).0 ≡ 0 = ap (λ (a : Reply). a.0) (sym o.answer ∙ ap paper d) in
+      let o : AloneAt s n j (Ok q) out' = alone-is s n j cap₂ out work (Ok q) passed y in
+      let c : q.count ≡ length kept = ap (λ (k : CutCounted). k.count) o.result in
+      let z : (reply_at s n j).0 ≡ 0 = ap (λ (a : Reply). a.0) (sym o.answer) in
       let zero_more : (k : ℕ) → k + 0 ≡ k = λ k. omega arith in
       let front = cuts_to s n j in
       let offset : get_or header' (2 * j + 1) 0 ≡ length front.values = ap (λ (l : List ℕ). get_or l (2 * j + 1) 0) header_at
       ∙ inner-at front.header (length kept ∷ length front.values ∷ []) on.header _ (2 * j) 1 0 long.header in
-      let out-front : take q.count out' ≡ kept = ap (λ (k : ℕ). take k out') c ∙ o.values d in
+      let out-front : take q.count out' ≡ kept = ap (λ (k : ℕ). take k out') c ∙ o.values in
       record {
         count =
             ap₂ (λ (l : List ℕ) (k : ℕ). get_or l k 0) header_at (sym (zero_more (2 * j)))
@@ -155,10 +154,10 @@ module _ (s : List Float) (n cap : ℕ) (header : List ℕ) (values largest : Li
         first =
             ap₂ (λ (l : List Float) (k : ℕ). get_or l k nan) largest-at (sym (zero_more j))
             ∙ inner-at front.largest (first_value kept ∷ []) on.largest _ j 0 nan long.largest
-            ∙ ap (λ (l : List Float). get_or l 0 nan) (sym (o.values d))
+            ∙ ap (λ (l : List Float). get_or l 0 nan) (sym o.values)
             ∙ get_or-take (length kept) out' 0 nan (values-some s n j z);
         marked =
             ap (λ (l : List ℕ). take marks_each (drop (marks_each * j) l)) marks-at
             ∙ ap (take marks_each) (inner front.marks (marks_of (result_at s n j)) on.marks _ (marks_each * j) long.marks)
-            ∙ ap marks_of (sym (o.result d));
+            ∙ ap marks_of (sym o.result);
       }

@@ -1,7 +1,6 @@
 -- All cuts of a chain on one page: the call's answer, and what each lent slice holds at the end. Definitions only.
 use Rattle.std.specs.Prelude.{◌≡◌, List, ◌++◌, ℕ, ◌-◌, length, drop, replicate, Float}
-use Rattle.answers.specs.declared.Answer.{Answer}
-use Rattle.answers.specs.Paper.{Reply, paper, and_then, if_done, if_worked, at_end}
+use Rattle.answers.specs.Paper.{Answer, Reply, paper, and_then, if_done, if_worked, at_end}
 use Rattle.complex.specs.Zeros.{zeros, zeroed}
 use Rattle.finish.specs.Finish.{padded}
 use Rattle.profile_walk.specs.Page.{Page, cuts_to, cuts_reply, WalkRoom}

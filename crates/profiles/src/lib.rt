@@ -5,7 +5,7 @@ ghost use Rattle.std.specs.Prelude.{◌≡◌, length, replicate};
 ghost use Rattle.complex.specs.Zeros.{zeros};
 ghost use Rattle.profiles.specs.Profile.{WorkRoom, ProfileWorked, CutProfile};
 
-use answers::Answer;
+use answers::Refusal;
 
 // Every number of the page becomes zero: 8 and 9.
 fn clear_page(
@@ -37,7 +37,7 @@ fn work(
     ranks: &mut [usize],
     marks: &mut [usize],
     scratch: &mut [f64],
-) -> Answer
+) -> Result<(), Refusal>
     requires { WorkRoom state.now n cap (length header.old) (length values.old) (length largest.old) (length ranks.old) (length marks.old) (length scratch.old) }
     ensures { ProfileWorked state.now n result header.new values.new largest.new ranks.new marks.new scratch.new }
 {
@@ -45,19 +45,21 @@ fn work(
         state, n, cap, header, values, largest, ranks, marks, scratch,
     );
     complex::zero_first(scratch, scratch.len());
-    let answer = made.answer;
-    let Answer::Done = answer else {
-        clear_page(header, values, largest, ranks, marks);
-        return answer;
+    let at = match made {
+        Ok(at) => at,
+        Err(refusal) => {
+            clear_page(header, values, largest, ranks, marks);
+            return Err(refusal);
+        }
     };
-    let at = made.at;
     let left = values.len() - at;
     complex::zero_first(&mut values[at..], left);
-    Answer::Done
+    Ok(())
 }
 
 // The page of the n - 1 cuts of the state: each cut's count and offset, the kept values one cut after another, and of each cut
 // the largest value, the rank and the marks.
+#[tactic(auto, using(profile_checks::proofs::CheckLaws::plane_few, profile_checks::proofs::CheckLaws::half_few))]
 pub fn cut_profile(
     state: &[f64],
     n: usize,
@@ -68,11 +70,11 @@ pub fn cut_profile(
     ranks: &mut [usize],
     marks: &mut [usize],
     scratch: &mut [f64],
-) -> Answer
+) -> Result<(), Refusal>
     ensures { CutProfile state.now n cap header.old values.old largest.old ranks.old marks.old scratch.old result
         header.new values.new largest.new ranks.new marks.new scratch.new }
 {
-    let answer = profile_checks::check(
+    profile_checks::check(
         state,
         n,
         cap,
@@ -82,10 +84,7 @@ pub fn cut_profile(
         ranks.len(),
         marks.len(),
         scratch.len(),
-    );
-    let Answer::Done = answer else {
-        return answer;
-    };
+    )?;
     let cells = submasks::bit(n);
     let side = submasks::bit(n / 2);
     let room = profile_checks::values_room(n);

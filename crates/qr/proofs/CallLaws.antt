@@ -1,18 +1,20 @@
 -- What each way out of a call makes of its contract, and that the contract leaves one outcome. Assumes nothing.
 use mathlib.Core.Path.{◌≡◌, refl, sym, ap, subst, ◌∙◌}
-use mathlib.Core.Bool.{Bool, true, false, ◌&&◌}
+use mathlib.Core.Bool.{true, false, ◌&&◌}
 use mathlib.Core.List.{List, ◌++◌}
 use mathlib.Core.Logic.{inl}
-use Prim.Native.Nat.{ℕ, zero, suc, ◌+◌, ◌*◌, ◌≤◌, ◌<◌, min}
+use Prim.Native.Nat.{ℕ, zero, suc, ◌*◌, ◌≤◌, ◌<◌, min}
 use native.Mathlib.Nat.{mul_comm, mul-le-mul_right, le-mul_of_pos_right, mul-pos, le-min, min-le_left, min-le_right}
 use native.Mathlib.Omega.{arith}
 use lib.Ieee.{Float}
 use lib.ListN.{length, take, drop}
 use lib.Seq.{length-take-le}
-use Rattle.answers.specs.declared.Answer.{Answer}
-use Rattle.answers.specs.declared.Answer.TheVariants.{Done, NotFinite}
-use Rattle.answers.specs.Paper.{Reply, paper, done, after, and_then, if_done, if_worked, at_end, exactly, room}
-use Rattle.answers.proofs.PaperLaws.{both, and_then-done, exactly-done, room-done, stays, then-small, exactly-small, room_small, Ended, nine-ended, worked-new, worked-old, done-new, done-old, end-old}
+use Rattle.std.specs.Prelude.{Result, Ok, Err}
+use Rattle.answers.specs.declared.Refusal.{Refusal}
+use Rattle.answers.proofs.Stopped.{refused, stopped-number}
+use Rattle.answers.specs.Paper.{Reply, paper, table, done, after, and_then, if_done, if_worked, at_end, exactly, room}
+use Rattle.answers.specs.declared.Refusal.TheVariants.{NotFinite}
+use Rattle.answers.proofs.PaperLaws.{and_then-done, exactly-done, room-done, then-small, exactly-small, room_small, Ended, nine-ended, worked-new, worked-old, done-new, done-old, end-old}
 use Rattle.matrix_sizes.specs.Sizes.{matrix_sizes, MatrixSized}
 use Rattle.matrix_sizes.proofs.SizesLaws.{size-done, size_small}
 use Rattle.values.specs.Lists.{all_finite}
@@ -54,12 +56,6 @@ module _ (rows cols : ℕ) {cap : ℕ} (e : cap ≡ min rows cols) where
 
 -- ---- 6
 
-pub made-lengths : (rows cols a q r s : ℕ) {cap : ℕ} {r0 r1 r2 r3 q1 q2 q3 : Reply} → cap ≡ min rows cols
-    → r0 ≡ exactly 0 a (2 * (rows * cols)) → r1 ≡ room 1 q (2 * (cap * rows)) → r2 ≡ room 2 r (2 * (cap * cols)) → r3 ≡ room 3 s (2 * rows)
-    → q1 ≡ and_then r2 r3 → q2 ≡ and_then r1 q1 → q3 ≡ and_then r0 q2 → q3 ≡ qr_lengths rows cols a q r s
-unfolding qr_lengths
-made-lengths rows cols a q r s e r0 r1 r2 r3 q1 q2 q3 = rw (← e) (both q3 r0 (both q2 r1 (both q1 r2 r3)))
-
 -- what the slices have where no length is refused
 pub record Long (rows cols a q r s : ℕ) : Type 0 where
   pub a-is : a ≡ 2 * (rows * cols)
@@ -95,6 +91,30 @@ module _ (a : List Float) (rows cols q r s : ℕ) where
   pub refusal-long : (qr_refusal a rows cols q r s).0 ≡ 0 → Long rows cols (length a) q r s
   refusal-long e = lengths-done rows cols (length a) q r s (refusal-parts e).1
 
+-- what a call that is not refused has, by the name that the code gives the smaller side
+pub record Accepted (rows cols a q r s cap : ℕ) : Type 0 where
+  pub sized : MatrixSized rows cols
+  pub long : Long rows cols a q r s
+  pub q-few : cap * rows ≤ 4096
+  pub r-few : cap * cols ≤ 4096
+  pub rows-few : rows ≤ 4096
+  pub q-fits : 2 * (cap * rows) ≤ q
+  pub r-fits : 2 * (cap * cols) ≤ r
+
+pub accepted : (a : List Float) (rows cols q r s : ℕ) {cap : ℕ} → cap ≡ min rows cols → (qr_refusal a rows cols q r s).0 ≡ 0 → Accepted rows cols (length a) q r s cap
+accepted a rows cols q r s e d =
+    let z = refusal-sized a rows cols q r s d in
+    let l = refusal-long a rows cols q r s d in
+    record {
+      sized = z;
+      long = l;
+      q-few = omega (arith, q-cells rows cols e, z.few);
+      r-few = omega (arith, r-cells rows cols e, z.few);
+      rows-few = omega (arith, rows-within rows cols z.some-columns, z.few);
+      q-fits = omega (arith, q-same rows cols e, l.q-has);
+      r-fits = omega (arith, r-same rows cols e, l.r-has);
+    }
+
 -- ---- the parts that are lent to the work
 
 pub parts-room : (rows cols : ℕ) (a q r s : List Float) {nq nr ns : ℕ} → Long rows cols (length a) (length q) (length r) (length s) → nq ≡ q_need rows cols
@@ -114,12 +134,6 @@ room-some {rows} {cols} s o =
 
 -- ---- 9
 
-pub both_yes : {a b x y : Bool} → a ≡ x → a ≡ true → b ≡ y → b ≡ x && y
-both_yes e f g = rw (← e, f) g
-
-pub both-no : {a x : Bool} (y : Bool) → a ≡ x → a ≡ false → false ≡ x && y
-both-no y e f = rw (← e, f)
-
 pub all-finite : (q r : List Float) (rank : ℕ) → all_finite q && all_finite r ≡ true → done ≡ qr_end (factors q r rank)
 unfolding qr_end
 all-finite q r rank h = rw h
@@ -128,14 +142,14 @@ pub not_finite : (q r : List Float) (rank : ℕ) → all_finite q && all_finite 
 unfolding qr_end
 not_finite q r rank h = rw h
 
-pub settled : (q r : List Float) (rank : ℕ) → all_finite q && all_finite r ≡ true → QrFinished (factors q r rank) Done rank q r
+pub settled : (q r : List Float) (rank : ℕ) → all_finite q && all_finite r ≡ true → QrFinished (factors q r rank) (Ok rank) q r
 settled q r rank h =
     let e = all-finite q r rank h in
     let z : (qr_end (factors q r rank)).0 ≡ 0 = ap (λ (x : Reply). x.0) (sym e) in
     record { answer-is = e; rank_is = done-new _ rank 0 z; q-is = done-new _ q (zeros (length q)) z; r-is = done-new _ r (zeros (length r)) z }
 
 pub cleared : (q r : List Float) (rank : ℕ) {q' r' : List Float} → all_finite q && all_finite r ≡ false → q' ≡ zeroed (length q) q → r' ≡ zeroed (length r) r
-    → QrFinished (factors q r rank) NotFinite 0 q' r'
+    → QrFinished (factors q r rank) (Err NotFinite) q' r'
 cleared q r rank h f g =
     let e = not_finite q r rank h in
     let z : (qr_end (factors q r rank)).0 ≡ 0 → ⊥ = λ x. omega (arith, ap (λ (y : Reply). y.0) (sym e)) in
@@ -146,8 +160,8 @@ cleared q r rank h f g =
       r-is = g ∙ zeroed-all r refl ∙ done-old _ r (zeros (length r)) z;
     }
 
-pub finished_as : {f g : Factors} {answer : Answer} {rank : ℕ} {q r : List Float} → f ≡ g → QrFinished f answer rank q r → QrFinished g answer rank q r
-finished_as {f} {g} {answer} {rank} {q} {r} e h = subst (λ (x : Factors). QrFinished x answer rank q r) e h
+pub finished_as : {f g : Factors} {x : Result ℕ Refusal} {q r : List Float} → f ≡ g → QrFinished f x q r → QrFinished g x q r
+finished_as {f} {g} {x} {q} {r} e h = subst (λ (y : Factors). QrFinished y x q r) e h
 
 -- ---- the call
 
@@ -185,26 +199,24 @@ refusal-small a rows cols q r s =
     (then-small (qr_lengths rows cols (length a) q r s) (components 0 a) (lengths-small rows cols (length a) q r s) (components-small 0 a))
 
 module _ (a : List Float) (rows cols : ℕ) (q r s : List Float) where
-  pub call-refused : (x : Answer) → paper x ≡ qr_refusal a rows cols (length q) (length r) (length s) → ((paper x).0 ≡ 0 → ⊥)
-      → Factorized a rows cols q r s x 0 q r s
+  pub call-refused : (e : Refusal) → table e ≡ qr_refusal a rows cols (length q) (length r) (length s) → Factorized a rows cols q r s (Err e) q r s
   unfolding qr_answer
-  call-refused x e n =
-      let y = qr_refusal a rows cols (length q) (length r) (length s) in
-      let m : y.0 ≡ 0 → ⊥ = λ z. n (ap (λ (u : Reply). u.0) e ∙ z) in
-      let l : (paper x).0 < 8 = rw e (refusal-small a rows cols (length q) (length r) (length s)) in
+  call-refused x e =
+      let n = stopped-number x in
+      let l : (table x).0 < 8 = rw e (refusal-small a rows cols (length q) (length r) (length s)) in
       record {
-        answer-is = e ∙ stays y (qr_end (qr_factors a rows cols)) m;
+        answer-is = refused x _ (qr_end (qr_factors a rows cols)) e;
         rank_is = done-old _ (qr_factors a rows cols).rank 0 n;
         q-is = end-old _ ((qr_factors a rows cols).q ++ drop (q_need rows cols) q) (zeroed (q_need rows cols) q) q n l;
         r-is = end-old _ ((qr_factors a rows cols).r ++ drop (r_need rows cols) r) (zeroed (r_need rows cols) r) r n l;
         scratch-is = worked-old _ (zeroed (scratch_need rows) s) s n l;
       }
 
-  pub call-worked : (x : Answer) (rank : ℕ) {q₁ r₁ s₁ : List Float} {nq nr ns : ℕ} → qr_answer a rows cols (length q) (length r) (length s) ≡ qr_end (qr_factors a rows cols)
-      → nq ≡ q_need rows cols → nr ≡ r_need rows cols → ns ≡ scratch_need rows → QrFinished (qr_factors a rows cols) x rank q₁ r₁
+  pub call-worked : (x : Result ℕ Refusal) {q₁ r₁ s₁ : List Float} {nq nr ns : ℕ} → qr_answer a rows cols (length q) (length r) (length s) ≡ qr_end (qr_factors a rows cols)
+      → nq ≡ q_need rows cols → nr ≡ r_need rows cols → ns ≡ scratch_need rows → QrFinished (qr_factors a rows cols) x q₁ r₁
       → length q₁ ≡ nq → length r₁ ≡ nr → s₁ ≡ zeros ns
-      → Factorized a rows cols q r s x rank (q₁ ++ drop nq q) (r₁ ++ drop nr r) (s₁ ++ drop ns s)
-  call-worked x rank {q₁} {r₁} {s₁} p e f g w lq lr z =
+      → Factorized a rows cols q r s x (q₁ ++ drop nq q) (r₁ ++ drop nr r) (s₁ ++ drop ns s)
+  call-worked x {q₁} {r₁} {s₁} p e f g w lq lr z =
       let n = finite_number (qr_factors a rows cols) in
       let u : (qr_end (qr_factors a rows cols)).0 ≡ (paper x).0 = ap (λ (y : Reply). y.0) (sym w.answer-is) in
       let m : Ended (paper x).0 = rw u at n in

@@ -1,7 +1,7 @@
 -- A call of `factorize_gram_schmidt`: its answer, its rank and what each lent slice holds at the end, refusals too. Assumes nothing.
-use Rattle.std.specs.Prelude.{◌≡◌, not, ◌&&◌, List, ◌++◌, ℕ, ◌*◌, min, Float, length, drop}
-use Rattle.answers.specs.declared.Answer.{Answer}
-use Rattle.answers.specs.Paper.{Reply, paper, done, refuse, and_then, if_done, if_worked, at_end, exactly, room}
+use Rattle.std.specs.Prelude.{◌≡◌, Result, not, ◌&&◌, List, ◌++◌, ℕ, ◌*◌, min, Float, length, drop}
+use Rattle.answers.specs.declared.Refusal.{Refusal}
+use Rattle.answers.specs.Paper.{Reply, paper, given, done, refuse, and_then, if_done, if_worked, at_end, exactly, room}
 use Rattle.matrix_sizes.specs.Sizes.{matrix_sizes}
 use Rattle.values.specs.Lists.{all_finite}
 use Rattle.complex.specs.Cells.{components}
@@ -38,16 +38,16 @@ unfolding qr_refusal qr_end
 qr_answer a rows cols q r scratch = and_then (qr_refusal a rows cols q r scratch) (qr_end (qr_factors a rows cols))
 
 -- the factors on slices of the needed lengths, or zeros
-pub record QrFinished (f : Factors) (answer : Answer) (rank : ℕ) (q r : List Float) : Type 0 where
-  pub answer-is : paper answer ≡ qr_end f
-  pub rank_is : rank ≡ if_done (qr_end f).0 f.rank 0
+pub record QrFinished (f : Factors) (x : Result ℕ Refusal) (q r : List Float) : Type 0 where
+  pub answer-is : paper x ≡ qr_end f
+  pub rank_is : given 0 x ≡ if_done (qr_end f).0 f.rank 0
   pub q-is : q ≡ if_done (qr_end f).0 f.q (zeros (length f.q))
   pub r-is : r ≡ if_done (qr_end f).0 f.r (zeros (length f.r))
 
 -- the call: q, r and the scratch as they were lent, and then as they are at the end
-pub record Factorized (a : List Float) (rows cols : ℕ) (q r scratch : List Float) (answer : Answer) (rank : ℕ) (q' r' scratch' : List Float) : Type 0 where
-  pub answer-is : paper answer ≡ qr_answer a rows cols (length q) (length r) (length scratch)
-  pub rank_is : rank ≡ if_done (paper answer).0 (qr_factors a rows cols).rank 0
-  pub q-is : q' ≡ at_end (paper answer).0 ((qr_factors a rows cols).q ++ drop (q_need rows cols) q) (zeroed (q_need rows cols) q) q
-  pub r-is : r' ≡ at_end (paper answer).0 ((qr_factors a rows cols).r ++ drop (r_need rows cols) r) (zeroed (r_need rows cols) r) r
-  pub scratch-is : scratch' ≡ if_worked (paper answer).0 (zeroed (scratch_need rows) scratch) scratch
+pub record Factorized (a : List Float) (rows cols : ℕ) (q r scratch : List Float) (x : Result ℕ Refusal) (q' r' scratch' : List Float) : Type 0 where
+  pub answer-is : paper x ≡ qr_answer a rows cols (length q) (length r) (length scratch)
+  pub rank_is : given 0 x ≡ if_done (paper x).0 (qr_factors a rows cols).rank 0
+  pub q-is : q' ≡ at_end (paper x).0 ((qr_factors a rows cols).q ++ drop (q_need rows cols) q) (zeroed (q_need rows cols) q) q
+  pub r-is : r' ≡ at_end (paper x).0 ((qr_factors a rows cols).r ++ drop (r_need rows cols) r) (zeroed (r_need rows cols) r) r
+  pub scratch-is : scratch' ≡ if_worked (paper x).0 (zeroed (scratch_need rows) scratch) scratch

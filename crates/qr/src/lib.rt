@@ -10,42 +10,25 @@ ghost use Rattle.qr_passes.specs.GramSchmidt.{factors, qr_factors};
 ghost use Rattle.values.specs.Lists.{all_finite};
 ghost use Rattle.qr.specs.Call.{qr_lengths, qr_refusal, QrFinished, Factorized};
 
-use answers::Answer;
+use answers::Refusal;
 
-// What a call hands back: the answer, and on Done the rank.
-#[derive(Clone, Copy)]
-pub struct Factored {
-    pub answer: Answer,
-    pub rank: usize,
-}
-
+// Whether every number of both is finite.
 fn both_finite(q: &[f64], r: &[f64]) -> bool
     ensures { result ≡ all_finite q.now && all_finite r.now }
 {
-    if values::all_finite(q) {
-        return values::all_finite(r);
-    }
-    false
+    values::all_finite(q) && values::all_finite(r)
 }
 
-// Answer 9: q and r become +0.0, and the rank 0.
-fn settle(q: &mut [f64], r: &mut [f64], rank: usize) -> Factored
-    ensures { QrFinished (factors q.old r.old rank) result.answer result.rank q.new r.new }
+// The rank; or answer 9, and then q and r are +0.0.
+fn settle(q: &mut [f64], r: &mut [f64], rank: usize) -> Result<usize, Refusal>
+    ensures { QrFinished (factors q.old r.old rank) result q.new r.new }
 {
     if both_finite(q, r) {
-        return Factored {
-            answer: Answer::Done,
-            rank,
-        };
+        return Ok(rank);
     }
-    let in_q = q.len();
-    complex::zero_first(q, in_q);
-    let in_r = r.len();
-    complex::zero_first(r, in_r);
-    Factored {
-        answer: Answer::NotFinite,
-        rank: 0,
-    }
+    complex::zero_first(q, q.len());
+    complex::zero_first(r, r.len());
+    Err(Refusal::NotFinite)
 }
 
 // On slices of the needed lengths: the factors or answer 9, and the scratch +0.0 after either.
@@ -56,46 +39,51 @@ fn factor_parts(
     q: &mut [f64],
     r: &mut [f64],
     scratch: &mut [f64],
-) -> Factored
+) -> Result<usize, Refusal>
     requires qr_room { QrRoom rows cols (min rows cols) (length a.now) (length q.old) (length r.old) (length scratch.old) }
     requires in_bounds { 1 < length q.old }
-    ensures is { QrFinished (qr_factors a.now rows cols) result.answer result.rank q.new r.new }
+    ensures is { QrFinished (qr_factors a.now rows cols) result q.new r.new }
     ensures cleared { scratch.new ≡ zeros (length scratch.old) }
 {
     let rank = qr_factor::factor(a, rows, cols, q, r, scratch);
-    let in_scratch = scratch.len();
-    complex::zero_first(scratch, in_scratch);
+    complex::zero_first(scratch, scratch.len());
     settle(q, r, rank)
 }
 
 // Answer 6.
-fn check_lengths(rows: usize, cols: usize, a: usize, q: usize, r: usize, scratch: usize) -> Answer
+#[tactic(auto, unfolding(crate::specs::Call::qr_lengths))]
+fn check_lengths(
+    rows: usize,
+    cols: usize,
+    a: usize,
+    q: usize,
+    r: usize,
+    scratch: usize,
+) -> Result<(), Refusal>
     requires { MatrixSized rows cols }
     ensures { paper result ≡ qr_lengths rows cols a q r scratch }
 {
-    let cap = qr_passes::smaller(rows, cols);
-    let in_a = answers::exact_length(0, a, 2 * (rows * cols));
-    let in_q = answers::enough_room(1, q, 2 * (cap * rows));
-    let in_r = answers::enough_room(2, r, 2 * (cap * cols));
-    let in_scratch = answers::enough_room(3, scratch, 2 * rows);
-    answers::and_then(
-        in_a,
-        answers::and_then(in_q, answers::and_then(in_r, in_scratch)),
-    )
+    let cap = rows.min(cols);
+    answers::exact_length(0, a, 2 * (rows * cols))?;
+    answers::enough_room(1, q, 2 * (cap * rows))?;
+    answers::enough_room(2, r, 2 * (cap * cols))?;
+    answers::enough_room(3, scratch, 2 * rows)
 }
 
 // Answers 1, 6 and 7.
-fn check(a: &[f64], rows: usize, cols: usize, q: usize, r: usize, scratch: usize) -> Answer
+#[tactic(auto, unfolding(crate::specs::Call::qr_refusal))]
+fn check(
+    a: &[f64],
+    rows: usize,
+    cols: usize,
+    q: usize,
+    r: usize,
+    scratch: usize,
+) -> Result<(), Refusal>
     ensures { paper result ≡ qr_refusal a.now rows cols q r scratch }
 {
-    let first = matrix_sizes::check_sizes(rows, cols);
-    let Answer::Done = first else {
-        return first;
-    };
-    let second = check_lengths(rows, cols, a.len(), q, r, scratch);
-    let Answer::Done = second else {
-        return second;
-    };
+    matrix_sizes::check_sizes(rows, cols)?;
+    check_lengths(rows, cols, a.len(), q, r, scratch)?;
     components::check_components(a)
 }
 
@@ -108,18 +96,12 @@ pub fn factorize_gram_schmidt(
     q: &mut [f64],
     r: &mut [f64],
     scratch: &mut [f64],
-) -> Factored
-    ensures { Factorized a.now rows cols q.old r.old scratch.old result.answer result.rank
+) -> Result<usize, Refusal>
+    ensures { Factorized a.now rows cols q.old r.old scratch.old result
         q.new r.new scratch.new }
 {
-    let checked = check(a, rows, cols, q.len(), r.len(), scratch.len());
-    let Answer::Done = checked else {
-        return Factored {
-            answer: checked,
-            rank: 0,
-        };
-    };
-    let cap = qr_passes::smaller(rows, cols);
+    check(a, rows, cols, q.len(), r.len(), scratch.len())?;
+    let cap = rows.min(cols);
     let in_q = 2 * (cap * rows);
     let in_r = 2 * (cap * cols);
     let in_scratch = 2 * rows;

@@ -1,5 +1,6 @@
 -- The real and the imaginary parts of the four sums of a dot product, each added up by itself. Assumes nothing.
-use Rattle.std.specs.Prelude.{Float}
+use Rattle.std.specs.Prelude.{Bool, cond, Float}
+use Rattle.complex.specs.declared.Complex.{Complex}
 use Rattle.complex.specs.Arithmetic.{complex_of}
 use Rattle.qr_column.specs.declared.Parts.{Parts}
 use Rattle.qr_column.specs.declared.Sums.{Sums}
@@ -7,11 +8,12 @@ use Rattle.qr_column.specs.declared.Sums.{Sums}
 abbrev pub parts_of : Float → Float → Float → Float → Parts
 parts_of a b c d = record { sum0 = a; sum1 = b; sum2 = c; sum3 = d }
 
-unfoldable pub real_parts : Sums → Parts
-real_parts s = parts_of s.sum0.re s.sum1.re s.sum2.re s.sum3.re
+-- the imaginary part, or the real one
+unfoldable pub part_of : Bool → Complex → Float
+part_of imaginary z = cond imaginary z.im z.re
 
-unfoldable pub imaginary_parts : Sums → Parts
-imaginary_parts s = parts_of s.sum0.im s.sum1.im s.sum2.im s.sum3.im
+unfoldable pub parts : Bool → Sums → Parts
+parts imaginary s = parts_of (part_of imaginary s.sum0) (part_of imaginary s.sum1) (part_of imaginary s.sum2) (part_of imaginary s.sum3)
 
 -- the sums with these parts
 unfoldable pub sums_of : Parts → Parts → Sums

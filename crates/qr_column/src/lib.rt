@@ -7,7 +7,7 @@ ghost use Rattle.std.specs.Prelude.{◌≡◌, ◌+◌, ◌*◌, ◌<◌, ◌≤
 ghost use Rattle.complex.specs.Cells.{cell_at};
 ghost use Rattle.complex.specs.Squares.{squares_to};
 ghost use Rattle.qr_column.specs.Dot.{add_first, joined, dot_term, quads_to, tail_to, dot_of};
-ghost use Rattle.qr_column.specs.DotParts.{real_parts, imaginary_parts, sums_of};
+ghost use Rattle.qr_column.specs.DotParts.{part_of, parts, sums_of};
 ghost use Rattle.qr_column.specs.Woven.{woven};
 ghost use Rattle.qr_basis.specs.Matrix.{matrix_of};
 ghost use Rattle.qr_column.specs.Columns.{column_of, norm_of, lessened, scaled_into};
@@ -92,34 +92,18 @@ pub fn dot_term(q: &[f64], i: usize, v: &[f64], rows: usize, t: usize) -> Comple
         .mul(complex::read_plane(v, rows, t))
 }
 
-// The real parts of the first n quads of rows. They and the imaginary parts have a loop each: in one
-// loop the sums are not kept two to a register.
-pub fn real_quads(q: &[f64], i: usize, v: &[f64], rows: usize, n: usize) -> Parts
-    requires { (2 * (i * rows + rows) ≤ length q.now) × (4 * n ≤ rows) × (length v.now ≡ 2 * rows) }
-    ensures { result ≡ real_parts (quads_to (matrix_of rows q.now) (i * rows) (woven rows v.now) n) }
+// The imaginary part of z where IMAGINARY says so, else the real one.
+#[tactic(auto, unfolding(crate::specs::DotParts::part_of))]
+fn part<const IMAGINARY: bool>(z: Complex) -> f64
+    ensures { result ≡ part_of IMAGINARY z }
 {
-    let mut sums = Parts {
-        sum0: 0.0,
-        sum1: 0.0,
-        sum2: 0.0,
-        sum3: 0.0,
-    };
-    for k in 0..n {
-        let t = 4 * k;
-        sums = Parts {
-            sum0: sums.sum0 + dot_term(q, i, v, rows, t).re,
-            sum1: sums.sum1 + dot_term(q, i, v, rows, t + 1).re,
-            sum2: sums.sum2 + dot_term(q, i, v, rows, t + 2).re,
-            sum3: sums.sum3 + dot_term(q, i, v, rows, t + 3).re,
-        };
-    }
-    sums
+    if IMAGINARY { z.im } else { z.re }
 }
 
-// The imaginary parts of the first n quads of rows.
-pub fn imaginary_quads(q: &[f64], i: usize, v: &[f64], rows: usize, n: usize) -> Parts
+// The real parts of the first n quads of rows, or the imaginary ones. Both have a loop each: in one loop the sums are not kept two to a register.
+fn quads<const IMAGINARY: bool>(q: &[f64], i: usize, v: &[f64], rows: usize, n: usize) -> Parts
     requires { (2 * (i * rows + rows) ≤ length q.now) × (4 * n ≤ rows) × (length v.now ≡ 2 * rows) }
-    ensures { result ≡ imaginary_parts (quads_to (matrix_of rows q.now) (i * rows) (woven rows v.now) n) }
+    ensures { result ≡ parts IMAGINARY (quads_to (matrix_of rows q.now) (i * rows) (woven rows v.now) n) }
 {
     let mut sums = Parts {
         sum0: 0.0,
@@ -130,10 +114,10 @@ pub fn imaginary_quads(q: &[f64], i: usize, v: &[f64], rows: usize, n: usize) ->
     for k in 0..n {
         let t = 4 * k;
         sums = Parts {
-            sum0: sums.sum0 + dot_term(q, i, v, rows, t).im,
-            sum1: sums.sum1 + dot_term(q, i, v, rows, t + 1).im,
-            sum2: sums.sum2 + dot_term(q, i, v, rows, t + 2).im,
-            sum3: sums.sum3 + dot_term(q, i, v, rows, t + 3).im,
+            sum0: sums.sum0 + part::<IMAGINARY>(dot_term(q, i, v, rows, t)),
+            sum1: sums.sum1 + part::<IMAGINARY>(dot_term(q, i, v, rows, t + 1)),
+            sum2: sums.sum2 + part::<IMAGINARY>(dot_term(q, i, v, rows, t + 2)),
+            sum3: sums.sum3 + part::<IMAGINARY>(dot_term(q, i, v, rows, t + 3)),
         };
     }
     sums
@@ -158,8 +142,8 @@ pub fn dot(q: &[f64], i: usize, v: &[f64], rows: usize) -> Complex
 {
     let n = rows / 4;
     let done = 4 * n;
-    let re = real_quads(q, i, v, rows, n);
-    let im = imaginary_quads(q, i, v, rows, n);
+    let re = quads::<false>(q, i, v, rows, n);
+    let im = quads::<true>(q, i, v, rows, n);
     let whole = Sums::of_parts(re, im);
     let all = dot_tail(q, i, v, rows, done, whole, rows - done);
     all.joined()

@@ -79,10 +79,8 @@ fn build(
     ensures { factors (matrix_of rows q.new) r.new result
         ≡ qr_columns_to a.now rows cols cap (factors (zeros (2 * (cap * rows))) (zeros (2 * (cap * cols))) 0) cols }
 {
-    let in_q = q.len();
-    complex::zero_first(q, in_q);
-    let in_r = r.len();
-    complex::zero_first(r, in_r);
+    complex::zero_first(q, q.len());
+    complex::zero_first(r, r.len());
     add_columns(a, rows, cols, cap, q, r, v)
 }
 
@@ -99,7 +97,7 @@ pub fn factor(
     requires in_bounds { 1 < length q.old }
     ensures { factors q.new r.new result ≡ qr_factors a.now rows cols }
 {
-    let cap = qr_passes::smaller(rows, cols);
+    let cap = rows.min(cols);
     let rank = build(a, rows, cols, cap, q, r, v);
     qr_layout::lay_out(q, rows, cap, v);
     with_basis(q, rank)

@@ -2,7 +2,7 @@
 // The basis columns of q and the column v that is worked on are held as planes (crates basis and columns).
 #![tactic(auto)]
 
-ghost use Rattle.std.specs.Prelude.{◌≡◌, ◌+◌, ◌*◌, ◌<◌, ◌≤◌, min, length};
+ghost use Rattle.std.specs.Prelude.{◌≡◌, ◌+◌, ◌*◌, ◌<◌, ◌≤◌, length};
 ghost use Rattle.complex.specs.Arithmetic.{complex_of};
 ghost use Rattle.complex.specs.Cells.{set_cell};
 ghost use Rattle.complex.specs.Zeros.{zero_float};
@@ -97,10 +97,7 @@ fn residual_of(
     ensures { passed (held (woven rows v.new) r.new) result
         ≡ passes (matrix_of rows q.now) rank rows cols j 3 norm (held (woven rows v.old) r.old) }
 {
-    if 0 < rank {
-        return orthogonalize(q, rank, rows, cols, j, norm, v, r);
-    }
-    if norm > PASS_RETAIN * norm {
+    if rank == 0 && norm > PASS_RETAIN * norm {
         return norm;
     }
     orthogonalize(q, rank, rows, cols, j, norm, v, r)
@@ -166,22 +163,9 @@ pub fn judge(
         ≡ judged rows cols cap j norms.whole (matrix_of rows q.old) rank (passed (held (woven rows v.now) r.old) norms.residual) }
     ensures within { result ≤ cap }
 {
-    if cap <= rank {
-        return rank;
-    }
-    if norms.residual > RANK_FLOOR * norms.whole {
+    if rank < cap && norms.residual > RANK_FLOOR * norms.whole {
         keep(v, norms.residual, rows, q, rank, r, rank * cols + j);
         return rank + 1;
     }
     rank
-}
-
-// The number of columns that q has room for.
-pub fn smaller(a: usize, b: usize) -> usize
-    ensures { result ≡ min a b }
-{
-    if a <= b {
-        return a;
-    }
-    b
 }

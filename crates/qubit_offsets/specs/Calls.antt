@@ -1,8 +1,7 @@
 -- What the calls of row offsets and of a traced base answer and leave behind: refused as a density without its state. Assumes nothing.
-use Rattle.std.specs.Prelude.{not, ◌≡◌, List, ◌++◌, ℕ, ◌-◌, ◌^◌, ltb, length, drop}
-use Rattle.answers.specs.declared.Answer.{Answer}
-use Rattle.answers.specs.Paper.{Reply, paper, done, refuse, and_then, if_done}
-use Rattle.qubit_offsets.specs.declared.Traced.{Traced}
+use Rattle.std.specs.Prelude.{not, ◌≡◌, List, ◌++◌, ℕ, ◌-◌, ◌^◌, ltb, length, drop, Result}
+use Rattle.answers.specs.Paper.{Answer, Reply, paper, given, done, refuse, and_then, if_done}
+use Rattle.answers.specs.declared.Refusal.{Refusal}
 use Rattle.qubits.specs.Lists.{density_sizes, qubit_set}
 use Rattle.qubits.specs.Spread.{row_offsets, traced_base}
 
@@ -28,7 +27,7 @@ abbrev pub traced_answer : ℕ → List ℕ → ℕ → ℕ → Reply
 traced_answer e l n cap =
     and_then (density_sizes n (length l) cap) (refuse (not (ltb e (2 ^ (n - length l)))) (1, 0) (qubit_set n l))
 
--- a call of `traced_base`: the answer and the base, 0 on a refusal
-pub record TracedBase (e : ℕ) (l : List ℕ) (n cap : ℕ) (r : Traced) : Type 0 where
-  pub answer : paper r.answer ≡ traced_answer e l n cap
-  pub base : r.base ≡ if_done (traced_answer e l n cap).0 (traced_base n l e) 0
+-- a call of `traced_base`: the answer and the base, none on a refusal
+pub record TracedBase (e : ℕ) (l : List ℕ) (n cap : ℕ) (r : Result ℕ Refusal) : Type 0 where
+  pub answer : paper r ≡ traced_answer e l n cap
+  pub base : given 0 r ≡ if_done (traced_answer e l n cap).0 (traced_base n l e) 0

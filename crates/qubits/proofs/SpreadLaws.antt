@@ -4,7 +4,7 @@ use mathlib.Core.Path.{◌≡◌, refl, ap, ◌∙◌}
 use mathlib.Core.Logic.{⊎_elim}
 use mathlib.Core.Bool.{Bool, true, false}
 use mathlib.Core.List.{List, [], ◌∷◌, ◌++◌, append-nil}
-use Prim.Native.Nat.{ℕ, zero, suc, ◌+◌, ◌-◌, ◌*◌, ◌/◌, ◌%◌, ◌^◌, ◌≤◌, ◌<◌}
+use Prim.Native.Nat.{ℕ, zero, suc, ◌+◌, ◌*◌, ◌/◌, ◌%◌, ◌^◌, ◌≤◌, ◌<◌}
 use native.Mathlib.Nat.{zero-mul, one-mul, pow-suc, add-mul, mul_assoc, mul_comm, div-eq_of_lt, mod-eq_of_lt}
 use native.Mathlib.Numerals.{add-one}
 use native.Mathlib.Omega.{arith}
@@ -33,9 +33,6 @@ pub spread-step : (l : List ℕ) (i off x : ℕ) → i < length l
     → bit_or off (spread (drop i l) (x / 2 ^ i)) ≡ bit_or (bit_or off (x / 2 ^ i % 2 * 2 ^ get_or l i 0)) (spread (drop (i + 1) l) (x / 2 ^ (i + 1)))
 spread-step l i off x h =
     rw (drop-cons l i 0, add-one, spread-cons (get_or l i 0) (drop (suc i) l) (x / 2 ^ i), or_assoc, shr-shr x i 1, add-one)
-
-pub offset-begin : (l : List ℕ) (x : ℕ) → spread l x ≡ bit_or 0 (spread l (x / 1))
-offset-begin l x = let h : x / 1 ≡ x = omega arith in rw (or_zero_l, h)
 
 pub offset-end : (l : List ℕ) (i off x : ℕ) → length l ≤ i → bit_or off (spread (drop i l) x) ≡ off
 offset-end l i off x h = rw (drop_of_length-le l h, spread_none x, or_zero_r)

@@ -2,8 +2,7 @@
 use mathlib.Core.Path.{◌≡◌, sym, ◌∙◌}
 use mathlib.Core.List.{List}
 use Prim.Native.Nat.{ℕ}
-use Rattle.answers.specs.declared.Answer.{Answer}
-use Rattle.answers.specs.Paper.{paper}
+use Rattle.answers.specs.Paper.{Answer, paper}
 use Rattle.answers.proofs.Theorems.{paper-one}
 use Rattle.qubits.specs.Lists.{qubit_set, subsystem}
 

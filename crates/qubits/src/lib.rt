@@ -6,61 +6,45 @@ ghost use Rattle.answers.specs.Paper.{paper};
 ghost use Rattle.qubits.specs.Lists.{stands, qubit_set, subsystem, Listed};
 ghost use Rattle.qubits.specs.Spread.{row_offset, traced_base, insert_zero_bit, named};
 
-use answers::Answer;
+use answers::Refusal;
 
 // Inner: whether q stands in the list.
 pub fn stands_in(list: &[usize], q: usize) -> bool
     ensures { result ≡ stands q list.now }
 {
-    let mut i = 0;
-    while i < list.len() {
-        if list[i] == q {
-            return true;
-        }
-        i += 1;
-    }
-    false
+    list.contains(&q)
 }
 
 // A list of qubits of a register of n: refused by 1, then 2 and 3 in list order, then 4.
-pub fn validate_qubit_set(list: &[usize], n: usize) -> Answer
+pub fn validate_qubit_set(list: &[usize], n: usize) -> Result<(), Refusal>
     ensures { paper result ≡ qubit_set n list.now }
 {
-    if n < 1 {
-        return Answer::Size;
+    if n < 1 || 12 < n {
+        return Err(Refusal::Size);
     }
-    if 12 < n {
-        return Answer::Size;
-    }
-    let mut i = 0;
-    while i < list.len() {
-        let q = list[i];
-        if n <= q {
-            return Answer::OutOfRange(i);
+    for (i, q) in list.iter().enumerate() {
+        if n <= *q {
+            return Err(Refusal::OutOfRange(i));
         }
-        if stands_in(&list[..i], q) {
-            return Answer::Twice(i);
+        if stands_in(&list[..i], *q) {
+            return Err(Refusal::Twice(i));
         }
-        i += 1;
     }
-    if list.len() == 0 {
-        return Answer::Empty;
+    if list.is_empty() {
+        return Err(Refusal::Empty);
     }
-    Answer::Done
+    Ok(())
 }
 
 // The same for a cut, which also leaves a qubit out: 5.
-pub fn validate_subsystem(list: &[usize], n: usize) -> Answer
+pub fn validate_subsystem(list: &[usize], n: usize) -> Result<(), Refusal>
     ensures { paper result ≡ subsystem n list.now }
 {
-    let first = validate_qubit_set(list, n);
-    let Answer::Done = first else {
-        return first;
-    };
+    validate_qubit_set(list, n)?;
     if list.len() == n {
-        return Answer::Whole;
+        return Err(Refusal::Whole);
     }
-    Answer::Done
+    Ok(())
 }
 
 // Inner: the mask of the listed qubits.
@@ -69,11 +53,8 @@ pub fn mask_of(list: &[usize], n: usize) -> usize
     ensures { (result ≡ named list.now) × (result < 2 ^ n) }
 {
     let mut mask: usize = 0;
-    let mut i = 0;
-    while i < list.len() {
-        let q = list[i];
-        mask = mask | submasks::bit(q);
-        i += 1;
+    for q in list {
+        mask |= submasks::bit(*q);
     }
     mask
 }
@@ -84,11 +65,8 @@ pub fn row_offset(list: &[usize], n: usize, t: usize) -> usize
     ensures { result ≡ row_offset list.now t }
 {
     let mut offset: usize = 0;
-    let mut i = 0;
-    while i < list.len() {
-        let q = list[i];
-        offset = offset | (((t >> i) & 1) << q);
-        i += 1;
+    for (i, q) in list.iter().enumerate() {
+        offset |= ((t >> i) & 1) << *q;
     }
     offset
 }
@@ -114,12 +92,10 @@ pub fn traced_base_of(e: usize, list: &[usize], n: usize) -> usize
     ensures { result ≡ traced_base n list.now e }
 {
     let mut base = e;
-    let mut q: usize = 0;
-    while q < n {
+    for q in 0..n {
         if stands_in(list, q) {
             base = insert_zero_bit(base, q);
         }
-        q += 1;
     }
     base
 }

@@ -1,94 +1,104 @@
-// For the programs that replay cases, and for them alone: hexadecimal words read from a text and written
+// Inner: for the programs that replay cases, and for them alone: hexadecimal words read from a text and written
 // to standard output. What they promise is only what a loop over a text needs; the gate compares the output.
 #![tactic(auto)]
 
-ghost use Rattle.std.specs.Prelude.{◌≡◌, ◌+◌, ◌*◌, ◌<◌, ◌≤◌, true, length};
+ghost use Rattle.std.specs.Prelude.{◌≡◌, ◌<◌, ◌≤◌, IfSome, length};
 
-use std::io::Result;
+use answers::Refusal;
+use std::io;
+use sweeps::Sweeps;
 
 // A word of the text, and where the text goes on.
 #[derive(Clone, Copy)]
 pub struct Word {
-    pub found: bool,
     pub value: u64,
     pub next: usize,
 }
 
-// The value of a hexadecimal digit, and 16 for any other byte.
-fn digit(b: u8) -> u64
-    ensures { result ≤ 16 }
+// The value of a hexadecimal digit.
+fn digit(b: u8) -> Option<u64>
+    ensures { IfSome result (λ d. d < 16) }
 {
-    if b < b'0' {
-        return 16;
+    match b {
+        b'0'..=b'9' => Some(u64::from(b - b'0')),
+        b'A'..=b'F' => Some(u64::from(b - b'A') + 10),
+        _ => None,
     }
-    if b <= b'9' {
-        return wide(b - b'0');
-    }
-    if b < b'A' {
-        return 16;
-    }
-    if b <= b'F' {
-        return wide(b - b'A') + 10;
-    }
-    16
 }
 
-// The byte as a number.
-fn wide(b: u8) -> u64
-    ensures { result ≡ b }
-{
-    b as u64
-}
-
-// Where the next word starts, or the text ends: a '#' and the rest of its line are a comment.
+// Where the next word starts, or the text's end: a '#' and the rest of its line are a comment.
 fn word_start(text: &[u8], at: usize) -> usize
-    requires { at ≤ length text.now }
-    ensures { (at ≤ result) × (result ≤ length text.now) }
+    ensures { (result < length text.now → at ≤ result) × (result ≤ length text.now) }
 {
-    let mut i = at;
     let mut comment = false;
-    while i < text.len() {
+    for i in at..text.len() {
         let b = text[i];
         if comment {
             comment = b != b'\n';
+        } else if digit(b).is_some() {
+            return i;
         } else {
-            if digit(b) < 16 {
-                return i;
-            }
             comment = b == b'#';
         }
-        i += 1;
     }
-    i
+    text.len()
 }
 
 // The next word of the text from `at` on.
-pub fn next_word(text: &[u8], at: usize) -> Word
-    ensures { result.found ≡ true → (at < result.next) × (result.next ≤ length text.now) }
+pub fn next_word(text: &[u8], at: usize) -> Option<Word>
+    ensures { IfSome result (λ w. (at < w.next) × (w.next ≤ length text.now)) }
 {
-    if text.len() < at {
-        return Word {
-            found: false,
-            value: 0,
-            next: at,
-        };
-    }
     let start = word_start(text, at);
-    let mut i = start;
+    let mut next = start;
     let mut value = 0u64;
-    while i < text.len() {
-        let d = digit(text[i]);
-        if d > 15 {
+    for i in start..text.len() {
+        let Some(d) = digit(text[i]) else {
             break;
-        }
+        };
         value = value % 0x1000_0000_0000_0000 * 16 + d;
-        i += 1;
+        next = i + 1;
     }
-    Word {
-        found: start < i,
-        value,
-        next: i,
+    if start < next {
+        Some(Word { value, next })
+    } else {
+        None
     }
+}
+
+// The word of the text from `at` on: 0 past the text's end.
+pub fn word_at(text: &[u8], at: usize) -> u64 {
+    next_word(text, at).map_or(0, |word| word.value)
+}
+
+// The same as a size.
+pub fn size_at(text: &[u8], at: usize) -> usize {
+    word_at(text, at) as usize
+}
+
+// The same as a float.
+pub fn float_at(text: &[u8], at: usize) -> f64 {
+    float_of(word_at(text, at))
+}
+
+// Where the text goes on after that word.
+pub fn past(text: &[u8], at: usize) -> usize {
+    next_word(text, at).map_or(at, |word| word.next)
+}
+
+// Where the text goes on after so many words from `at` on.
+pub fn skip(text: &[u8], at: usize, count: usize) -> usize {
+    let mut next = at;
+    for _ in 0..count {
+        next = past(text, next);
+    }
+    next
+}
+
+// The word that so many words stand before from `at` on, as a length: what it says where that is at most `most`, and else `most`.
+pub fn length_at(text: &[u8], at: usize, before: usize, most: usize) -> usize
+    ensures { result ≤ most }
+{
+    size_at(text, skip(text, at, before)).min(most)
 }
 
 // The float with these bits. Every NaN's pattern gives the one NaN that the square root gives.
@@ -99,80 +109,96 @@ pub fn float_of(bits: u64) -> f64 {
     f64::from_bits(bits)
 }
 
-fn least(a: usize, b: usize) -> usize
-    ensures { (result ≤ a) × (result ≤ b) }
-{
-    if a < b { a } else { b }
+// What a word is read as and written as.
+pub trait Number: Copy {
+    fn of_word(word: u64) -> Self;
+
+    fn word(self) -> u64;
+}
+
+impl Number for u64 {
+    fn of_word(word: u64) -> u64 {
+        word
+    }
+
+    fn word(self) -> u64 {
+        self
+    }
+}
+
+// The low half of a word.
+impl Number for u32 {
+    fn of_word(word: u64) -> u32 {
+        (word % 0x1_0000_0000) as u32
+    }
+
+    fn word(self) -> u64 {
+        u64::from(self)
+    }
+}
+
+impl Number for usize {
+    fn of_word(word: u64) -> usize {
+        word as usize
+    }
+
+    fn word(self) -> u64 {
+        self as u64
+    }
+}
+
+impl Number for f64 {
+    fn of_word(word: u64) -> f64 {
+        float_of(word)
+    }
+
+    fn word(self) -> u64 {
+        bits::bits_of(self)
+    }
 }
 
 // The first `count` numbers of out, or all where it has fewer, from the words of the text from `at` on,
 // and where the text goes on. Past the text's end each word is 0.
-pub fn read_floats(text: &[u8], at: usize, out: &mut [f64], count: usize) -> usize {
-    let most = least(count, out.len());
+pub fn read_numbers<T: Number>(text: &[u8], at: usize, out: &mut [T], count: usize) -> usize {
     let mut next = at;
-    let mut i = 0;
-    while i < most {
-        let word = next_word(text, next);
-        out[i] = float_of(word.value);
-        next = word.next;
-        i += 1;
-    }
-    next
-}
-
-// The same for whole numbers.
-pub fn read_counts(text: &[u8], at: usize, out: &mut [usize], count: usize) -> usize {
-    let most = least(count, out.len());
-    let mut next = at;
-    let mut i = 0;
-    while i < most {
-        let word = next_word(text, next);
-        out[i] = size_of(word.value);
-        next = word.next;
-        i += 1;
-    }
-    next
-}
-
-// The word as a size.
-pub fn size_of(value: u64) -> usize
-    ensures { result ≡ value }
-{
-    value as usize
-}
-
-// The word of the text from `at` on, as a size; and where the text goes on after it.
-pub fn size_at(text: &[u8], at: usize) -> usize {
-    size_of(next_word(text, at).value)
-}
-
-pub fn past(text: &[u8], at: usize) -> usize {
-    next_word(text, at).next
-}
-
-// Where the text goes on after so many words from `at` on.
-pub fn skip(text: &[u8], at: usize, count: usize) -> usize {
-    let mut next = at;
-    let mut i = 0;
-    while i < count {
+    for i in 0..count.min(out.len()) {
+        out[i] = T::of_word(word_at(text, next));
         next = past(text, next);
-        i += 1;
     }
     next
 }
 
-// The word that so many words stand before from `at` on, as a length: what it says where that is at most `most`, and else `most`.
-pub fn length_at(text: &[u8], at: usize, before: usize, most: usize) -> usize
-    ensures { result ≤ most }
-{
-    least(size_at(text, skip(text, at, before)), most)
+// The changes of a slice that the text names, each a place and a word; where it goes on.
+pub fn change<T: Number>(text: &[u8], at: usize, out: &mut [T], count: usize) -> usize {
+    let mut next = at;
+    for _ in 0..count {
+        let place = size_at(text, next);
+        next = past(text, next);
+        set(out, place, word_at(text, next));
+        next = past(text, next);
+    }
+    next
 }
 
-// The size as a word.
-pub fn word_of(size: usize) -> u64
-    ensures { result ≡ size }
-{
-    size as u64
+// Writes the word at that place, where the slice has it.
+pub fn set<T: Number>(out: &mut [T], place: usize, word: u64) {
+    if place < out.len() {
+        out[place] = T::of_word(word);
+    }
+}
+
+// What a slice holds as it is lent: words that count up from the first number's.
+pub fn count_up<T: Number>(out: &mut [T], first: u64) {
+    let mut word = first;
+    for x in out {
+        *x = T::of_word(word);
+        word = word.wrapping_add(1);
+    }
+}
+
+// The first k numbers, or all where there are fewer.
+pub fn front<T>(s: &[T], k: usize) -> &[T] {
+    &s[..k.min(s.len())]
 }
 
 // The digit of a value below 16, in capitals.
@@ -183,132 +209,92 @@ fn glyph(d: u8) -> u8
 }
 
 // Writes the word as 16 digits and a space.
-pub fn print_word(rt: &impl Print, value: u64) -> Result<()> {
+pub fn print_word(rt: &impl Print, value: u64) -> io::Result<()> {
     let mut out = [b' '; 17];
     let mut rest = value;
-    let mut i = 16;
-    while 0 < i {
-        i -= 1;
+    for i in (0..16).rev() {
         out[i] = glyph((rest % 16) as u8);
         rest /= 16;
     }
     rt.write_all(&out)
 }
 
-// Writes the bits of each number of the slice.
-pub fn print_floats(rt: &impl Print, s: &[f64]) -> Result<()> {
-    let mut i = 0;
-    while i < s.len() {
-        print_word(rt, bits::bits_of(s[i]))?;
-        i += 1;
-    }
-    Ok(())
+// Writes the number as a word.
+pub fn print_number<T: Number>(rt: &impl Print, x: T) -> io::Result<()> {
+    print_word(rt, x.word())
 }
 
 // Writes each number of the slice.
-pub fn print_counts(rt: &impl Print, s: &[usize]) -> Result<()> {
-    let mut i = 0;
-    while i < s.len() {
-        print_word(rt, word_of(s[i]))?;
-        i += 1;
+pub fn print_numbers<T: Number>(rt: &impl Print, s: &[T]) -> io::Result<()> {
+    for x in s {
+        print_number(rt, *x)?;
     }
     Ok(())
 }
 
 // Ends the line.
-pub fn end_line(rt: &impl Print) -> Result<()> {
+pub fn end_line(rt: &impl Print) -> io::Result<()> {
     rt.write_all(b"\n")
 }
 
 // Writes an answer: its number and its place.
-pub fn print_answer(rt: &impl Print, a: answers::Answer) -> Result<()> {
-    let r = answers::number_of(a);
-    print_word(rt, word_of(r.number))?;
-    print_word(rt, word_of(r.place))
+pub fn print_answer<T>(rt: &impl Print, answer: &Result<T, Refusal>) -> io::Result<()> {
+    let reply = answers::number_of(answer);
+    print_number(rt, reply.number)?;
+    print_number(rt, reply.place)
+}
+
+// Writes an answer and the number that the call gives: 0 on a refusal.
+pub fn print_count<T: Number>(rt: &impl Print, answer: Result<T, Refusal>) -> io::Result<()> {
+    print_answer(rt, &answer)?;
+    print_word(rt, answer.map_or(0, |count| count.word()))
 }
 
 // Writes 1 for yes and 0 for no.
-pub fn print_yes(rt: &impl Print, yes: bool) -> Result<()> {
-    if yes {
-        print_word(rt, 1)
-    } else {
-        print_word(rt, 0)
-    }
+pub fn print_yes(rt: &impl Print, yes: bool) -> io::Result<()> {
+    print_word(rt, u64::from(yes))
 }
 
 // Writes how the sweeps went: those begun, 1 where the last one was quiet, and the pairs turned.
-pub fn print_sweeps(rt: &impl Print, s: sweeps::Sweeps) -> Result<()> {
-    print_word(rt, word_of(s.begun))?;
+pub fn print_sweeps(rt: &impl Print, s: Sweeps) -> io::Result<()> {
+    print_number(rt, s.begun)?;
     print_yes(rt, s.quiet)?;
-    print_word(rt, word_of(s.turned))
+    print_number(rt, s.turned)
 }
 
-// Writes an answer and how its sweeps went.
-pub fn print_factored(rt: &impl Print, r: factored::Factored) -> Result<()> {
-    let answer = r.answer;
-    let sweeps = r.sweeps;
-    print_answer(rt, answer)?;
-    print_sweeps(rt, sweeps)
-}
-
-// The first k numbers, or all where there are fewer.
-pub fn front(s: &[usize], k: usize) -> &[usize] {
-    if s.len() < k {
-        return s;
-    }
-    &s[..k]
-}
-
-pub fn front_floats(s: &[f64], k: usize) -> &[f64] {
-    if s.len() < k {
-        return s;
-    }
-    &s[..k]
-}
-
-// What a slice of numbers holds as it is lent: bits that count up from the first number's.
-pub fn count_up(s: &mut [f64], first: u64) {
-    let mut i = 0;
-    let mut bits = first;
-    while i < s.len() {
-        s[i] = float_of(bits);
-        bits = std::num::wrapping_add_u64(bits, 1);
-        i += 1;
-    }
-}
-
-// The changes of a slice that the text names; where it goes on.
-pub fn change(text: &[u8], at: usize, state: &mut [f64], count: usize) -> usize {
-    let mut next = at;
-    let mut i = 0;
-    while i < count {
-        let place = next_word(text, next);
-        let bits = next_word(text, place.next);
-        let p = size_of(place.value);
-        if p < state.len() {
-            state[p] = float_of(bits.value);
-        }
-        next = bits.next;
-        i += 1;
-    }
-    next
-}
-
-// A digest of the numbers' bits, in order, modulo 2^31 - 1.
-fn digest(s: &[f64]) -> u64 {
+// A digest of the numbers' words, in order, modulo 2^31 - 1.
+pub fn digest<T: Number>(s: &[T]) -> u64 {
     let mut sum = 0u64;
-    let mut i = 0;
-    while i < s.len() {
-        sum = (sum * 31 + bits::bits_of(s[i]) % 0x7fff_ffff) % 0x7fff_ffff;
-        i += 1;
+    for x in s {
+        sum = (sum * 31 + x.word() % 0x7fff_ffff) % 0x7fff_ffff;
     }
     sum
 }
 
 // The numbers, or their digest where there are 200 or more.
-pub fn print_or_digest(rt: &impl Print, s: &[f64]) -> Result<()> {
+pub fn print_or_digest<T: Number>(rt: &impl Print, s: &[T]) -> io::Result<()> {
     if s.len() < 200 {
-        return print_floats(rt, s);
+        return print_numbers(rt, s);
     }
     print_word(rt, digest(s))
+}
+
+// Writes one line for each case of the text: the closure is given a case's kind and where the text goes on after it,
+// writes the case and answers where the next one may start. At most 10,000 cases are taken.
+pub fn run<F: FnMut(u64, usize) -> io::Result<usize>>(
+    rt: &impl Print,
+    text: &[u8],
+    mut case: F,
+) -> io::Result<()>
+    requires { F.IsAlwaysCallable case }
+{
+    let mut at = 0;
+    for _ in 0..10000usize {
+        let Some(kind) = next_word(text, at) else {
+            return Ok(());
+        };
+        at = case(kind.value, kind.next)?;
+        end_line(rt)?;
+    }
+    Ok(())
 }

@@ -28,8 +28,8 @@ low-square q h =
     omega (arith, s)
 
 -- the last test of `is_nearest`: with w = s - ll, r is w + q - 2^54 - 1, wrapped round where that is below 0
-pub in-one-test : (s ll q r : ℕ) → q < 2 ^ 53 → ll ≤ q → (r + 0x40_0000_0000_0001) % 2 ^ 64 ≡ s + q - ll → r < 2 * q → (ll ≤ s) × (s - ll ≤ 2 ^ 54 + q) × (2 ^ 54 < s - ll + q)
-in-one-test s ll q r h k e l = (omega arith, omega arith, omega arith)
+pub in-one-test : (s ll q r : ℕ) → q < 2 ^ 53 → ll ≤ q → s + q < 2 ^ 64 → r ≡ (s + q - ll + (2 ^ 64 - 0x40_0000_0000_0001)) % 2 ^ 64 → r < 2 * q → (ll ≤ s) × (s - ll ≤ 2 ^ 54 + q) × (2 ^ 54 < s - ll + q)
+in-one-test s ll q r h k b e l = (omega arith, omega arith, omega arith)
 
 -- the exponent's half, from the bits of a number with a full exponent
 pub half-most : (b : ℕ) → 2 ^ 52 ≤ b → (b - 2 ^ 52) / 2 ^ 53 < 1023 → b < 2047 * 2 ^ 52

@@ -36,17 +36,14 @@ fn is_nearest(n: u64, q: u64) -> bool
     // number that is too large.
     let ll = l * l;
     let v = e * 0x800_0000 + q - ll;
-    std::num::wrapping_sub_u64(v, 0x40_0000_0000_0001) < 2 * q
+    v.wrapping_sub(0x40_0000_0000_0001) < 2 * q
 }
 
 // Whether t is the root of x. Only of an x with a full exponent is that ever said.
 pub fn is_root(x: f64, t: f64) -> bool
     ensures { result ≡ true → t ≡ sqrt_of x }
 {
-    if x != x {
-        return false;
-    }
-    if t != t {
+    if x != x || t != t {
         return false;
     }
     let b = f64::to_bits(x);
@@ -83,10 +80,7 @@ fn first_near(x: f64) -> f64 {
         return 1.0;
     }
     let b = f64::to_bits(x);
-    if b < 0x80_0000_0000_0000 {
-        return 1.0;
-    }
-    if b >= 0x7f00_0000_0000_0000 {
+    if b < 0x80_0000_0000_0000 || b >= 0x7f00_0000_0000_0000 {
         return 1.0;
     }
     f64::from_bits(0x5fe6_eb50_c7b5_37a9 - b / 2)
@@ -147,10 +141,7 @@ pub fn guess_roots(d: f64, off: f64) -> Guesses {
     let factor = 0.5 * y + quarter * (modulus - s);
     let square = d * d + 4.0 * off;
     let over = reciprocal_near(square);
-    let mut size = d;
-    if d < 0.0 {
-        size = -d;
-    }
+    let size = if d < 0.0 { -d } else { d };
     let cosine_square = 0.5 + (0.5 * size) * over;
     let secant = reciprocal_near(cosine_square);
     Guesses {
@@ -185,10 +176,7 @@ pub fn root_of(x: f64) -> f64
         return numbers::sqrt(x);
     }
     let b = f64::to_bits(x);
-    if b < 0x10_0000_0000_0000 {
-        return numbers::sqrt(x);
-    }
-    if (b - 0x10_0000_0000_0000) / 0x20_0000_0000_0000 >= 1023 {
+    if b < 0x10_0000_0000_0000 || (b - 0x10_0000_0000_0000) / 0x20_0000_0000_0000 >= 1023 {
         return numbers::sqrt(x);
     }
     let t = guess_from(x, f64::from_bits(0x5fe6_eb50_c7b5_37a9 - b / 2));

@@ -75,33 +75,18 @@ impl Sums {
 
 // A number below 2^-1022 that is not zero.
 fn is_subnormal(x: f64) -> bool {
-    if x < 2.2250738585072014e-308 {
-        if -2.2250738585072014e-308 < x {
-            return x != 0.0;
-        }
-    }
-    false
+    x < 2.2250738585072014e-308 && -2.2250738585072014e-308 < x && x != 0.0
 }
 
 // Whether one of a few numbers of a long s is subnormal: a product with such a number takes the processor some fifty times as long as any other.
 // Nothing is promised.
 fn looks_slow(s: &[f64]) -> bool {
     let m = s.len();
-    if m >= 256 {
-        let half = m / 2;
-        let last = m - 1;
-        if is_subnormal(s[0]) {
-            return true;
-        }
-        if is_subnormal(s[1]) {
-            return true;
-        }
-        if is_subnormal(s[half]) {
-            return true;
-        }
-        return is_subnormal(s[last]);
-    }
-    false
+    m >= 256
+        && (is_subnormal(s[0])
+            || is_subnormal(s[1])
+            || is_subnormal(s[m / 2])
+            || is_subnormal(s[m - 1]))
 }
 
 // Whether the numbers of s, each times 2^824, have a finite sum. Where they have, every number is allowed: one above 2^200 becomes an infinity,
@@ -111,10 +96,7 @@ fn looks_slow(s: &[f64]) -> bool {
 pub fn scaled_sum_finite(s: &[f64]) -> bool
     ensures { result ≡ true → EachAllowed s.now }
 {
-    if s.len() < 8 {
-        return false;
-    }
-    if looks_slow(s) {
+    if s.len() < 8 || looks_slow(s) {
         return false;
     }
     let last = s.len() - 8;
@@ -122,11 +104,9 @@ pub fn scaled_sum_finite(s: &[f64]) -> bool
     let none = Sums::none();
     let mut sums = none.with_eight(s, last);
     let mut others = none;
-    let mut i = 0;
-    while i < half {
-        sums = sums.with_eight(s, i);
-        others = others.with_eight(s, half + i);
-        i += 8;
+    for k in 0..half.div_ceil(8) {
+        sums = sums.with_eight(s, 8 * k);
+        others = others.with_eight(s, half + 8 * k);
     }
     numbers::is_finite(sums.join() + others.join())
 }

@@ -1,22 +1,20 @@
 -- Laws of the sources and of the lines of a site. Assumes nothing.
-use mathlib.Core.Path.{◌≡◌, refl, sym, ap, ap₂, ◌∙◌}
+use mathlib.Core.Path.{◌≡◌, sym, ap, ap₂, ◌∙◌}
 use mathlib.Core.Bool.{Bool, true, false}
 use mathlib.Core.List.{List}
 use Prim.Native.Nat.{ℕ, zero, suc, ◌+◌, ◌-◌, ◌*◌, ◌/◌, ◌%◌, ◌≤◌, ◌<◌}
 use native.Mathlib.Nat.{suc-mul, mul_comm, mul-add-div_right, mul-add-mod_self_right, div-eq_of_lt, mod-eq_of_lt}
 use native.Mathlib.Numerals.{add-one}
 use native.Mathlib.Omega.{arith}
-use lib.Ieee.{Float, nan}
-use lib.ListN.{length, get_or}
+use lib.Ieee.{Float}
+use lib.ListN.{length}
 use Rattle.answers.specs.Paper.{Reply, done, and_then}
 use Rattle.numbers.specs.Numbers.{allowed}
 use Rattle.complex.specs.declared.Complex.{Complex}
-use Rattle.complex.specs.Arithmetic.{complex_of, product, scaled}
 use Rattle.complex.specs.Cells.{cell_at, set_cell, written}
 use Rattle.complex.proofs.CellLaws.{written_none, written-more}
 use Rattle.whole_numbers.proofs.WholeLaws.{column_fits}
-use Rattle.complex.specs.Zeros.{zero_float}
-use Rattle.site_lines.specs.Sources.{line_cell, strided, strided_scaled, strided_product, cell_allowed, cells_from, lines_from, put_line, site_cell, isometry_cell, scaled_u_cell, vt_cell, scaled_vt_cell}
+use Rattle.site_lines.specs.Sources.{cell_allowed, cells_from, lines_from, put_line, site_cell}
 
 -- ---- 7
 
@@ -75,36 +73,7 @@ module _ (s : List Float) (stride width n i : ℕ) {e : Reply} (j : lines_from s
 pub lines-begin : (s : List Float) (stride width n : ℕ) → lines_from s stride width 0 (n - 0) ≡ lines_from s stride width 0 n
 lines-begin s stride width n = ap (lines_from s stride width 0) (omega arith)
 
--- ---- a line of the site
-
-pub put-none : (g : ℕ → Complex) (base : ℕ) (old : List Float) → old ≡ put_line g base old 0
-unfolding put_line
-put-none g base old = refl
-
-pub put-more : (g : ℕ → Complex) (base n : ℕ) (old : List Float) {p q : List Float} {z : Complex} → p ≡ put_line g base old n → z ≡ g n
-    → q ≡ set_cell p (base + n) z → q ≡ put_line g base old (n + 1)
-unfolding put_line
-put-more g base n old e f h = rw (add-one, ← e, ← f) h
-
-pub strided-cell : (s : List Float) (from step t : ℕ) {z : Complex} → z ≡ cell_at s (from + t * step) → z ≡ strided s from step t
-unfolding strided
-strided-cell s from step t e = e
-
-pub scaled-cell : (u s : List Float) (from step t : ℕ) {x z : Complex} → x ≡ cell_at u (from + t * step) → z ≡ scaled x (get_or s t nan) → z ≡ strided_scaled u s from step t
-unfolding strided_scaled strided
-scaled-cell u s from step t e f = f ∙ ap (λ (y : Complex). scaled y (get_or s t nan)) e
-
-pub product-cell : (x : Float) (s : List Float) (from t : ℕ) {y z : Complex} → y ≡ cell_at s (from + t) → z ≡ product (complex_of x zero_float) y → z ≡ strided_product x s from t
-unfolding strided_product
-product-cell x s from t e f = f ∙ ap (product (complex_of x zero_float)) e
-
 -- ---- the site, line after line
-
-put_same : (g h : ℕ → Complex) (base : ℕ) (old : List Float) (n : ℕ) → ((t : ℕ) → t < n → g t ≡ h t) → put_line g base old n ≡ put_line h base old n
-unfolding put_line
-put_same g h base old zero e = refl
-put_same g h base old (suc n) e =
-    ap₂ (λ (x : List Float) (z : Complex). set_cell x (base + n) z) (put_same g h base old n (λ t l. e t (omega arith))) (e n (omega arith))
 
 -- cell t of line i
 cell-of : (w : ℕ) (f : ℕ → ℕ → Complex) (i t : ℕ) → t < w → site_cell w f (i * w + t) ≡ f i t
@@ -132,15 +101,13 @@ site-none w f old =
     let e : 0 ≡ 0 * w = omega arith in
     written_none (site_cell w f) old ∙ ap (λ (x : ℕ). written x (site_cell w f) old) e
 
--- line i of n is put, by a function that agrees with f there
-pub site-more : (n w : ℕ) (f : ℕ → ℕ → Complex) (g : ℕ → Complex) (i : ℕ) (old : List Float) {p q : List Float} → i < n → 2 * (n * w) ≤ length old
-    → ((t : ℕ) → t < w → g t ≡ f i t) → p ≡ written (i * w) (site_cell w f) old → q ≡ put_line g (i * w) p w
-    → q ≡ written ((i + 1) * w) (site_cell w f) old
-site-more n w f g i old {p} h l e b c =
+-- line i of n is put
+pub site-more : (n w : ℕ) (f : ℕ → ℕ → Complex) (i : ℕ) (old : List Float) {p q : List Float} → i < n → 2 * (n * w) ≤ length old
+    → p ≡ written (i * w) (site_cell w f) old → q ≡ put_line (f i) (i * w) p w → q ≡ written ((i + 1) * w) (site_cell w f) old
+site-more n w f i old h l b c =
     let r : i * w + w ≡ (i + 1) * w = rw add-one (sym (suc-mul i w)) in
     c
-    ∙ ap (λ (x : List Float). put_line g (i * w) x w) b
-    ∙ put_same g (f i) (i * w) (written (i * w) (site_cell w f) old) w e
+    ∙ ap (λ (x : List Float). put_line (f i) (i * w) x w) b
     ∙ put_written w f i w old (omega arith) (omega (arith, column_fits i n w h))
     ∙ ap (λ (x : ℕ). written x (site_cell w f) old) r
 
@@ -154,20 +121,3 @@ site-end n w f old i e h l =
 pub site-end-by-rows : (n w : ℕ) (f : ℕ → ℕ → Complex) (old : List Float) (i : ℕ) {p : List Float} → p ≡ written (i * w) (site_cell w f) old → i ≤ n → n ≤ i
     → p ≡ written (w * n) (site_cell w f) old
 site-end-by-rows n w f old i e h l = site-end n w f old i e h l ∙ ap (λ (x : ℕ). written x (site_cell w f) old) (mul_comm n w)
-
--- the four cells, as the lines have them
-pub isometry-cell : (s : List Float) (stride row t : ℕ) → strided s row stride t ≡ isometry_cell s stride row t
-unfolding strided isometry_cell line_cell
-isometry-cell s stride row t = ap (cell_at s) (omega arith)
-
-pub scaled-u-cell : (u s : List Float) (stride row t : ℕ) → strided_scaled u s row stride t ≡ scaled_u_cell u s stride row t
-unfolding strided_scaled strided scaled_u_cell line_cell
-scaled-u-cell u s stride row t = ap (λ (x : ℕ). scaled (cell_at u x) (get_or s t nan)) (omega arith)
-
-pub vt-cell : (s : List Float) (stride gamma t : ℕ) → strided s (gamma * stride) 1 t ≡ vt_cell s stride gamma t
-unfolding strided vt_cell line_cell
-vt-cell s stride gamma t = ap (cell_at s) (omega arith)
-
-pub scaled-vt-cell : (s vt : List Float) (stride gamma t : ℕ) → strided_product (get_or s gamma nan) vt (gamma * stride) t ≡ scaled_vt_cell s vt stride gamma t
-unfolding strided_product scaled_vt_cell line_cell
-scaled-vt-cell s vt stride gamma t = refl

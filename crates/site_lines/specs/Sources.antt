@@ -12,17 +12,6 @@ use Rattle.complex.specs.Zeros.{zero_float}
 unfoldable pub line_cell : List Float → ℕ → ℕ → ℕ → Complex
 line_cell s stride i j = cell_at s (i * stride + j)
 
--- the same cells one after another: from a first one on, step cells apart
-unfoldable pub strided : List Float → ℕ → ℕ → ℕ → Complex
-strided s from step t = cell_at s (from + t * step)
-
-unfoldable pub strided_scaled : List Float → List Float → ℕ → ℕ → ℕ → Complex
-unfolding strided
-strided_scaled u s from step t = scaled (strided u from step t) (get_or s t nan)
-
-unfoldable pub strided_product : Float → List Float → ℕ → ℕ → Complex
-strided_product x s from t = product (complex_of x zero_float) (cell_at s (from + t))
-
 -- ---- 7: the first cell that is copied and not allowed, by its number in the source
 
 unfoldable pub cell_allowed : Complex → Bool

@@ -1,10 +1,10 @@
 -- Ranks of cuts, as the Rust has them, and the calls' answers. Assumes nothing.
-use Rattle.std.specs.Prelude.{◌≡◌, Bool, false, cond, List, [], ◌∷◌, ℕ, zero, suc, ◌+◌, ◌-◌, ◌*◌, ◌^◌, min, max, ltb, Float, length, get_or}
+use Rattle.std.specs.Prelude.{◌≡◌, Bool, false, cond, List, [], ◌∷◌, ℕ, zero, suc, ◌+◌, ◌-◌, ◌*◌, ◌^◌, min, max, ltb, Float, length, get_or, Result}
 use Rattle.std.specs.Float.Ieee as Ieee
 use Rattle.std.specs.Float.{binary64, nan}
 use Rattle.std.specs.Float.Ieee.{of_bits}
-use Rattle.answers.specs.declared.Answer.{Answer}
-use Rattle.answers.specs.Paper.{Reply, paper, done, refuse, if_done}
+use Rattle.answers.specs.declared.Refusal.{Refusal}
+use Rattle.answers.specs.Paper.{Reply, paper, given, done, refuse, if_done}
 
 -- ---- what a threshold keeps
 
@@ -34,9 +34,9 @@ discards_of values chi = cond (ltb chi (length values)) (Ieee.lt (Ieee.mul binar
 -- ---- what the bonds allow
 
 -- a call whose answer is `reply` and whose rank, where it is done, is `value`; 0 where it is refused
-pub record Ranked (reply : Reply) (value : ℕ) (answer : Answer) (rank : ℕ) : Type 0 where
-  pub answer-is : paper answer ≡ reply
-  pub rank_is : rank ≡ if_done (paper answer).0 value 0
+pub record Ranked (reply : Reply) (value : ℕ) (r : Result ℕ Refusal) : Type 0 where
+  pub answer-is : paper r ≡ reply
+  pub rank_is : given 0 r ≡ if_done (paper r).0 value 0
 
 -- 1
 unfoldable pub bond_sizes : ℕ → ℕ → ℕ → Reply

@@ -1,5 +1,5 @@
--- The fills at each way out, and that each has one outcome. Assumes nothing.
-use mathlib.Core.Path.{◌≡◌, sym, ap, ◌∙◌}
+-- What the sizes and the tests of a fill say where they refuse nothing. Assumes nothing.
+use mathlib.Core.Path.{◌≡◌}
 use mathlib.Core.List.{List}
 use Prim.Native.Nat.{ℕ, ◌*◌, ◌≤◌}
 use native.Mathlib.Nat.{mul-le-mul}
@@ -7,15 +7,11 @@ use borrow.Author.Tests.{ltb-false}
 use lib.Dec.{ltb}
 use lib.Ieee.{Float}
 use lib.ListN.{length, take}
-use Rattle.answers.specs.declared.Answer.{Answer}
-use Rattle.answers.specs.declared.Answer.TheVariants.{Done}
-use Rattle.answers.specs.Paper.{Reply, paper, done, refuse, and_then}
-use Rattle.answers.proofs.PaperLaws.{refuse-done, stays, done-old}
+use Rattle.answers.specs.Paper.{done, refuse, and_then}
+use Rattle.answers.proofs.PaperLaws.{refuse-done}
 use Rattle.values.specs.Lists.{values_allowed}
-use Rattle.complex.specs.declared.Complex.{Complex}
-use Rattle.complex.specs.Cells.{written}
 use Rattle.site_lines.specs.Sources.{lines_from, LineReady}
-use Rattle.sites.specs.Calls.{line_sizes, column_sizes, row_sizes, plain_reply, scaled_u_reply, scaled_vt_reply, Filled, SiteSized}
+use Rattle.sites.specs.Calls.{line_sizes, column_sizes, row_sizes, plain_reply, scaled_u_reply, scaled_vt_reply, SiteSized}
 
 -- ---- 1
 
@@ -111,25 +107,3 @@ scaled-vt-ready values source stride width chi room s e =
       },
       ltb-false (length values) chi x.0,
     )
-
--- ---- the calls: refused by the sizes, refused after them, or filled
-
-pub size-refused : (first rest : Reply) (cells : ℕ) (f : ℕ → Complex) (old : List Float) (x : Answer) → paper x ≡ first → ((paper x).0 ≡ 0 → ⊥)
-    → Filled (and_then first rest) cells f old x old
-size-refused first rest cells f old x e n =
-    let m : first.0 ≡ 0 → ⊥ = λ z. n (ap (λ (u : Reply). u.0) e ∙ z) in
-    record { answer-is = e ∙ stays first rest m; out-is = done-old (paper x).0 (written cells f old) old n }
-
--- the sizes passed
-passed_on : (first rest : Reply) (a : Answer) → paper a ≡ first → a ≡ Done → and_then first rest ≡ rest
-passed_on first rest a e d = ap (λ (r : Reply). and_then r rest) (sym e ∙ ap paper d)
-
-pub later-refused : (first rest : Reply) (cells : ℕ) (f : ℕ → Complex) (old : List Float) (a x : Answer) → paper a ≡ first → a ≡ Done → paper x ≡ rest
-    → ((paper x).0 ≡ 0 → ⊥) → Filled (and_then first rest) cells f old x old
-later-refused first rest cells f old a x p d e n =
-    record { answer-is = e ∙ sym (passed_on first rest a p d); out-is = done-old (paper x).0 (written cells f old) old n }
-
-pub filled : (first rest : Reply) (cells : ℕ) (f : ℕ → Complex) (old : List Float) (a b : Answer) {end : List Float} → paper a ≡ first → a ≡ Done
-    → paper b ≡ rest → b ≡ Done → end ≡ written cells f old → Filled (and_then first rest) cells f old Done end
-filled first rest cells f old a b p d e g h =
-    record { answer-is = ap paper (sym g) ∙ e ∙ sym (passed_on first rest a p d); out-is = h }

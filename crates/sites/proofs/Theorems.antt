@@ -10,8 +10,7 @@ use lib.Dec.{ltb}
 use lib.Ieee.{Float, nan, of_bits}
 use lib.ListN.{length, get_or, take}
 use lib.Seq.{get_or-take, length-take-le}
-use Rattle.answers.specs.declared.Answer.{Answer}
-use Rattle.answers.specs.Paper.{Reply, paper, refuse, and_then, if_done}
+use Rattle.answers.specs.Paper.{Answer, Reply, paper, refuse, and_then, if_done}
 use Rattle.answers.proofs.PaperLaws.{refuse-done, and_then-done}
 use Rattle.answers.proofs.Theorems.{paper-one}
 use Rattle.numbers.specs.Numbers.{allowed, is_finite}

@@ -1,7 +1,6 @@
 -- The four fills: their answers, and what the site's slice holds at the end. Assumes nothing.
 use Rattle.std.specs.Prelude.{◌≡◌, List, ℕ, ◌*◌, ◌≤◌, ltb, Float, length, take}
-use Rattle.answers.specs.declared.Answer.{Answer}
-use Rattle.answers.specs.Paper.{Reply, paper, done, refuse, and_then, if_done}
+use Rattle.answers.specs.Paper.{Answer, Reply, paper, done, refuse, and_then, if_done}
 use Rattle.values.specs.Lists.{values_allowed}
 use Rattle.complex.specs.declared.Complex.{Complex}
 use Rattle.complex.specs.Cells.{written}

@@ -14,9 +14,8 @@
 // most 64 values; SOURCE at most 16,384 numbers, VALUES 4,200, the slice 8,300.
 #![tactic(auto)]
 
-use answers::Answer;
-use site_ranks::CutRank;
-use std::io::Result;
+use answers::Refusal;
+use std::io;
 
 // A source or values as the text has them, from the word after the length on; where the text goes on.
 fn read_source(text: &[u8], at: usize, s: &mut [f64]) -> usize {
@@ -24,47 +23,45 @@ fn read_source(text: &[u8], at: usize, s: &mut [f64]) -> usize {
     replay::change(text, replay::past(text, at), s, replay::size_at(text, at))
 }
 
-fn rank_case(rt: &impl Print, text: &[u8], at: usize) -> Result<usize> {
+// A list of values; where the text goes on.
+fn read_list(text: &[u8], at: usize, values: &mut [f64; 64]) -> usize {
+    replay::read_numbers(
+        text,
+        replay::past(text, at),
+        values,
+        replay::size_at(text, at),
+    )
+}
+
+fn rank_case(rt: &impl Print, text: &[u8], at: usize) -> io::Result<usize> {
     let mut values = [0.0; 64];
-    let count = replay::size_at(text, at);
-    let next = replay::read_floats(text, replay::past(text, at), &mut values, count);
-    let epsilon = replay::float_of(replay::next_word(text, next).value);
+    let next = read_list(text, at, &mut values);
+    let list = replay::front(&values, replay::size_at(text, at));
+    let epsilon = replay::float_at(text, next);
     let cap = replay::past(text, next);
-    let list = replay::front_floats(&values, count);
-    replay::print_word(
-        rt,
-        replay::word_of(site_ranks::truncated_svd_rank(list, epsilon, replay::size_at(text, cap))),
-    )?;
+    let rank = site_ranks::truncated_svd_rank(list, epsilon, replay::size_at(text, cap));
+    replay::print_number(rt, rank)?;
     Ok(replay::past(text, cap))
 }
 
-fn discard_case(rt: &impl Print, text: &[u8], at: usize) -> Result<usize> {
+fn discard_case(rt: &impl Print, text: &[u8], at: usize) -> io::Result<usize> {
     let mut values = [0.0; 64];
-    let count = replay::size_at(text, at);
-    let next = replay::read_floats(text, replay::past(text, at), &mut values, count);
-    let list = replay::front_floats(&values, count);
-    replay::print_yes(
-        rt,
-        site_ranks::discards_resolvable_weight(list, replay::size_at(text, next)),
-    )?;
+    let next = read_list(text, at, &mut values);
+    let list = replay::front(&values, replay::size_at(text, at));
+    let discards = site_ranks::discards_resolvable_weight(list, replay::size_at(text, next));
+    replay::print_yes(rt, discards)?;
     Ok(replay::past(text, next))
 }
 
-fn print_rank(rt: &impl Print, r: CutRank) -> Result<()> {
-    let answer = r.answer;
-    replay::print_answer(rt, answer)?;
-    replay::print_word(rt, r.rank)
-}
-
-fn bond_case(rt: &impl Print, text: &[u8], at: usize, kind: u64) -> Result<usize> {
+fn bond_case(rt: &impl Print, text: &[u8], at: usize, kind: u64) -> io::Result<usize> {
     let a = replay::size_at(text, at);
     let b = replay::size_at(text, replay::skip(text, at, 1));
     let c = replay::size_at(text, replay::skip(text, at, 2));
-    if kind == 3 {
-        print_rank(rt, site_ranks::cut_rank(a, b, c))?;
-    } else {
-        print_rank(rt, site_ranks::widest_block_cut(a, b, c))?;
-    }
+    let rank = match kind {
+        3 => site_ranks::cut_rank(a, b, c),
+        _ => site_ranks::widest_block_cut(a, b, c),
+    };
+    replay::print_count(rt, rank)?;
     Ok(replay::skip(text, at, 3))
 }
 
@@ -87,17 +84,19 @@ fn read_sizes(text: &[u8], at: usize) -> Sizes {
 }
 
 // The fill of a kind.
-fn fill(kind: u64, source: &[f64], values: &[f64], z: Sizes, out: &mut [f64]) -> Answer {
-    if kind == 5 {
-        return sites::fill_isometry_site_data(source, z.line, z.second, z.third, out);
+fn fill(
+    kind: u64,
+    source: &[f64],
+    values: &[f64],
+    z: Sizes,
+    out: &mut [f64],
+) -> Result<(), Refusal> {
+    match kind {
+        5 => sites::fill_isometry_site_data(source, z.line, z.second, z.third, out),
+        6 => sites::fill_scaled_u_site_data(source, values, z.line, z.second, z.third, out),
+        7 => sites::fill_vt_site_data(source, z.line, z.second, z.third, z.fourth, out),
+        _ => sites::fill_scaled_vt_data(values, source, z.line, z.second, z.third, z.fourth, out),
     }
-    if kind == 6 {
-        return sites::fill_scaled_u_site_data(source, values, z.line, z.second, z.third, out);
-    }
-    if kind == 7 {
-        return sites::fill_vt_site_data(source, z.line, z.second, z.third, z.fourth, out);
-    }
-    sites::fill_scaled_vt_data(values, source, z.line, z.second, z.third, z.fourth, out)
 }
 
 fn show(
@@ -108,36 +107,25 @@ fn show(
     z: Sizes,
     room: usize,
     out: &mut [f64],
-) -> Result<()> {
-    if out.len() < room {
+) -> io::Result<()> {
+    let Some(lent) = out.get_mut(..room) else {
         return Ok(());
-    }
-    replay::print_answer(rt, fill(kind, source, values, z, &mut out[..room]))?;
-    replay::print_or_digest(rt, replay::front_floats(out, room))
+    };
+    replay::print_answer(rt, &fill(kind, source, values, z, lent))?;
+    replay::print_or_digest(rt, lent)
 }
 
 // VALUES, where the case has them at this place; where the text goes on.
 fn read_values(text: &[u8], at: usize, wanted: bool, s: &mut [f64]) -> usize {
     if wanted {
-        return read_source(text, replay::past(text, at), s);
-    }
-    at
-}
-
-// Their length, where kind 6 or kind 8 has them.
-fn values_length(text: &[u8], kind: u64, first: usize, last: usize) -> usize {
-    if kind == 8 {
-        return replay::size_at(text, first);
-    }
-    replay::size_at(text, last)
-}
-
-fn fill_case(rt: &impl Print, text: &[u8], at: usize, kind: u64) -> Result<usize> {
-    let first = if kind < 7 {
-        replay::skip(text, at, 3)
+        read_source(text, replay::past(text, at), s)
     } else {
-        replay::skip(text, at, 4)
-    };
+        at
+    }
+}
+
+fn fill_case(rt: &impl Print, text: &[u8], at: usize, kind: u64) -> io::Result<usize> {
+    let first = replay::skip(text, at, if kind < 7 { 3 } else { 4 });
     let mut values = [0.0; 4200];
     let second = read_values(text, first, kind == 8, &mut values);
     let mut source = [0.0; 16384];
@@ -145,11 +133,12 @@ fn fill_case(rt: &impl Print, text: &[u8], at: usize, kind: u64) -> Result<usize
     let room = read_values(text, last, kind == 6, &mut values);
     let mut out = [0.0; 8300];
     replay::count_up(&mut out, 0xc000_0000_0000_0000);
+    let values_length = replay::size_at(text, if kind == 8 { first } else { last });
     show(
         rt,
         kind,
-        replay::front_floats(&source, replay::size_at(text, second)),
-        replay::front_floats(&values, values_length(text, kind, first, last)),
+        replay::front(&source, replay::size_at(text, second)),
+        replay::front(&values, values_length),
         read_sizes(text, at),
         replay::size_at(text, room),
         &mut out,
@@ -157,34 +146,18 @@ fn fill_case(rt: &impl Print, text: &[u8], at: usize, kind: u64) -> Result<usize
     Ok(replay::past(text, room))
 }
 
-fn case(rt: &impl Print, text: &[u8], at: usize, kind: u64) -> Result<usize> {
-    if kind == 1 {
-        return rank_case(rt, text, at);
+fn case(rt: &impl Print, text: &[u8], kind: u64, at: usize) -> io::Result<usize> {
+    match kind {
+        1 => rank_case(rt, text, at),
+        2 => discard_case(rt, text, at),
+        0 | 3 | 4 => bond_case(rt, text, at, kind),
+        _ => fill_case(rt, text, at, kind),
     }
-    if kind == 2 {
-        return discard_case(rt, text, at);
-    }
-    if kind < 5 {
-        return bond_case(rt, text, at, kind);
-    }
-    fill_case(rt, text, at, kind)
 }
 
-fn run(rt: &impl Print, text: &[u8]) -> Result<()> {
-    let mut at = 0;
-    for _ in 0..10000usize {
-        let kind = replay::next_word(text, at);
-        if !kind.found {
-            return Ok(());
-        }
-        at = case(rt, text, kind.next, kind.value)?;
-        replay::end_line(rt)?;
-    }
-    Ok(())
-}
-
-fn main(rt: HostRuntime) -> Result<()> {
+fn main(rt: HostRuntime) -> io::Result<()> {
     let mut text = [0u8; 262144];
     let n = inputs::read_full(&mut rt.reader(), &mut text);
-    run(&rt, &text[..n])
+    let text = &text[..n];
+    replay::run(&rt, text, |kind, at| case(&rt, text, kind, at))
 }

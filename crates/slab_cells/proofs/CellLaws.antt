@@ -8,9 +8,11 @@ use native.Mathlib.Nat.{eq-or-lt_of_le}
 use native.Mathlib.Numerals.{add-one}
 use native.Mathlib.Omega.{arith}
 use lib.Dec.{leb, ltb, eqb}
-use lib.ListN.{length, get_or, set, take, replicate, length-set, length-replicate, get_or-replicate}
-use lib.Seq.{sets, take-suc, take_all, length-take-le, get_or-set_same, get_or-set_other, ext_get_or}
-use borrow.Author.Tests.{eq-eqb, ne_eqb, leb-true, leb-false, ltb-true, ltb-false}
+use lib.ListN.{length, get_or, set, take, drop, replicate, length-set, length-replicate, get_or-replicate}
+use lib.Seq.{sets, sets-eq, drop-drop, get_or-set_same, get_or-set_other, ext_get_or}
+use borrow.Rule.Slice.PartMut.{put_mid}
+use borrow.Author.Tests.{ne_eqb, leb-true, leb-false, ltb-true, ltb-false}
+use Rattle.std.proofs.Common.{append_assoc}
 use Rattle.tables.specs.Tables.{table}
 use Rattle.tables.proofs.TablesLaws.{length-table, table_at}
 use Rattle.slab_sites.specs.declared.Site.{Site}
@@ -21,72 +23,46 @@ use Rattle.slab_cells.specs.Cells.{blank, clean, map_of, marked, marked_entry, p
 
 -- ---- a list with a part replaced
 
-sets-snoc : (vs l : List ℕ) (i : ℕ) (a : ℕ) → sets l i (vs ++ a ∷ []) ≡ set (sets l i vs) (i + length vs) a
+sets-snoc : {A : Type 0} (vs l : List A) (i : ℕ) (a : A) → sets l i (vs ++ a ∷ []) ≡ set (sets l i vs) (i + length vs) a
 sets-snoc [] l i a = ap (λ (k : ℕ). set l k a) (omega arith)
 sets-snoc (v ∷ vs) l i a = sets-snoc vs (set l i v) (suc i) a ∙ ap (λ (k : ℕ). set (sets (set l i v) (suc i) vs) k a) (omega arith)
 
--- the first t numbers are stored
-unfoldable pub pasted_to : ℕ → List ℕ → List ℕ → ℕ → List ℕ
-pasted_to at given cells t = sets cells at (take t given)
+-- the numbers from `at` on, n of them, put in place of the slice's part
+put-sets : {A : Type 0} (at n : ℕ) (vs l : List A) → at + n ≤ length l → length vs ≡ n → put_mid at (at + n - at) l vs ≡ sets l at vs
+put-sets {A} at n vs l h e =
+    let k : at + n - at ≡ n = omega arith in
+    rw k (ap (λ (r : List A). take at l ++ (vs ++ r)) (drop-drop n at l ∙ ap (λ (m : ℕ). drop (at + m) l) (sym e)) ∙ sym (append_assoc (take at l) vs (drop (at + length vs) l)) ∙ sym (sets-eq vs l at (omega (arith, h, e))))
 
-pub paste_none : (at : ℕ) (given cells : List ℕ) → cells ≡ pasted_to at given cells 0
-unfolding pasted_to
-paste_none at given cells = refl
+pub put-pasted : (at : ℕ) (given cells : List ℕ) {ys : List ℕ} → at + length given ≤ length cells → ys ≡ given
+    → put_mid at (at + length given - at) cells ys ≡ pasted at given cells
+unfolding pasted
+put-pasted at given cells h e = rw e (put-sets at (length given) given cells h refl)
 
-pub paste_more : (at : ℕ) (given cells : List ℕ) (t : ℕ) {now : List ℕ} → t < length given → now ≡ pasted_to at given cells t
-    → set now (at + t) (get_or given t 0) ≡ pasted_to at given cells (t + 1)
-unfolding pasted_to
-paste_more at given cells t {now} l e =
-    let k : at + length (take t given) ≡ at + t = omega (arith, length-take-le t given (omega arith)) in
-    rw (add-one, take-suc given t 0 l)
-    (ap (λ (x : List ℕ). set x (at + t) (get_or given t 0)) e
-    ∙ ap (λ (x : ℕ). set (sets cells at (take t given)) x (get_or given t 0)) (sym k)
-    ∙ sym (sets-snoc (take t given) cells at (get_or given t 0)))
-
-pub paste-end : (at : ℕ) (given cells : List ℕ) (t : ℕ) {now : List ℕ} → now ≡ pasted_to at given cells t → t ≤ length given → length given ≤ t
-    → now ≡ pasted at given cells
-unfolding pasted_to pasted
-paste-end at given cells t e h l = e ∙ ap (sets cells at) (take_all t given l)
-
--- ---- the same with zeros
-
--- the first t of n numbers are 0
-unfoldable pub wiped_to : ℕ → ℕ → List ℕ → ℕ → List ℕ
-unfolding pasted_to
-wiped_to at n cells t = pasted_to at (replicate n 0) cells t
-
-length-zeros : (n : ℕ) → length (replicate {A = ℕ} n 0) ≡ n
-length-zeros n = length-replicate {A = ℕ} n 0
-
-pub wipe-none : (at n : ℕ) (cells : List ℕ) → cells ≡ wiped_to at n cells 0
-unfolding wiped_to
-wipe-none at n cells = paste_none at (replicate n 0) cells
-
-pub wipe-more : (at n : ℕ) (cells : List ℕ) (t : ℕ) {now : List ℕ} → t < n → now ≡ wiped_to at n cells t → set now (at + t) 0 ≡ wiped_to at n cells (t + 1)
-unfolding wiped_to
-wipe-more at n cells t {now} h e =
-    ap (set now (at + t)) (sym (get_or-replicate n t 0 0 h)) ∙ paste_more at (replicate n 0) cells t (omega (arith, length-zeros n)) e
-
-pub wipe-end : (start count : ℕ) (cells : List ℕ) (t : ℕ) {now : List ℕ} → now ≡ wiped_to (2 * start) (2 * count) cells t → t ≤ 2 * count → 2 * count ≤ t
-    → now ≡ wiped start count cells
-unfolding wiped_to wiped
-wipe-end start count cells t e h l =
-    paste-end (2 * start) (replicate (2 * count) 0) cells t e (omega (arith, length-zeros (2 * count))) (omega (arith, length-zeros (2 * count)))
+pub put-wiped : (start count : ℕ) (cells : List ℕ) {ys : List ℕ} → start + count ≤ 4096 → length cells ≡ 8192 → ys ≡ replicate (2 * count) 0
+    → put_mid (2 * start) (2 * start + 2 * count - 2 * start) cells ys ≡ wiped start count cells
+unfolding wiped pasted
+put-wiped start count cells h l e = rw e (put-sets (2 * start) (2 * count) (replicate (2 * count) 0) cells (omega arith) (length-replicate {A = ℕ} (2 * count) 0))
 
 -- ---- the map
 
-pub mark-none : (start : ℕ) (map : List Bool) → map ≡ marked start 0 map
-unfolding marked
-mark-none start map = refl
+replicate-more : (n : ℕ) → replicate (suc n) true ≡ replicate n true ++ true ∷ []
+replicate-more zero = refl
+replicate-more (suc n) = ap (λ (l : List Bool). true ∷ l) (replicate-more n)
 
-pub mark-more : (start : ℕ) (map : List Bool) (t : ℕ) {now : List Bool} → now ≡ marked start t map → set now (start + t) true ≡ marked start (t + 1) map
+marked-sets : (start count : ℕ) (map : List Bool) → sets map start (replicate count true) ≡ marked start count map
 unfolding marked
-mark-more start map t e = rw add-one (ap (λ (x : List Bool). set x (start + t) true) e)
+marked-sets start zero map = refl
+marked-sets start (suc n) map =
+    ap (sets map start) (replicate-more n)
+    ∙ sets-snoc (replicate n true) map start true
+    ∙ ap₂ (λ (l : List Bool) (k : ℕ). set l (start + k) true) (marked-sets start n map) (length-replicate n true)
 
-pub mark-end : (start count : ℕ) (map : List Bool) (t : ℕ) {now : List Bool} → now ≡ marked start t map → t ≤ count → count ≤ t → now ≡ marked start count map
-mark-end start count map t e h l =
-    let k : t ≡ count = omega arith in
-    e ∙ ap (λ (x : ℕ). marked start x map) k
+pub put-marked : (x : Site) (i skip : ℕ) (map : List Bool) {ys : List Bool} → (i ≡ skip → ⊥) → x.start + x.cells ≤ length map
+    → ys ≡ replicate x.cells true → put_mid x.start (x.start + x.cells - x.start) map ys ≡ marked_entry x i skip map
+unfolding marked_entry
+put-marked x i skip map n h e =
+    rw (ne_eqb i skip n, e)
+    (put-sets x.start x.cells (replicate x.cells true) map h (length-replicate x.cells true) ∙ marked-sets x.start x.cells map)
 
 pub length_marked : (start : ℕ) (map : List Bool) (t : ℕ) → length (marked start t map) ≡ length map
 unfolding marked
@@ -126,15 +102,6 @@ marked-at x map c h = by-start (leb x.start c) (ltb c (x.start + x.cells)) refl 
     by-start true false e f =
         marked-off x.start map x.cells c (inr (ltb-false c (x.start + x.cells) f)) ∙ sym (or-false (get_or map c false))
     by-start false b e f = marked-off x.start map x.cells c (inl (leb-false x.start c e)) ∙ sym (or-false (get_or map c false))
-
-pub entry-skipped : (x : Site) (i skip : ℕ) (map : List Bool) → i ≡ skip → map ≡ marked_entry x i skip map
-unfolding marked_entry
-entry-skipped x i skip map e = rw (eq-eqb i skip e)
-
-pub entry-marked : (x : Site) (i skip : ℕ) (map : List Bool) {next : List Bool} → (i ≡ skip → ⊥) → next ≡ marked x.start x.cells map
-    → next ≡ marked_entry x i skip map
-unfolding marked_entry
-entry-marked x i skip map n e = rw (ne_eqb i skip n) e
 
 pub table-ext : (p : ℕ → Bool) (m : ℕ) (l : List Bool) → length l ≡ m → ((c : ℕ) → c < m → get_or l c false ≡ p c) → l ≡ table m p
 table-ext p m l e f =
@@ -200,17 +167,6 @@ ends-within index n i {x} e h f =
     omega (arith, a, ap (λ (y : Site). y.start) f, ap (λ (y : Site). y.cells) f)
 
 -- ---- the scan
-
-pub held-passes : (map : List Bool) (cells : List ℕ) (c : ℕ) → get_or map c false ≡ true → true ≡ (get_or map c false || blank cells c)
-held-passes map cells c e = rw e
-
-pub free-first : (map : List Bool) (cells : List ℕ) (c : ℕ) → get_or map c false ≡ false → get_or cells (2 * c) 0 ≡ 0
-    → eqb (get_or cells (2 * c + 1) 0) 0 ≡ (get_or map c false || blank cells c)
-free-first map cells c e f = rw (e, eq-eqb (get_or cells (2 * c) 0) 0 f)
-
-pub free-not : (map : List Bool) (cells : List ℕ) (c : ℕ) → get_or map c false ≡ false → (get_or cells (2 * c) 0 ≡ 0 → ⊥)
-    → false ≡ (get_or map c false || blank cells c)
-free-not map cells c e f = rw (e, ne_eqb (get_or cells (2 * c) 0) 0 f)
 
 -- the first c cells are held or +0.0
 unfoldable pub clean_to : List Bool → List ℕ → ℕ → Bool

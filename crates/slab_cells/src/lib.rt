@@ -4,29 +4,20 @@
 
 ghost use Rattle.std.specs.Prelude.{◌≡◌, true, false, ◌||◌, ◌+◌, ◌*◌, ◌≤◌, ◌<◌, length, get_or};
 ghost use Rattle.slab_sites.specs.Sites.{each_apart};
-ghost use Rattle.slab_cells.specs.Cells.{blank, clean, marked, marked_entry, map_of, pasted, wiped};
+ghost use Rattle.slab_cells.specs.Cells.{blank, clean, marked_entry, map_of, pasted, wiped};
 
 use slab_sites::Site;
 
-// The cells from start on, count of them, are held.
-fn mark(map: &mut [bool; 4096], start: usize, count: usize)
-    requires { start + count ≤ 4096 }
-    ensures { map.new ≡ marked start count map.old }
-{
-    for t in 0..count {
-        map[start + t] = true;
-    }
-}
-
 // The cells of entry i are held, unless that entry is passed over.
+#[tactic(auto, unfolding(crate::specs::Cells::marked_entry))]
 fn mark_entry(map: &mut [bool; 4096], x: Site, i: usize, skip: usize)
     requires { x.start + x.cells ≤ 4096 }
     ensures { map.new ≡ marked_entry x i skip map.old }
 {
-    if i == skip {
-        return;
+    if i != skip {
+        let start = x.start as usize;
+        map[start..start + x.cells as usize].fill(true);
     }
-    mark(map, x.start as usize, x.cells as usize);
 }
 
 // Which cells the first n sites hold; entry skip is passed over.
@@ -47,13 +38,7 @@ fn cell_passes(cells: &[u64; 8192], map: &[bool; 4096], c: usize) -> bool
     requires { c < 4096 }
     ensures { result ≡ (get_or map.now c false || blank cells.now c) }
 {
-    if map[c] {
-        return true;
-    }
-    if cells[2 * c] == 0 {
-        return cells[2 * c + 1] == 0;
-    }
-    false
+    map[c] || (cells[2 * c] == 0 && cells[2 * c + 1] == 0)
 }
 
 // Every cell is held or +0.0.
@@ -69,24 +54,21 @@ pub fn is_clean(cells: &[u64; 8192], map: &[bool; 4096]) -> bool
 }
 
 // The data stand in the cells from start on.
+#[tactic(auto, unfolding(crate::specs::Cells::pasted))]
 pub fn paste(cells: &mut [u64; 8192], start: usize, data: &[u64])
     requires { 2 * start + length «data».now ≤ 8192 }
     ensures { cells.new ≡ pasted (2 * start) «data».now cells.old }
 {
     let at = 2 * start;
-    for t in 0..data.len() {
-        cells[at + t] = data[t];
-    }
+    copies::copy_over(&mut cells[at..at + data.len()], data);
 }
 
 // The cells from start on, count of them, turn to +0.0.
+#[tactic(auto, unfolding(crate::specs::Cells::wiped, crate::specs::Cells::pasted))]
 pub fn wipe(cells: &mut [u64; 8192], start: usize, count: usize)
     requires { start + count ≤ 4096 }
     ensures { cells.new ≡ wiped start count cells.old }
 {
     let at = 2 * start;
-    let n = 2 * count;
-    for t in 0..n {
-        cells[at + t] = 0;
-    }
+    cells[at..at + 2 * count].fill(0);
 }

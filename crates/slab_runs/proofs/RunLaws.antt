@@ -8,7 +8,7 @@ use native.Mathlib.Numerals.{add-one}
 use native.Mathlib.Omega.{arith}
 use lib.ListN.{length, get_or, drop, length-drop}
 use lib.Seq.{get_or-drop, drop-drop}
-use Rattle.slab_runs.specs.declared.Run.TheVariants.{At, Nowhere}
+use Rattle.std.proofs.Common.{Some, None}
 use Rattle.slab_runs.specs.Runs.{free, lowest}
 
 -- a held cell among the first k: they are not free
@@ -61,12 +61,12 @@ past k (suc r) s (b ∷ m) h l e =
     ∙ past k r (suc s) m (omega arith) (omega arith) e
     ∙ ap (λ (x : ℕ). lowest k x (drop (suc r) m)) (omega arith)
 
-none : (k s : ℕ) (m : List Bool) → length m < k → Nowhere ≡ lowest k s m
+none : (k s : ℕ) (m : List Bool) → length m < k → None ≡ lowest k s m
 unfolding lowest
 none k s [] h = rw (few k [] h) refl
 none k s (b ∷ m) h = rw (few k (b ∷ m) h) (none k (suc s) m (omega arith))
 
-found : (k s : ℕ) (m : List Bool) → free k m ≡ true → At s ≡ lowest k s m
+found : (k s : ℕ) (m : List Bool) → free k m ≡ true → Some s ≡ lowest k s m
 unfolding lowest
 found k s [] f = rw f refl
 found k s (b ∷ m) f = rw f refl
@@ -125,10 +125,10 @@ module _ (k : ℕ) (map : List Bool) where
         }
 
     -- or fills the run
-    pub scan-found : get_or map c false ≡ false → run + 1 ≡ k → At (c - run) ≡ lowest k 0 map
+    pub scan-found : get_or map c false ≡ false → run + 1 ≡ k → Some (c - run) ≡ lowest k 0 map
     scan-found e n = found k (c - run) (drop (c - run) map) (subst (λ (x : ℕ). free x (drop (c - run) map) ≡ true) (omega arith) (more e)) ∙ sym s.rest
 
-  pub scan-ends : (run c : ℕ) → Scanned k map run c → length map ≤ c → Nowhere ≡ lowest k 0 map
+  pub scan-ends : (run c : ℕ) → Scanned k map run c → length map ≤ c → None ≡ lowest k 0 map
   scan-ends run c s h = none k (c - run) (drop (c - run) map) (omega (arith, length-drop (c - run) map, s.short, s.within, s.inside)) ∙ sym s.rest
 
   pub scan-as : (run other c : ℕ) → run ≡ other → Scanned k map other c → Scanned k map run c

@@ -4,30 +4,21 @@
 ghost use Rattle.std.specs.Prelude.{◌≡◌, ◌≤◌};
 ghost use Rattle.slab_runs.specs.Runs.{lowest};
 
-// The first cell of the lowest run that fits, or that there is none.
-#[derive(Clone, Copy)]
-pub enum Run {
-    At(usize),
-    Nowhere,
-}
-
-// The lowest run of k free cells.
-pub fn lowest_run(map: &[bool], k: usize) -> Run
+// The first cell of the lowest run of k free cells, or that there is none.
+pub fn lowest_run(map: &[bool], k: usize) -> Option<usize>
     requires { 1 ≤ k }
     ensures { result ≡ lowest k 0 map.now }
 {
     let mut run = 0;
-    let mut c = 0;
-    while c < map.len() {
-        if map[c] {
+    for (c, held) in map.iter().enumerate() {
+        if *held {
             run = 0;
         } else {
             if run + 1 == k {
-                return Run::At(c - run);
+                return Some(c - run);
             }
             run += 1;
         }
-        c += 1;
     }
-    Run::Nowhere
+    None
 }

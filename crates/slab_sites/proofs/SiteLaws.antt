@@ -7,32 +7,16 @@ use mathlib.Core.Logic.{⊎_elim}
 use native.Mathlib.Nat.{eq-or-lt_of_le}
 use native.Mathlib.Numerals.{add-one}
 use native.Mathlib.Omega.{arith}
-use lib.Dec.{leb, eqb}
+use lib.Dec.{eqb}
 use lib.ListN.{length, get_or, set, length-set}
 use lib.Seq.{get_or-set_same, get_or-set_other}
-use borrow.Author.Tests.{eq-eqb, ne_eqb, le-leb, lt-leb}
+use borrow.Author.Tests.{eq-eqb, ne_eqb}
 use Rattle.slab_sites.specs.declared.Site.{Site}
 use Rattle.slab_sites.specs.Every.{seek}
 use Rattle.slab_sites.specs.Sites.{site_at, set_site, inside, apart, apart_from, each_apart, find_site, shifted}
 use Rattle.slab_sites.proofs.EveryLaws.{both, every-none, every_more, every-bad, seek_hit, seek-miss, seek-end, seek-begin}
 
 -- ---- one site, two sites
-
-pub empty-site : (x : Site) → x.cells ≡ 0 → false ≡ inside x
-empty-site x e = rw (eq-eqb x.cells 0 e)
-
-pub some-cells : (x : Site) {r : ℕ} → (x.cells ≡ 0 → ⊥) → r ≡ x.start + x.cells → leb r 4096 ≡ inside x
-some-cells x n e = rw (ne_eqb x.cells 0 n, e)
-
-pub same_number : (a b : Site) → a.number ≡ b.number → false ≡ apart a b
-same_number a b e = rw (eq-eqb a.number b.number e)
-
-pub before-it : (a b : Site) {r : ℕ} → (a.number ≡ b.number → ⊥) → r ≡ a.start + a.cells → r ≤ b.start → true ≡ apart a b
-before-it a b n e h = rw (ne_eqb a.number b.number n, le-leb (a.start + a.cells) b.start (omega arith))
-
-pub behind-it : (a b : Site) {r s : ℕ} → (a.number ≡ b.number → ⊥) → r ≡ a.start + a.cells → b.start < r → s ≡ b.start + b.cells
-    → leb s a.start ≡ apart a b
-behind-it a b n e h f = rw (ne_eqb a.number b.number n, lt-leb (a.start + a.cells) b.start (omega arith), f)
 
 -- ---- the scans
 

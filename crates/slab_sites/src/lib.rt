@@ -2,7 +2,7 @@
 // numbers for each: the site's number, its first cell and its count of cells.
 #![tactic(auto)]
 
-ghost use Rattle.std.specs.Prelude.{◌≡◌, ◌+◌, ◌*◌, ◌≤◌, ◌<◌};
+ghost use Rattle.std.specs.Prelude.{◌≡◌, ◌+◌, ◌*◌, ◌≤◌, ◌<◌, SomeIff};
 ghost use Rattle.slab_sites.specs.Sites.{site_at, set_site, inside, apart, apart_from, each_apart, find_site, shifted};
 
 #[derive(Clone, Copy)]
@@ -45,23 +45,14 @@ fn end_of(x: Site) -> usize
 fn is_inside(x: Site) -> bool
     ensures { result ≡ inside x }
 {
-    if x.cells == 0 {
-        return false;
-    }
-    end_of(x) <= 4096
+    x.cells != 0 && end_of(x) <= 4096
 }
 
 // The two sites share neither their number nor a cell.
 fn are_apart(a: Site, b: Site) -> bool
     ensures { result ≡ apart a b }
 {
-    if a.number == b.number {
-        return false;
-    }
-    if end_of(a) <= b.start as usize {
-        return true;
-    }
-    end_of(b) <= a.start as usize
+    a.number != b.number && (end_of(a) <= b.start as usize || end_of(b) <= a.start as usize)
 }
 
 // The site x is apart from each of the first n.
@@ -84,27 +75,24 @@ pub fn each_apart(index: &[u32; 193], n: usize) -> bool
 {
     for i in 0..n {
         let x = site_at(index, i);
-        if !is_inside(x) {
-            return false;
-        }
-        if !apart_from(index, i, x) {
+        if !is_inside(x) || !apart_from(index, i, x) {
             return false;
         }
     }
     true
 }
 
-// The entry of the site with that number, or n where none of the first n has it.
-pub fn find_site(index: &[u32; 193], n: usize, number: u32) -> usize
+// The first of the first n entries whose site has that number.
+pub fn find_site(index: &[u32; 193], n: usize, number: u32) -> Option<usize>
     requires { n ≤ 64 }
-    ensures { result ≡ find_site index.now number n }
+    ensures { SomeIff result (find_site index.now number n < n) (find_site index.now number n) }
 {
     for i in 0..n {
         if site_at(index, i).number == number {
-            return i;
+            return Some(i);
         }
     }
-    n
+    None
 }
 
 // The m entries behind entry i move down by one.

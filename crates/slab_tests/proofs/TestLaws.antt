@@ -2,37 +2,22 @@
 use mathlib.Core.Path.{◌≡◌, refl, sym, ap, ◌∙◌}
 use mathlib.Core.Bool.{Bool, true, false, not, ◌&&◌, ◌||◌, true≢false}
 use mathlib.Core.List.{List}
-use Prim.Native.Nat.{ℕ, ◌+◌, ◌*◌, ◌/◌, ◌%◌, ◌≤◌, ◌<◌}
+use Prim.Native.Nat.{ℕ, ◌+◌, ◌*◌, ◌/◌, ◌%◌, ◌≤◌}
 use native.Mathlib.Omega.{arith}
 use lib.Dec.{leb, ltb, eqb}
-use borrow.Author.Tests.{eq-eqb, ne_eqb, le-leb, lt-leb, leb-true, ltb-false, lt-ltb, le-ltb, eqb-false, not-false}
+use borrow.Author.Tests.{leb-true, ltb-false, eqb-false, not-false}
+use Rattle.std.proofs.Common.{Option, Some, None}
 use Rattle.answers.specs.Paper.{Reply, done, refuse}
-use Rattle.slab_runs.specs.declared.Run.{Run}
-use Rattle.slab_runs.specs.declared.Run.TheVariants.{At, Nowhere}
-use Rattle.slab_runs.specs.Runs.{lowest}
 use Rattle.slab_runs.proofs.Theorems.{lowest-fits}
 use Rattle.slab_sites.specs.Sites.{count, each_apart}
 use Rattle.slab_sites.proofs.EveryLaws.{first_of, second-of, neither-first, neither-second}
 use Rattle.slab_cells.specs.Cells.{map_of, clean}
 use Rattle.slab_cells.proofs.CellLaws.{length-map}
-use Rattle.slab_tests.specs.Tests.{sound, bad_data, entry_of, holds, room, is_nowhere, spot, misplaced, skipped, is_full, reply, put_reply, drop_reply, replace_reply}
+use Rattle.slab_tests.specs.Tests.{sound, bad_data, entry_of, holds, room, is_nowhere, spot, put_reply, drop_reply, replace_reply}
 
 -- ---- the slab's own tests
 
 module _ (cells index : List ℕ) where
-  pub too_many : 64 < count index → false ≡ sound cells index
-  unfolding sound
-  too_many h = rw (lt-leb (count index) 64 h)
-
-  pub not-apart : {b : Bool} → count index ≤ 64 → b ≡ each_apart index (count index) → b ≡ false → false ≡ sound cells index
-  unfolding sound
-  not-apart h e f = rw (le-leb (count index) 64 h, ← e, f)
-
-  pub by-cells : {a b : Bool} {map : List Bool} → count index ≤ 64 → a ≡ each_apart index (count index) → a ≡ true → map ≡ map_of index 64 (count index)
-      → b ≡ clean map cells → b ≡ sound cells index
-  unfolding sound
-  by-cells h e f g i = rw (le-leb (count index) 64 h, ← e, f) (i ∙ ap (λ (m : List Bool). clean m cells) g)
-
   module _ (s : sound cells index ≡ true) where
     pub sound-count : count index ≤ 64
     unfolding sound
@@ -52,15 +37,6 @@ pub said-sound : (cells index : List ℕ) {s : Bool} → s ≡ sound cells index
 said-sound cells index e f = sym e ∙ f
 
 -- ---- the data
-
-pub no_cells : (len : ℕ) → len ≡ 0 → true ≡ bad_data len
-no_cells len e = rw (eq-eqb len 0 e)
-
-pub odd : (len : ℕ) → (len ≡ 0 → ⊥) → len % 2 ≡ 1 → true ≡ bad_data len
-odd len n e = rw (ne_eqb len 0 n, eq-eqb (len % 2) 1 e)
-
-pub even : (len : ℕ) → (len ≡ 0 → ⊥) → (len % 2 ≡ 1 → ⊥) → ltb 8192 len ≡ bad_data len
-even len n e = rw (ne_eqb len 0 n, ne_eqb (len % 2) 1 e)
 
 module _ (len : ℕ) (b : bad_data len ≡ false) where
   right : (eqb (len % 2) 1 || ltb 8192 len) ≡ false
@@ -84,21 +60,16 @@ module _ (len : ℕ) (b : bad_data len ≡ false) where
 
 -- ---- the run
 
-pub room-is : (index : List ℕ) (skip len : ℕ) {map : List Bool} {r : Run} → map ≡ map_of index skip (count index) → r ≡ lowest (len / 2) 0 map
-    → r ≡ room index skip len
-unfolding room
-room-is index skip len e f = f ∙ ap (lowest (len / 2) 0) e
-
 -- it lies within the slab
-pub room_fits : (index : List ℕ) (skip len s : ℕ) → bad_data len ≡ false → room index skip len ≡ At s → 2 * s + len ≤ 8192
+pub room_fits : (index : List ℕ) (skip len s : ℕ) → bad_data len ≡ false → room index skip len ≡ Some s → 2 * s + len ≤ 8192
 unfolding room
 room_fits index skip len s b e =
     let l = lowest-fits (len / 2) (map_of index skip (count index)) (one_cell len b) s e in
     omega (arith, l, length-map index skip (count index), whole_cells len b)
 
-pub found : (r : Run) → is_nowhere r ≡ false → r ≡ At (spot r)
-found (At s) e = refl
-found Nowhere e = absurd (true≢false e)
+pub found : (r : Option ℕ) → is_nowhere r ≡ false → r ≡ Some (spot r)
+found (Some s) e = refl
+found None e = absurd (true≢false e)
 
 pub spot-fits : (index : List ℕ) (skip len : ℕ) → bad_data len ≡ false → is_nowhere (room index skip len) ≡ false → 2 * spot (room index skip len) + len ≤ 8192
 spot-fits index skip len b e = room_fits index skip len (spot (room index skip len)) b (found (room index skip len) e)
@@ -108,20 +79,8 @@ spot-fits index skip len b e = room_fits index skip len (spot (room index skip l
 abbrev put_row : Bool → Bool → Bool → Bool → Bool → Reply
 put_row s b h w f = refuse (not s) (1, 0) (refuse b (1, 0) (refuse h (13, 0) (refuse w (14, 0) (refuse f (15, 0) done))))
 
-row₁ : (s b h w f : Bool) → s ≡ false → (1, 0) ≡ put_row s b h w f
-row₁ s b h w f e = rw e
-
-row₂ : (s b h w f : Bool) → s ≡ true → b ≡ true → (1, 0) ≡ put_row s b h w f
-row₂ s b h w f e g = rw (e, g)
-
-row₃ : (s b h w f : Bool) → s ≡ true → b ≡ false → h ≡ true → (13, 0) ≡ put_row s b h w f
-row₃ s b h w f e g i = rw (e, g, i)
-
 row₄ : (s b h w f : Bool) → s ≡ true → b ≡ false → h ≡ false → w ≡ true → (14, 0) ≡ put_row s b h w f
 row₄ s b h w f e g i j = rw (e, g, i, j)
-
-row₅ : (s b h w f : Bool) → s ≡ true → b ≡ false → h ≡ false → w ≡ false → f ≡ true → (15, 0) ≡ put_row s b h w f
-row₅ s b h w f e g i j k = rw (e, g, i, j, k)
 
 row₆ : (s b h w f : Bool) → s ≡ true → b ≡ false → h ≡ false → w ≡ false → f ≡ false → (0, 0) ≡ put_row s b h w f
 row₆ s b h w f e g i j k = rw (e, g, i, j, k)
@@ -129,81 +88,8 @@ row₆ s b h w f e g i j k = rw (e, g, i, j, k)
 abbrev drop_row : Bool → Bool → Reply
 drop_row s h = refuse (not s) (1, 0) (refuse (not h) (13, 0) done)
 
-drop₁ : (s h : Bool) → s ≡ false → (1, 0) ≡ drop_row s h
-drop₁ s h e = rw e
-
-drop₂ : (s h : Bool) → s ≡ true → h ≡ false → (13, 0) ≡ drop_row s h
-drop₂ s h e g = rw (e, g)
-
 drop₃ : (s h : Bool) → s ≡ true → h ≡ true → (0, 0) ≡ drop_row s h
 drop₃ s h e g = rw (e, g)
-
--- ---- the tests of a put and of a replace
-
-pub replaces : (again held : Bool) → again ≡ true → not held ≡ misplaced again held
-replaces again held e = rw e
-
-pub puts : (again held : Bool) → again ≡ false → held ≡ misplaced again held
-puts again held e = rw e
-
-pub puts-full : (again : Bool) (n : ℕ) → again ≡ false → eqb n 64 ≡ is_full again n
-puts-full again n e = rw e
-
-module _ (again : Bool) (cells index : List ℕ) (site len : ℕ) {s : Bool} (e : s ≡ sound cells index) where
-  abbrev nowhere : Bool
-  nowhere = is_nowhere (room index (skipped again (entry_of index site)) len)
-
-  abbrev full : Bool
-  full = is_full again (count index)
-
-  abbrev wrong : Bool
-  wrong = misplaced again (holds index site)
-
-  pub judge-broken : s ≡ false → (1, 0) ≡ reply again cells index site len
-  judge-broken f = row₁ (sound cells index) (bad_data len) wrong nowhere full (sym e ∙ f)
-
-  module _ (f : s ≡ true) {b : Bool} (g : b ≡ bad_data len) where
-    pub judge-bad : b ≡ true → (1, 0) ≡ reply again cells index site len
-    judge-bad h = row₂ (sound cells index) (bad_data len) wrong nowhere full (sym e ∙ f) (sym g ∙ h)
-
-    module _ (h : b ≡ false) {i : ℕ} (j : i ≡ entry_of index site) {x : Bool} (l : x ≡ misplaced again (ltb i (count index))) where
-      placed : x ≡ wrong
-      placed = l ∙ ap (λ (y : ℕ). misplaced again (ltb y (count index))) j
-
-      pub judge-misplaced : x ≡ true → (13, 0) ≡ reply again cells index site len
-      judge-misplaced m = row₃ (sound cells index) (bad_data len) wrong nowhere full (sym e ∙ f) (sym g ∙ h) (sym placed ∙ m)
-
-      module _ (m : x ≡ false) {k : ℕ} (q : k ≡ skipped again i) {r : Run} (o : r ≡ room index k len) where
-        own : r ≡ room index (skipped again (entry_of index site)) len
-        own = o ∙ ap (λ (y : ℕ). room index y len) (q ∙ ap (skipped again) j)
-
-        pub judge-nowhere : r ≡ Nowhere → (14, 0) ≡ reply again cells index site len
-        judge-nowhere t = row₄ (sound cells index) (bad_data len) wrong nowhere full (sym e ∙ f) (sym g ∙ h) (sym placed ∙ m) (ap is_nowhere (sym own ∙ t))
-
-        module _ (t : ℕ) (u : r ≡ At t) {y : Bool} (v : y ≡ full) where
-          pub judge-full : y ≡ true → (15, 0) ≡ reply again cells index site len
-          judge-full w =
-              row₅ (sound cells index) (bad_data len) wrong nowhere full (sym e ∙ f) (sym g ∙ h) (sym placed ∙ m) (ap is_nowhere (sym own ∙ u)) (sym v ∙ w)
-
-          pub judge-passes : y ≡ false → (0, 0) ≡ reply again cells index site len
-          judge-passes w =
-              row₆ (sound cells index) (bad_data len) wrong nowhere full (sym e ∙ f) (sym g ∙ h) (sym placed ∙ m) (ap is_nowhere (sym own ∙ u)) (sym v ∙ w)
-
-          pub judge-spot : t ≡ spot (room index (skipped again (entry_of index site)) len)
-          judge-spot = ap spot (sym u ∙ own)
-
--- ---- the tests of a drop
-
-module _ (cells index : List ℕ) (site : ℕ) {s : Bool} (e : s ≡ sound cells index) where
-  pub drop-broken : s ≡ false → (1, 0) ≡ drop_reply cells index site
-  drop-broken f = drop₁ (sound cells index) (holds index site) (sym e ∙ f)
-
-  module _ (f : s ≡ true) {i : ℕ} (j : i ≡ entry_of index site) where
-    pub drop-absent : count index ≤ i → (13, 0) ≡ drop_reply cells index site
-    drop-absent l = drop₂ (sound cells index) (holds index site) (sym e ∙ f) (le-ltb (entry_of index site) (count index) (omega arith))
-
-    pub drop-passes : i < count index → (0, 0) ≡ drop_reply cells index site
-    drop-passes l = drop₃ (sound cells index) (holds index site) (sym e ∙ f) (lt-ltb (entry_of index site) (count index) (omega arith))
 
 -- ---- a call that is accepted has passed each test
 
@@ -284,27 +170,27 @@ put-fourteen true false false true f e = refl
 put-fourteen true false false false true e = absurd (omega arith)
 put-fourteen true false false false false e = absurd (omega arith)
 
-nowhere-at : (r : Run) → is_nowhere r ≡ true → r ≡ Nowhere
-nowhere-at (At s) e = absurd (true≢false (sym e))
-nowhere-at Nowhere e = refl
+nowhere-at : (r : Option ℕ) → is_nowhere r ≡ true → r ≡ None
+nowhere-at (Some s) e = absurd (true≢false (sym e))
+nowhere-at None e = refl
 
 module _ (cells index : List ℕ) (site len : ℕ) where
-  pub put-14-none : (put_reply cells index site len).0 ≡ 14 → room index 64 len ≡ Nowhere
+  pub put-14-none : (put_reply cells index site len).0 ≡ 14 → room index 64 len ≡ None
   put-14-none e =
       nowhere-at (room index 64 len)
       (put-fourteen (sound cells index) (bad_data len) (holds index site) (is_nowhere (room index 64 len)) (eqb (count index) 64) e)
 
-  pub none-put-14 : sound cells index ≡ true → bad_data len ≡ false → holds index site ≡ false → room index 64 len ≡ Nowhere
+  pub none-put-14 : sound cells index ≡ true → bad_data len ≡ false → holds index site ≡ false → room index 64 len ≡ None
       → (14, 0) ≡ put_reply cells index site len
   none-put-14 s b h e =
       row₄ (sound cells index) (bad_data len) (holds index site) (is_nowhere (room index 64 len)) (eqb (count index) 64) s b h (ap is_nowhere e)
 
-  pub replace-14-none : (replace_reply cells index site len).0 ≡ 14 → room index (entry_of index site) len ≡ Nowhere
+  pub replace-14-none : (replace_reply cells index site len).0 ≡ 14 → room index (entry_of index site) len ≡ None
   replace-14-none e =
       nowhere-at (room index (entry_of index site) len)
       (put-fourteen (sound cells index) (bad_data len) (not (holds index site)) (is_nowhere (room index (entry_of index site) len)) false e)
 
-  pub none-replace-14 : sound cells index ≡ true → bad_data len ≡ false → holds index site ≡ true → room index (entry_of index site) len ≡ Nowhere
+  pub none-replace-14 : sound cells index ≡ true → bad_data len ≡ false → holds index site ≡ true → room index (entry_of index site) len ≡ None
       → (14, 0) ≡ replace_reply cells index site len
   none-replace-14 s b h e =
       row₄ (sound cells index) (bad_data len) (not (holds index site)) (is_nowhere (room index (entry_of index site) len)) false s b (ap not h) (ap is_nowhere e)

@@ -8,7 +8,7 @@ use lib.Dec.{leb}
 use lib.ListN.{get_or, drop, length-drop}
 use lib.Seq.{get_or-drop}
 use borrow.Author.Tests.{leb-true, leb-false}
-use Rattle.slab_runs.specs.declared.Run.TheVariants.{At, Nowhere}
+use Rattle.std.proofs.Common.{Some, None}
 use Rattle.slab_runs.specs.Runs.{free}
 use Rattle.slab_runs.proofs.RunLaws.{few, held-among, held_in}
 use Rattle.slab_runs.proofs.Theorems.{lowest-cell, lowest-fits, lowest-least, lowest-none, none-lowest}
@@ -30,7 +30,7 @@ module _ (index : List ℕ) (skip len : ℕ) (b : bad_data len ≡ false) where
       (u + p.0, omega arith, omega (arith, p.1), sym (map_at index skip (count index) (u + p.0) (omega (arith, p.1))) ∙ sym (get_or-drop u map p.0 false) ∙ p.2)
 
   -- The run's cells are inside the slab, and no site but the one passed over holds one of them.
-  pub room-is-free : (s : ℕ) → room index skip len ≡ At s → (s + len / 2 ≤ 4096) × ((c : ℕ) → s ≤ c → c < s + len / 2 → held index skip (count index) c ≡ false)
+  pub room-is-free : (s : ℕ) → room index skip len ≡ Some s → (s + len / 2 ≤ 4096) × ((c : ℕ) → s ≤ c → c < s + len / 2 → held index skip (count index) c ≡ false)
   unfolding room
   room-is-free s e =
       let w = lowest-fits (len / 2) map (one_cell len b) s e in
@@ -38,19 +38,19 @@ module _ (index : List ℕ) (skip len : ℕ) (b : bad_data len ≡ false) where
       (v, λ c h l. sym (map_at index skip (count index) c (omega arith)) ∙ lowest-cell (len / 2) map (one_cell len b) s c e h l)
 
   -- It is the lowest: each run of that length that starts lower has a held cell.
-  pub room-is-lowest : (s : ℕ) → room index skip len ≡ At s → (u : ℕ) → u < s → (c : ℕ) × (u ≤ c) × (c < u + len / 2) × (held index skip (count index) c ≡ true)
+  pub room-is-lowest : (s : ℕ) → room index skip len ≡ Some s → (u : ℕ) → u < s → (c : ℕ) × (u ≤ c) × (c < u + len / 2) × (held index skip (count index) c ≡ true)
   unfolding room
   room-is-lowest s e u h =
       let w = lowest-fits (len / 2) map (one_cell len b) s e in
       one-held u (omega (arith, w, length-map index skip (count index))) (lowest-least (len / 2) map (one_cell len b) s e u h)
 
   -- Where there is none, each run of that length in the slab has a held cell;
-  pub none_free : room index skip len ≡ Nowhere → (u : ℕ) → u + len / 2 ≤ 4096 → (c : ℕ) × (u ≤ c) × (c < u + len / 2) × (held index skip (count index) c ≡ true)
+  pub none_free : room index skip len ≡ None → (u : ℕ) → u + len / 2 ≤ 4096 → (c : ℕ) × (u ≤ c) × (c < u + len / 2) × (held index skip (count index) c ≡ true)
   unfolding room
   none_free e u h = one-held u h (lowest-none (len / 2) map (one_cell len b) e u)
 
   -- and where each has one, there is none.
-  pub free-none : ((u : ℕ) → u + len / 2 ≤ 4096 → (c : ℕ) × (u ≤ c) × (c < u + len / 2) × (held index skip (count index) c ≡ true)) → room index skip len ≡ Nowhere
+  pub free-none : ((u : ℕ) → u + len / 2 ≤ 4096 → (c : ℕ) × (u ≤ c) × (c < u + len / 2) × (held index skip (count index) c ≡ true)) → room index skip len ≡ None
   unfolding room
   free-none f = none-lowest (len / 2) map (one_cell len b) (λ u. by_end u (leb (u + len / 2) 4096) refl)
     where

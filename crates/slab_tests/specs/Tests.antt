@@ -1,12 +1,10 @@
 -- The tests of a slab, of data and of a site number, and what each call answers. Assumes nothing.
-use Rattle.std.specs.Prelude.{◌≡◌, Bool, true, false, not, ◌&&◌, ◌||◌, List, ℕ, ◌/◌, ◌%◌, leb, ltb, eqb}
-use Rattle.answers.specs.Paper.{Reply, paper, done, refuse, if_done}
-use Rattle.slab_runs.specs.declared.Run.{Run}
-use Rattle.slab_runs.specs.declared.Run.TheVariants.{At, Nowhere}
+use Rattle.std.specs.Prelude.{◌≡◌, Bool, true, false, not, ◌&&◌, ◌||◌, List, ℕ, ◌/◌, ◌%◌, leb, ltb, eqb, Option, Some, None, Result}
+use Rattle.answers.specs.declared.Refusal.{Refusal}
+use Rattle.answers.specs.Paper.{Reply, paper, given, done, refuse, if_done}
 use Rattle.slab_runs.specs.Runs.{lowest}
 use Rattle.slab_sites.specs.Sites.{count, each_apart, find_site}
 use Rattle.slab_cells.specs.Cells.{map_of, clean}
-use Rattle.slab_tests.specs.declared.Verdict.{Verdict}
 
 -- ---- the tests
 
@@ -27,17 +25,17 @@ abbrev pub holds : List ℕ → ℕ → Bool
 holds index site = ltb (entry_of index site) (count index)
 
 -- the lowest run that len numbers take, as if the cells of entry skip were free
-unfoldable pub room : List ℕ → ℕ → ℕ → Run
+unfoldable pub room : List ℕ → ℕ → ℕ → Option ℕ
 room index skip len = lowest (len / 2) 0 (map_of index skip (count index))
 
-abbrev pub is_nowhere : Run → Bool
-is_nowhere (At s) = false
-is_nowhere Nowhere = true
+abbrev pub is_nowhere : Option ℕ → Bool
+is_nowhere (Some s) = false
+is_nowhere None = true
 
 -- its first cell
-abbrev pub spot : Run → ℕ
-spot (At s) = s
-spot Nowhere = 0
+abbrev pub spot : Option ℕ → ℕ
+spot (Some s) = s
+spot None = 0
 
 -- ---- the answers
 
@@ -84,6 +82,6 @@ reply again cells index site len =
     (refuse (is_nowhere (room index (skipped again (entry_of index site)) len)) (14, 0) (refuse (is_full again (count index)) (15, 0) done))))
 
 -- what the tests of a put and of a replace find
-pub record Judged (again : Bool) (cells index : List ℕ) (site len : ℕ) (r : Verdict) : Type 0 where
-  pub answer-is : paper r.answer ≡ reply again cells index site len
-  pub start_is : r.start ≡ if_done (paper r.answer).0 (spot (room index (skipped again (entry_of index site)) len)) 0
+pub record Judged (again : Bool) (cells index : List ℕ) (site len : ℕ) (r : Result ℕ Refusal) : Type 0 where
+  pub answer-is : paper r ≡ reply again cells index site len
+  pub start_is : given 0 r ≡ if_done (paper r).0 (spot (room index (skipped again (entry_of index site)) len)) 0

@@ -3,28 +3,17 @@
 
 ghost use Rattle.std.specs.Prelude.{◌≡◌, true, ◌/◌, ◌≤◌};
 ghost use Rattle.slab_sites.specs.Sites.{count, each_apart};
-ghost use Rattle.slab_tests.specs.Tests.{sound, bad_data, room, misplaced, skipped, is_full, Judged};
+ghost use Rattle.slab_tests.specs.Tests.{sound, bad_data, room, Judged};
 
-use answers::Answer;
-use slab_runs::Run;
-
-// What a call's tests answer, and the first cell of the run it takes.
-#[derive(Clone, Copy)]
-pub struct Verdict {
-    pub answer: Answer,
-    pub start: usize,
-}
+use answers::Refusal;
 
 // The slab passes every test of its own.
+#[tactic(auto, unfolding(crate::specs::Tests::sound))]
 pub fn is_sound(cells: &[u64; 8192], index: &[u32; 193]) -> bool
     ensures { result ≡ sound cells.now index.now }
 {
-    let held = index[0];
-    if held > 64 {
-        return false;
-    }
-    let n = held as usize;
-    if !slab_sites::each_apart(index, n) {
+    let n = index[0] as usize;
+    if n > 64 || !slab_sites::each_apart(index, n) {
         return false;
     }
     let map = slab_cells::map_of(index, n, 64);
@@ -35,19 +24,14 @@ pub fn is_sound(cells: &[u64; 8192], index: &[u32; 193]) -> bool
 fn is_bad(len: usize) -> bool
     ensures { result ≡ bad_data len }
 {
-    if len == 0 {
-        return true;
-    }
-    if len % 2 == 1 {
-        return true;
-    }
-    len > 8192
+    len == 0 || len % 2 == 1 || len > 8192
 }
 
 // The lowest run that len numbers take, entry skip not counted. It is called, so that its map of the cells and that of `is_sound` do not
 // stand on the stack at one time.
 #[inline(never)]
-fn room_for(index: &[u32; 193], skip: usize, len: usize) -> Run
+#[tactic(auto, unfolding(crate::specs::Tests::room))]
+fn room_for(index: &[u32; 193], skip: usize, len: usize) -> Option<usize>
     requires { (count index.now ≤ 64) × (each_apart index.now (count index.now) ≡ true) × (1 ≤ len / 2) }
     ensures { result ≡ room index.now skip len }
 {
@@ -56,70 +40,28 @@ fn room_for(index: &[u32; 193], skip: usize, len: usize) -> Run
     slab_runs::lowest_run(&map, len / 2)
 }
 
-// The number is held where it must not be, or the other way round.
-fn is_misplaced(again: bool, held: bool) -> bool
-    ensures { result ≡ misplaced again held }
-{
-    if again {
-        return !held;
-    }
-    held
-}
-
-fn skip_for(again: bool, i: usize) -> usize
-    ensures { result ≡ skipped again i }
-{
-    if again { i } else { 64 }
-}
-
-fn is_full(again: bool, n: usize) -> bool
-    ensures { result ≡ is_full again n }
-{
-    if again {
-        return false;
-    }
-    n == 64
-}
-
-// The tests of a put, or of a replace where `again`.
-pub fn judge(cells: &[u64; 8192], index: &[u32; 193], site: u32, len: usize, again: bool) -> Verdict
+// The tests of a put, or of a replace where `again`: the first cell of the run that it takes.
+pub fn judge(
+    cells: &[u64; 8192],
+    index: &[u32; 193],
+    site: u32,
+    len: usize,
+    again: bool,
+) -> Result<usize, Refusal>
     ensures { Judged again cells.now index.now site len result }
 {
-    if !is_sound(cells, index) {
-        return Verdict {
-            answer: Answer::Size,
-            start: 0,
-        };
-    }
-    if is_bad(len) {
-        return Verdict {
-            answer: Answer::Size,
-            start: 0,
-        };
+    if !is_sound(cells, index) || is_bad(len) {
+        return Err(Refusal::Size);
     }
     let n = index[0] as usize;
-    let i = slab_sites::find_site(index, n, site);
-    if is_misplaced(again, i < n) {
-        return Verdict {
-            answer: Answer::SiteNumber,
-            start: 0,
-        };
+    let held = slab_sites::find_site(index, n, site);
+    if held.is_some() != again {
+        return Err(Refusal::SiteNumber);
     }
-    let run = room_for(index, skip_for(again, i), len);
-    let Run::At(start) = run else {
-        return Verdict {
-            answer: Answer::NoRun,
-            start: 0,
-        };
-    };
-    if is_full(again, n) {
-        return Verdict {
-            answer: Answer::Full,
-            start: 0,
-        };
+    // A replace passes over its own entry, a put over none.
+    let start = room_for(index, held.unwrap_or(64), len).ok_or(Refusal::NoRun)?;
+    if !again && n == 64 {
+        return Err(Refusal::Full);
     }
-    Verdict {
-        answer: Answer::Done,
-        start,
-    }
+    Ok(start)
 }

@@ -9,7 +9,7 @@ use native.Mathlib.Omega.{arith}
 use lib.Dec.{ltb, eqb}
 use lib.ListN.{length, get_or}
 use borrow.Author.Tests.{ltb-true, ltb-false, eqb-true, eqb-false}
-use Rattle.slab_runs.specs.declared.Run.TheVariants.{At}
+use Rattle.std.proofs.Common.{Some}
 use Rattle.slab_sites.specs.declared.Site.{Site}
 use Rattle.slab_sites.specs.Sites.{count, site_at, covers}
 use Rattle.slab_sites.proofs.IndexLaws.{Inside, Apart, apart-back, covers-says, covers-not, off-run, find-is, find-before}
@@ -45,7 +45,7 @@ module _ (cells index : List ℕ) (site : ℕ) (given : List ℕ) (lc : length c
   pub put-was : Sound cells index
   put-was = sound-says cells index ok.sound-is
 
-  pub put-at : room index 64 (length given) ≡ At (spot (room index 64 (length given)))
+  pub put-at : room index 64 (length given) ≡ Some (spot (room index 64 (length given)))
   put-at = found (room index 64 (length given)) ok.fits
 
   pub put-spare : count index < 64
@@ -265,7 +265,7 @@ module _ (cells index : List ℕ) (site : ℕ) (given : List ℕ) (lc : length c
   pub rep-known : entry_of index site < count index
   rep-known = ltb-true (entry_of index site) (count index) ok.known
 
-  rep_at : room index own (length given) ≡ At (spot (room index own (length given)))
+  rep_at : room index own (length given) ≡ Some (spot (room index own (length given)))
   rep_at = found (room index own (length given)) ok.fits
 
   rep-within : 2 * spot (room index own (length given)) + length given ≤ 8192

@@ -5,10 +5,10 @@ use mathlib.Core.List.{List}
 use Prim.Native.Nat.{ℕ, ◌+◌, ◌-◌, ◌*◌, ◌/◌, ◌≤◌, ◌<◌}
 use native.Mathlib.Omega.{arith}
 use lib.Dec.{leb}
-use lib.ListN.{length, get_or, length-set}
+use lib.ListN.{length, get_or}
 use lib.Seq.{get_or-set_same}
 use borrow.Author.Tests.{le-leb}
-use Rattle.slab_runs.specs.declared.Run.TheVariants.{At}
+use Rattle.std.proofs.Common.{Some}
 use Rattle.slab_runs.proofs.Theorems.{lowest-cell}
 use Rattle.slab_sites.specs.Sites.{count, site_at, set_site, covers, each_apart, shifted}
 use Rattle.slab_sites.proofs.EveryLaws.{both}
@@ -99,7 +99,7 @@ module _ (index : List ℕ) (i site start k : ℕ) where
 -- ---- the run
 
 -- no site but the one passed over covers a cell of the run
-pub room-free : (index : List ℕ) (skip len s c : ℕ) → bad_data len ≡ false → room index skip len ≡ At s → s ≤ c → c < s + len / 2
+pub room-free : (index : List ℕ) (skip len s c : ℕ) → bad_data len ≡ false → room index skip len ≡ Some s → s ≤ c → c < s + len / 2
     → (i : ℕ) → i < count index → (i ≡ skip → ⊥) → covers (site_at index i) c ≡ false
 unfolding room
 room-free index skip len s c b e h l i m d =

@@ -10,13 +10,10 @@ use lib.Ieee.{Float, binary64, of_bits, to_bits, is_nan, nan_bits}
 use lib.Ieee.Bits.{to_bits-of_bits, nan_bits_is}
 use lib.ListN.{length, get_or, length-set}
 use borrow.Author.Tests.{le-ltb, ne_eqb}
-use Rattle.answers.specs.declared.Answer.{Answer}
-use Rattle.answers.specs.declared.Answer.TheVariants.{Done}
-use Rattle.answers.specs.Paper.{Reply, paper, if_done}
+use Rattle.std.proofs.Common.{Option, None}
+use Rattle.answers.specs.Paper.{Answer, Done, Reply, paper, if_done}
 use Rattle.answers.proofs.PaperLaws.{done-new}
 use Rattle.answers.proofs.Theorems.{paper-one}
-use Rattle.slab_runs.specs.declared.Run.{Run}
-use Rattle.slab_runs.specs.declared.Run.TheVariants.{Nowhere}
 use Rattle.slab_sites.specs.Sites.{count, site_at, set_site, covers}
 use Rattle.slab_sites.proofs.SiteLaws.{length-set-site}
 use Rattle.slab_sites.proofs.IndexLaws.{covers-says, off-it}
@@ -28,7 +25,7 @@ use Rattle.slab_tests.proofs.TestLaws.{PutPasses, DropPasses, ReplacePasses, put
 use Rattle.slabs.proofs.Sound.{sound-says, says-sound, put_count, put-new, put-old, drop-count, drop-low, replace-count, replace-new, replace-other}
 use Rattle.slabs.proofs.Calls.{put_holds, put_keeps, put-reads-back, put-spare, drop-holds, drop_keeps, drop-finds, replace-holds, replace-keeps, replace-reads-back, rep-known, rep-was, drop-was, drop-known, left-count}
 use Rattle.slabs.proofs.Undo.{put-entry, put-dropped, put-undone, left-room, left-absent}
-use mathlib.Core.Logic.{◌⊎◌, inl, inr, ⊎_elim}
+use mathlib.Core.Logic.{inl, inr, ⊎_elim}
 
 -- ---- one outcome
 
@@ -179,22 +176,22 @@ module _ (cells index : List ℕ) (site : ℕ) (given : List ℕ) (lc : length c
 -- A put that answers 14 found no run that fits: with `none_free` of `slab_tests`, every run of that length has
 -- a held cell.
 pub put-14 : (cells index : List ℕ) (site : ℕ) (given : List ℕ) {r : Answer} {cells' index' : List ℕ} → Put cells index site given r cells' index' → (paper r).0 ≡ 14
-    → room index 64 (length given) ≡ Nowhere
+    → room index 64 (length given) ≡ None
 put-14 cells index site given {r} p e = put-14-none cells index site (length given) (ap (λ (x : Reply). x.0) (sym p.answer) ∙ e)
 
 -- And where there is none, a put of good data under a new number answers 14, though 64 sites be held.
 pub none-put : (cells index : List ℕ) (site : ℕ) (given : List ℕ) {r : Answer} {cells' index' : List ℕ} → Put cells index site given r cells' index'
-    → sound cells index ≡ true → bad_data (length given) ≡ false → holds index site ≡ false → room index 64 (length given) ≡ Nowhere → paper r ≡ (14, 0)
+    → sound cells index ≡ true → bad_data (length given) ≡ false → holds index site ≡ false → room index 64 (length given) ≡ None → paper r ≡ (14, 0)
 none-put cells index site given p s b h e = p.answer ∙ sym (none-put-14 cells index site (length given) s b h e)
 
 -- A replace that answers 14 found no run that fits where its own cells are free.
 pub replace-14 : (cells index : List ℕ) (site : ℕ) (given : List ℕ) {r : Answer} {cells' index' : List ℕ} → Replaced cells index site given r cells' index'
-    → (paper r).0 ≡ 14 → room index (entry_of index site) (length given) ≡ Nowhere
+    → (paper r).0 ≡ 14 → room index (entry_of index site) (length given) ≡ None
 replace-14 cells index site given {r} p e = replace-14-none cells index site (length given) (ap (λ (x : Reply). x.0) (sym p.answer) ∙ e)
 
 -- And where there is none, a replace of a held site by good data answers 14.
 pub none-replace : (cells index : List ℕ) (site : ℕ) (given : List ℕ) {r : Answer} {cells' index' : List ℕ} → Replaced cells index site given r cells' index'
-    → sound cells index ≡ true → bad_data (length given) ≡ false → holds index site ≡ true → room index (entry_of index site) (length given) ≡ Nowhere
+    → sound cells index ≡ true → bad_data (length given) ≡ false → holds index site ≡ true → room index (entry_of index site) (length given) ≡ None
     → paper r ≡ (14, 0)
 none-replace cells index site given p s b h e = p.answer ∙ sym (none-replace-14 cells index site (length given) s b h e)
 
@@ -313,7 +310,7 @@ module _ (cells index : List ℕ) (site : ℕ) (given : List ℕ) (lc : length c
   pub replace-as : (paper r).0 ≡ 0 → cells' ≡ cells₂
   replace-as y =
       on-done (paper r).0 _ _ y p.cells_is
-      ∙ ap (λ (x : Run). pasted (2 * spot x) given (freed (site_at index (entry_of index site)) cells)) (sym (left-room cells index site lc li was (length given)))
+      ∙ ap (λ (x : Option ℕ). pasted (2 * spot x) given (freed (site_at index (entry_of index site)) cells)) (sym (left-room cells index site lc li was (length given)))
       ∙ sym (on-done (paper u).0 _ _ (ap (λ (x : Reply). x.0) (sym replace-answers-as) ∙ y) next.cells_is)
 
 -- ---- +0.0

@@ -1,7 +1,6 @@
 -- What each call answers and leaves. Assumes nothing.
 use Rattle.std.specs.Prelude.{◌≡◌, List, ℕ, ◌*◌, ◌/◌, length}
-use Rattle.answers.specs.declared.Answer.{Answer}
-use Rattle.answers.specs.Paper.{paper, if_done}
+use Rattle.answers.specs.Paper.{Answer, paper, if_done}
 use Rattle.slab_sites.specs.Sites.{site_at}
 use Rattle.slab_cells.specs.Cells.{pasted}
 use Rattle.slab_tests.specs.Tests.{entry_of, room, spot, put_reply, drop_reply, replace_reply}

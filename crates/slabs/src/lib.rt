@@ -5,48 +5,48 @@
 
 ghost use Rattle.slabs.specs.Slab.{Put, Dropped, Replaced};
 
-use answers::Answer;
+use answers::Refusal;
 
 // The site's data stand in the lowest run that fits, and the site is the index's last.
-pub fn put(cells: &mut [u64; 8192], index: &mut [u32; 193], site: u32, data: &[u64]) -> Answer
+pub fn put(
+    cells: &mut [u64; 8192],
+    index: &mut [u32; 193],
+    site: u32,
+    data: &[u64],
+) -> Result<(), Refusal>
     ensures { Put cells.old index.old site «data».now result cells.new index.new }
 {
-    let v = slab_tests::judge(cells, index, site, data.len(), false);
-    let answer = v.answer;
-    let Answer::Done = answer else {
-        return answer;
-    };
-    slab_changes::put_at(cells, index, site, data, v.start);
-    answer
+    let start = slab_tests::judge(cells, index, site, data.len(), false)?;
+    slab_changes::put_at(cells, index, site, data, start);
+    Ok(())
 }
 
 // The site is held no more, and its cells are +0.0.
-pub fn drop(cells: &mut [u64; 8192], index: &mut [u32; 193], site: u32) -> Answer
+pub fn drop(cells: &mut [u64; 8192], index: &mut [u32; 193], site: u32) -> Result<(), Refusal>
     ensures { Dropped cells.old index.old site result cells.new index.new }
 {
     if !slab_tests::is_sound(cells, index) {
-        return Answer::Size;
+        return Err(Refusal::Size);
     }
     let n = index[0] as usize;
-    let i = slab_sites::find_site(index, n, site);
-    if i >= n {
-        return Answer::SiteNumber;
-    }
+    let i = slab_sites::find_site(index, n, site).ok_or(Refusal::SiteNumber)?;
     slab_changes::drop_at(cells, index, i);
-    Answer::Done
+    Ok(())
 }
 
 // The site's data are new ones, in the lowest run that fits where its old cells are free.
-pub fn replace(cells: &mut [u64; 8192], index: &mut [u32; 193], site: u32, data: &[u64]) -> Answer
+pub fn replace(
+    cells: &mut [u64; 8192],
+    index: &mut [u32; 193],
+    site: u32,
+    data: &[u64],
+) -> Result<(), Refusal>
     ensures { Replaced cells.old index.old site «data».now result cells.new index.new }
 {
-    let v = slab_tests::judge(cells, index, site, data.len(), true);
-    let answer = v.answer;
-    let Answer::Done = answer else {
-        return answer;
-    };
+    let start = slab_tests::judge(cells, index, site, data.len(), true)?;
     let n = index[0] as usize;
-    let i = slab_sites::find_site(index, n, site);
-    slab_changes::replace_at(cells, index, i, site, data, v.start);
-    answer
+    // It is there: `judge` found it.
+    let i = slab_sites::find_site(index, n, site).unwrap();
+    slab_changes::replace_at(cells, index, i, site, data, start);
+    Ok(())
 }

@@ -6,18 +6,17 @@ use native.Mathlib.Omega.{arith}
 use native.Mathlib.Nat.{mul-le-mul_right}
 use lib.Ieee.{Float}
 use lib.ListN.{length, take, drop}
-use Rattle.answers.specs.declared.Answer.{Answer}
-use Rattle.answers.specs.Paper.{Reply, paper, if_done}
+use Rattle.std.specs.Prelude.{Result, Err}
+use Rattle.answers.specs.declared.Refusal.{Refusal}
+use Rattle.answers.proofs.Stopped.{stopped-number}
+use Rattle.answers.specs.Paper.{Reply, paper, table, given, if_done}
 use Rattle.answers.proofs.PaperLaws.{stays, worked-new, worked-old, done-old, end-old, end-worked}
 use Rattle.complex.specs.Zeros.{zeroed}
 use Rattle.tables.specs.Tables.{filled}
 use Rattle.tables.proofs.TablesLaws.{take-filled}
-use Rattle.sweeps.specs.declared.Sweeps.{Sweeps}
 use Rattle.sweeps.specs.Sweeping.{no_sweeps}
 use Rattle.factored.specs.declared.Counted.{Counted}
-use Rattle.factored.specs.Factored.{kept_sweeps}
-use Rattle.factored.proofs.Laws.{kept-none, kept_by}
-use Rattle.finish.specs.declared.Kept.{Kept}
+use Rattle.factored.specs.Factored.{kept_sweeps, no_count}
 use Rattle.finish.specs.Finish.{padded}
 use Rattle.finish.proofs.OutcomeLaws.{reply-worked}
 use Rattle.values.specs.Sort.{sorted_down}
@@ -43,40 +42,42 @@ zeroed-past n a b e = rw e
 past : (x n : ℕ) (l a b : List Float) → drop n a ≡ drop n b → if_done x (padded n l a) (zeroed n a) ≡ if_done x (padded n l b) (zeroed n b)
 past x n l a b e = rw (padded-past n l a b e, zeroed-past n a b e)
 
-pub density-made : (rho : List Float) (n : ℕ) (out work mid : List Float) (r : Kept) (end work' : List Float) {sweeps : Sweeps} (q : Counted)
-    → mid ≡ filled n (eigenvalue rho n) out → sweeps ≡ eigenvalues_sweeps rho n → WeightOutcome n mid r end → work' ≡ zeroed (2 * (n * n)) work
-    → (q.answer ≡ r.answer) × (q.count ≡ r.count) × (q.sweeps ≡ kept_sweeps r.answer sweeps) → DensityWorked rho n out work q end work'
-density-made rho n out work mid r end work' q e f o c i =
+-- the counts of what the finish left, under its answer, with the sweeps
+pub density-made : (rho : List Float) (n : ℕ) (out work mid : List Float) (r : Result ℕ Refusal) (end work' : List Float) (q : Result Counted Refusal)
+    → mid ≡ filled n (eigenvalue rho n) out → WeightOutcome n mid r end → work' ≡ zeroed (2 * (n * n)) work
+    → paper q ≡ paper r → (given no_count q).count ≡ given 0 r → (given no_count q).sweeps ≡ kept_sweeps q (eigenvalues_sweeps rho n)
+    → DensityWorked rho n out work q end work'
+density-made rho n out work mid r end work' q e o c a k w =
     let t : take n mid ≡ eigenvalues_of rho n = rw e (take-filled n (eigenvalue rho n) out) in
     let d : drop n mid ≡ drop n out = rw e (past_is n (eigenvalue rho n) out) in
     record {
-      answer = rw i.0 (rw t at o.answer);
-      count = i.1 ∙ rw t at o.count;
+      answer = a ∙ rw t at o.answer;
+      count = k ∙ rw t at o.count;
       values = rw t at o.values ∙ past (density_values_reply rho n).0 n (density_values rho n) mid out d;
       cleared = c;
-      sweeps-are = kept_by i.0 f i.2;
+      sweeps-are = w;
     }
 
 -- ---- the entry point
 
 -- refused: nothing lent changes
-pub density-refused : (rho : List Float) (n : ℕ) (out scratch : List Float) (r : Answer) (q : Counted)
-    → (q.answer ≡ r) × (q.count ≡ 0) × (q.sweeps ≡ no_sweeps)
-    → paper r ≡ square_refusal rho n (length out) (length scratch) → ((paper r).0 ≡ 0 → ⊥) → DensityValues rho n out scratch q out scratch
-density-refused rho n out scratch r q i e h =
+pub density-refused : (rho : List Float) (n : ℕ) (out scratch : List Float) (e : Refusal) → table e ≡ square_refusal rho n (length out) (length scratch)
+    → DensityValues rho n out scratch (Err e) out scratch
+density-refused rho n out scratch r e =
     let x = square_refusal rho n (length out) (length scratch) in
+    let h = stopped-number r in
     let m : x.0 ≡ 0 → ⊥ = λ z. h (ap (λ (y : Reply). y.0) e ∙ z) in
     let s = sym (stays x (density_values_reply rho n) m) in
     let l = square-small rho n (length out) (length scratch) in
     record {
-      answer = rw i.0 (e ∙ sym s);
-      count = i.1 ∙ rw s (done-old _ _ _ m);
+      answer = e ∙ sym s;
+      count = rw s (done-old _ _ _ m);
       values = rw s (end-old _ _ _ _ m l);
       cleared = rw s (worked-old _ _ _ m l);
-      sweeps-are = rw i.0 (kept-none r (eigenvalues_sweeps rho n) h i.2);
+      sweeps-are = done-old _ _ no_sweeps h;
     }
 
-pub density-worked : (rho : List Float) (n : ℕ) (out scratch work : List Float) (r : Counted) (out' work' : List Float)
+pub density-worked : (rho : List Float) (n : ℕ) (out scratch work : List Float) (r : Result Counted Refusal) (out' work' : List Float)
     → density_values_answer rho n out scratch ≡ density_values_reply rho n → work ≡ take (2 * (n * n)) scratch → 2 * (n * n) ≤ length scratch
     → DensityWorked rho n out work r out' work'
     → DensityValues rho n out scratch r out' (work' ++ drop (2 * (n * n)) scratch)

@@ -5,15 +5,17 @@ use mathlib.Core.List.{List, ◌++◌, append-nil}
 use mathlib.Core.Logic.{inl}
 use Prim.Native.Nat.{ℕ, ◌*◌, ◌≤◌, ◌<◌}
 use native.Mathlib.Omega.{arith}
-use borrow.Author.Tests.{lt-ltb, le-ltb, ltb-false, eq-eqb, ne_eqb, eqb-true, not-false}
+use borrow.Author.Tests.{ltb-false, eqb-true, not-false}
 use lib.Dec.{eqb, ltb}
 use lib.Ieee.{Float}
 use lib.ListN.{length, take, drop, drop_of_length-le}
 use lib.Seq.{drop_at, length-take-le}
-use Rattle.answers.specs.declared.Answer.{Answer}
-use Rattle.answers.specs.declared.Answer.TheVariants.{Done, NotFinite}
-use Rattle.answers.specs.Paper.{Reply, paper, done, refuse}
-use Rattle.answers.proofs.PaperLaws.{Ended, refuse-done, stays, nine-ended, worked-new, worked-old, end-old, end-worked}
+use Rattle.std.specs.Prelude.{Result, Ok, Err}
+use Rattle.answers.specs.declared.Refusal.{Refusal}
+use Rattle.answers.proofs.Stopped.{stopped-number}
+use Rattle.answers.specs.Paper.{Reply, table as table_of, done, refuse}
+use Rattle.answers.specs.declared.Refusal.TheVariants.{NotFinite}
+use Rattle.answers.proofs.PaperLaws.{Ended, refuse-done, stays, nine-ended, done-old, worked-new, worked-old, end-old, end-worked}
 use Rattle.complex.specs.declared.Complex.{Complex}
 use Rattle.complex.specs.Cells.{cell_at, written, components}
 use Rattle.complex.proofs.CellLaws.{cell-written, components-small}
@@ -24,9 +26,6 @@ use Rattle.svd_load.specs.Loading.{planes_of}
 use Rattle.values.specs.Lists.{all_finite}
 use Rattle.sweeps.specs.declared.Sweeps.{Sweeps}
 use Rattle.sweeps.specs.Sweeping.{no_sweeps}
-use Rattle.factored.specs.declared.Factored.{Factored}
-use Rattle.factored.specs.Factored.{kept_sweeps}
-use Rattle.factored.proofs.Laws.{kept-none, kept_by}
 use Rattle.eigen_pair.specs.CellPlanes.{as_planes}
 use Rattle.svd_load.proofs.LoadingLaws.{planes-alike}
 use Rattle.sweeps.specs.Sweeping.{State}
@@ -37,34 +36,6 @@ use Rattle.sweeps.proofs.Ceiling.{Ceiling}
 use Rattle.eigen_sweeps.proofs.SweepingLaws.{settled-ceiling}
 
 -- ---- the refusals
-
-module _ (a : List Float) (n out scratch : ℕ) where
-  pub square-low : n < 1 → (1, 0) ≡ square_refusal a n out scratch
-  unfolding square_refusal
-  square-low h = rw (lt-ltb _ _ h)
-
-  module _ (h1 : 1 ≤ n) where
-    pub square-high : 64 < n → (1, 0) ≡ square_refusal a n out scratch
-    unfolding square_refusal
-    square-high h = rw (le-ltb _ _ h1, lt-ltb _ _ h)
-
-    module _ (h2 : n ≤ 64) where
-      pub square-matrix : (length a ≡ 2 * (n * n) → ⊥) → (6, 0) ≡ square_refusal a n out scratch
-      unfolding square_refusal
-      square-matrix h = rw (le-ltb _ _ h1, le-ltb _ _ h2, ne_eqb _ _ h)
-
-      module _ (h3 : length a ≡ 2 * (n * n)) where
-        pub square-out : out < n → (6, 1) ≡ square_refusal a n out scratch
-        unfolding square_refusal
-        square-out h = rw (le-ltb _ _ h1, le-ltb _ _ h2, eq-eqb _ _ h3, lt-ltb _ _ h)
-
-        pub square-scratch : n ≤ out → scratch < 2 * (n * n) → (6, 2) ≡ square_refusal a n out scratch
-        unfolding square_refusal
-        square-scratch h g = rw (le-ltb _ _ h1, le-ltb _ _ h2, eq-eqb _ _ h3, le-ltb _ _ h, lt-ltb _ _ g)
-
-        pub square-cells : n ≤ out → 2 * (n * n) ≤ scratch → components 0 a ≡ square_refusal a n out scratch
-        unfolding square_refusal
-        square-cells h g = rw (le-ltb _ _ h1, le-ltb _ _ h2, eq-eqb _ _ h3, le-ltb _ _ h, le-ltb _ _ g)
 
 pub square-small : (a : List Float) (n out scratch : ℕ) → (square_refusal a n out scratch).0 < 8
 unfolding square_refusal
@@ -157,37 +128,37 @@ module _ (a : List Float) (n : ℕ) (out scratch mid scratch' : List Float) (swe
   all-is : b ≡ all_finite (eigenvalues_of a n)
   all-is = rw (written, take-filled n (eigenvalue a n) out) at finite
 
-  pub worked-done : b ≡ true → (q : Factored) → (q.answer ≡ Done) × (q.sweeps ≡ kept_sweeps Done sweeps) → SpectrumWorked a n out scratch q mid scratch'
-  worked-done t q i =
+  pub worked-done : b ≡ true → SpectrumWorked a n out scratch (Ok sweeps) mid scratch'
+  worked-done t =
       let r = reply-0 a n (sym all-is ∙ t) in
-      record { answer = rw i.0 (sym r); values = rw r written; cleared = cleared; sweeps-are = kept_by i.0 swept i.1 }
+      record { answer = sym r; values = rw r written; cleared = cleared; sweeps-are = swept }
 
-  pub worked-infinite : b ≡ false → (end : List Float) → end ≡ zeroed n mid → (q : Factored) → (q.answer ≡ NotFinite) × (q.sweeps ≡ no_sweeps)
-      → SpectrumWorked a n out scratch q end scratch'
+  pub worked-infinite : b ≡ false → (end : List Float) → end ≡ zeroed n mid → SpectrumWorked a n out scratch (Err NotFinite) end scratch'
   unfolding zeroed
-  worked-infinite t end e q i =
+  worked-infinite t end e =
       let r = reply-9 a n (sym all-is ∙ t) in
       let p : drop n mid ≡ drop n out = rw written (past_is n (eigenvalue a n) out) in
-      record { answer = rw i.0 (sym r); values = rw r (rw p at e); cleared = cleared; sweeps-are = kept_by i.0 swept i.1 }
+      record { answer = sym r; values = rw r (rw p at e); cleared = cleared; sweeps-are = refl }
 
 -- ---- the entry point
 
 -- refused: nothing lent changes
-pub eigenvalues-refused : (a : List Float) (n : ℕ) (out scratch : List Float) (r : Answer) (q : Factored) → (q.answer ≡ r) × (q.sweeps ≡ no_sweeps)
-    → paper r ≡ square_refusal a n (length out) (length scratch) → ((paper r).0 ≡ 0 → ⊥) → Eigenvalues a n out scratch q out scratch
-eigenvalues-refused a n out scratch r q i e h =
+pub eigenvalues-refused : (a : List Float) (n : ℕ) (out scratch : List Float) (e : Refusal) → table_of e ≡ square_refusal a n (length out) (length scratch)
+    → Eigenvalues a n out scratch (Err e) out scratch
+eigenvalues-refused a n out scratch r e =
     let x = square_refusal a n (length out) (length scratch) in
+    let h = stopped-number r in
     let m : x.0 ≡ 0 → ⊥ = λ z. h (ap (λ (y : Reply). y.0) e ∙ z) in
     let s = sym (stays x (eigen_reply a n) m) in
     let l = square-small a n (length out) (length scratch) in
     record {
-      answer = rw i.0 (e ∙ sym s);
+      answer = e ∙ sym s;
       values = rw s (end-old _ _ _ _ m l);
       cleared = rw s (worked-old _ _ _ m l);
-      sweeps-are = rw i.0 (kept-none r (eigenvalues_sweeps a n) h i.1);
+      sweeps-are = done-old _ _ no_sweeps h;
     }
 
-pub eigenvalues-worked : (a : List Float) (n : ℕ) (out scratch : List Float) (r : Factored) (out' scratch' : List Float)
+pub eigenvalues-worked : (a : List Float) (n : ℕ) (out scratch : List Float) (r : Result Sweeps Refusal) (out' scratch' : List Float)
     → eigen_answer a n out scratch ≡ eigen_reply a n → SpectrumWorked a n out scratch r out' scratch' → Eigenvalues a n out scratch r out' scratch'
 eigenvalues-worked a n out scratch r out' scratch' e w =
     record {

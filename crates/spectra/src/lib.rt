@@ -13,29 +13,27 @@ ghost use Rattle.spectra.specs.Eigenvalues.{eigenvalue, eigenvalues_sweeps, squa
 ghost use Rattle.spectra.specs.Outcomes.{Given, SpectrumWorked, Eigenvalues};
 ghost use Rattle.spectra.specs.Density.{DensityWorked, DensityValues};
 
-use answers::Answer;
-use factored::{Counted, Factored};
+use answers::Refusal;
+use factored::Counted;
 use sweeps::Sweeps;
 
 // Answers 1, 6 and 7 of a spectrum of a square matrix.
-fn square_refusal(a: &[f64], dim: usize, out: usize, scratch: usize) -> Answer
+#[tactic(auto, unfolding(crate::specs::Eigenvalues::square_refusal))]
+fn square_refusal(a: &[f64], dim: usize, out: usize, scratch: usize) -> Result<(), Refusal>
     ensures { paper result ≡ square_refusal a.now dim out scratch }
 {
-    if dim < 1 {
-        return Answer::Size;
-    }
-    if dim > 64 {
-        return Answer::Size;
+    if dim < 1 || dim > 64 {
+        return Err(Refusal::Size);
     }
     let need = 2 * (dim * dim);
     if a.len() != need {
-        return Answer::Length(0);
+        return Err(Refusal::Length(0));
     }
     if out < dim {
-        return Answer::Length(1);
+        return Err(Refusal::Length(1));
     }
     if scratch < need {
-        return Answer::Length(2);
+        return Err(Refusal::Length(2));
     }
     components::check_components(a)
 }
@@ -75,17 +73,17 @@ fn spectrum(a: &[f64], n: usize, out: &mut [f64], work: &mut [f64]) -> Sweeps
 }
 
 // The eigenvalues of a matrix that is not refused: 0 or 9.
-fn work_out(a: &[f64], n: usize, out: &mut [f64], scratch: &mut [f64]) -> Factored
+fn work_out(a: &[f64], n: usize, out: &mut [f64], scratch: &mut [f64]) -> Result<Sweeps, Refusal>
     requires { Given n (length a.now) (length out.old) (length scratch.old) }
     ensures { SpectrumWorked a.now n out.old scratch.old result out.new scratch.new }
 {
     let need = 2 * (n * n);
     let sweeps = spectrum(a, n, out, &mut scratch[..need]);
     if values::all_finite(&out[..n]) {
-        return factored::answered(Answer::Done, sweeps);
+        return Ok(sweeps);
     }
     complex::zero_first(out, n);
-    factored::refused(Answer::NotFinite)
+    Err(Refusal::NotFinite)
 }
 
 // The eigenvalues of a Hermitian matrix of side dim, in the order of the diagonal, and how the sweeps went.
@@ -94,26 +92,28 @@ pub fn hermitian_eigenvalues(
     dim: usize,
     out: &mut [f64],
     scratch: &mut [f64],
-) -> Factored
+) -> Result<Sweeps, Refusal>
     ensures { Eigenvalues a.now dim out.old scratch.old result out.new scratch.new }
 {
-    let answer = square_refusal(a, dim, out.len(), scratch.len());
-    let Answer::Done = answer else {
-        return factored::refused(answer);
-    };
+    square_refusal(a, dim, out.len(), scratch.len())?;
     work_out(a, dim, out, scratch)
 }
 
 // The Schmidt values of a density that is not refused, over work of exactly the needed length: 0, 8 or 9.
-fn density_work(rho: &[f64], n: usize, out: &mut [f64], work: &mut [f64]) -> Counted
+fn density_work(
+    rho: &[f64],
+    n: usize,
+    out: &mut [f64],
+    work: &mut [f64],
+) -> Result<Counted, Refusal>
     requires { Given n (length rho.now) (length out.old) (length work.old) × (length work.old ≡ 2 * (n * n)) }
     ensures { DensityWorked rho.now n out.old work.old result out.new work.new }
 {
     let sweeps = spectrum(rho, n, out, work);
     let kept = weights::finish_weights(n, out, work);
     complex::zero_first(work, 2 * (n * n));
-    let answer = kept.answer;
-    factored::answered_count(answer, kept.count, sweeps)
+    let count = kept?;
+    Ok(Counted { count, sweeps })
 }
 
 // The Schmidt values from a reduced density matrix of side dim: the roots of its eigenvalues above the floor, finished;
@@ -123,13 +123,10 @@ pub fn schmidt_values_from_density(
     dim: usize,
     out: &mut [f64],
     scratch: &mut [f64],
-) -> Counted
+) -> Result<Counted, Refusal>
     ensures { DensityValues rho.now dim out.old scratch.old result out.new scratch.new }
 {
-    let answer = square_refusal(rho, dim, out.len(), scratch.len());
-    let Answer::Done = answer else {
-        return factored::refused_count(answer);
-    };
+    square_refusal(rho, dim, out.len(), scratch.len())?;
     let need = 2 * (dim * dim);
     density_work(rho, dim, out, &mut scratch[..need])
 }

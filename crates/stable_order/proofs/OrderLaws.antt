@@ -8,8 +8,8 @@ use native.Mathlib.Omega.{arith}
 use lib.ListN.{length, get_or, take, drop, drop_of_length-le}
 use lib.Seq.{drop-cons, take-suc, take_at}
 use lib.Ieee.{Float, nan, lt}
-use Rattle.stable_order.specs.Places.{place, places_of, Below}
-use Rattle.stable_order.proofs.PlacesLaws.{below_more, length-places_of, places_of-append, places_of-take, places_of-drop}
+use Rattle.stable_order.specs.Places.{place, places_of, places_in, Below, Places}
+use Rattle.stable_order.proofs.PlacesLaws.{below_more, places-back, length-places_of, places_of-append, places_of-take, places_of-drop}
 use Rattle.stable_order.specs.Push.{push_at}
 use Rattle.stable_order.proofs.PushLaws.{push_at-snoc}
 use Rattle.stable_order.specs.Order.{inserted, order_to, seat_of}
@@ -106,3 +106,11 @@ order-more values order ys k p h e i s t =
     let v : take p (places_of os) ++ place k ∷ drop p (places_of os) ≡ places_of (take p os ++ k ∷ drop p os) =
     rw (places_of-take p os, places_of-drop p os, places_of-cons (take p os) k (drop p os)) in
     take_at ys (drop (k + 1) order) (k + 1) e ∙ u ∙ v ∙ rw s (ap places_of (sym (inserted-seat values k os) ∙ sym (order-next values k)))
+
+-- ---- the first k cells of a list hold the order of the first k values
+module _ (values order : List Float) (k : ℕ) (h : take k order ≡ places_of (order_to values k)) where
+  pub are-places : k ≤ length values → Places (length values) (take k order)
+  are-places l = record { places = order_to values k; are = h; low = below_more k (length values) (order_to values k) l (order_below values k) }
+
+  pub seat-stored : k ≤ 4096 → seat_of values k (places_in (take k order)) ≡ seat_of values k (order_to values k)
+  seat-stored l = ap (λ (f : List Float). seat_of values k (places_in f)) h ∙ ap (seat_of values k) (places-back k (order_to values k) l (order_below values k))

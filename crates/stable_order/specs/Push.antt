@@ -1,5 +1,5 @@
 -- A value put into a list at a place: those from there on move up by one, and the last one falls off. Assumes nothing.
-use Rattle.std.specs.Prelude.{List, [], ◌∷◌, ◌++◌, ℕ, ◌+◌, take, drop}
+use Rattle.std.specs.Prelude.{List, [], ◌∷◌, ◌++◌, ℕ, take, drop}
 
 unfoldable pub push : {A : Type 0} → A → List A → List A
 push x [] = []

@@ -34,15 +34,13 @@ fn seat(values: &[f64], l: &[f64], x: usize) -> usize
     requires { (x < length values.now) × (length values.now ≤ 4096) × Places (length values.now) l.now }
     ensures { result ≡ seat_of values.now x (places_in l.now) }
 {
-    let mut j = 0;
-    while j < l.len() {
+    for j in 0..l.len() {
         let y = read_place(l, j, values.len());
         if values[y] < values[x] {
             return j;
         }
-        j += 1;
     }
-    j
+    l.len()
 }
 
 // The stable downward order of the values is written to `order`, which is as long.

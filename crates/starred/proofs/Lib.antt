@@ -1,2 +1,3 @@
 -- The laws, and what the functions' proofs share.
 pub mod Theorems
+pub mod Guesses

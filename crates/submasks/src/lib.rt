@@ -10,5 +10,5 @@ pub use whole_numbers::bit;
 pub fn next_submask(x: usize, mask: usize) -> usize
     ensures { result ≡ next_submask x mask }
 {
-    std::num::wrapping_sub_usize(x, mask) & mask
+    x.wrapping_sub(mask) & mask
 }

@@ -10,9 +10,8 @@ use lib.Dec.{leb}
 use borrow.Author.Tests.{lt-ltb, le-ltb, leb-true, leb-false}
 use lib.ListN.{length, drop, drop_of_length-le}
 use lib.Ieee.{Float}
-use Rattle.answers.specs.declared.Answer.{Answer}
-use Rattle.answers.specs.Paper.{Reply, paper, done, and_then, if_done, at_end, exactly, room}
-use Rattle.answers.proofs.PaperLaws.{both, and_then-done, exactly-done, room-done, stays, then-small, exactly-small, room_small, Ended, nine-ended, worked-new, worked-old, end-old}
+use Rattle.answers.specs.Paper.{Answer, Reply, paper, table, given, done, and_then, if_done, at_end, exactly, room}
+use Rattle.answers.proofs.PaperLaws.{and_then-done, exactly-done, room-done, stays, then-small, exactly-small, room_small, Ended, nine-ended, worked-new, worked-old, end-old, done-old}
 use Rattle.matrix_sizes.specs.Sizes.{matrix_sizes}
 use Rattle.matrix_sizes.proofs.SizesLaws.{size-done, size_small}
 pub use Rattle.matrix_sizes.proofs.SizesLaws.{side-wide, side-tall, side-low, side-cells}
@@ -20,24 +19,17 @@ use Rattle.complex.specs.Cells.{cell_at, components}
 use Rattle.complex.proofs.CellLaws.{components-small}
 use Rattle.complex.specs.Zeros.{zeros, zeroed}
 use Rattle.svd_load.specs.Loading.{planes_of, unit_planes, conjugate_transposed}
-use Rattle.values.specs.Lists.{all_finite}
 use Rattle.sweeps.specs.declared.Sweeps.{Sweeps}
 use Rattle.sweeps.specs.Sweeping.{no_sweeps}
 use Rattle.svd_thin.specs.Thin.{swept, Thin, Lent}
-use Rattle.factored.specs.declared.Factored.{Factored}
+use Rattle.std.proofs.Common.{Result, Ok, Err}
+use Rattle.answers.specs.declared.Refusal.{Refusal}
 use Rattle.factored.specs.Factored.{kept_sweeps}
+use Rattle.answers.proofs.Stopped.{stopped-number, was-done}
 use Rattle.factored.proofs.Laws.{kept-none, kept_by}
 use Rattle.svd.specs.Svd.{side_of, rows_of, need_u, need_vt, svd_scratch, svd_lengths, svd_tests, work_of, directions, v_columns, u_of, s_of, vt_of, svd_sweeps, finite_factors, svd_end, svd_answer, Svd, SvdExact, SvdFactored, SvdFinished, SvdWorked}
 use Rattle.sweeps.proofs.Ceiling.{Ceiling}
 use Rattle.svd_sweeps.proofs.SweepingLaws.{settled-ceiling}
-
--- ---- the lengths
-
-pub made-lengths : (m n a u s vt scratch : ℕ) {k : ℕ} {r0 r1 r2 r3 r4 q1 q2 q3 q4 : Reply} → k ≡ side_of m n
-    → r0 ≡ exactly 0 a (2 * (m * n)) → r1 ≡ room 1 u (2 * (m * k)) → r2 ≡ room 2 s k → r3 ≡ room 3 vt (2 * (k * n)) → r4 ≡ room 4 scratch (6 * (m * n) + 2 * k)
-    → q1 ≡ and_then r3 r4 → q2 ≡ and_then r2 q1 → q3 ≡ and_then r1 q2 → q4 ≡ and_then r0 q3 → q4 ≡ svd_lengths m n a u s vt scratch
-unfolding svd_lengths
-made-lengths m n a u s vt scratch e r0 r1 r2 r3 r4 q1 q2 q3 q4 = rw (← e) (both q4 r0 (both q3 r1 (both q2 r2 (both q1 r3 r4))))
 
 -- ---- the tests of an accepted call
 
@@ -70,6 +62,54 @@ accepted a m n u s vt scratch e =
       s-fits = room-done 2 s (side_of m n) t2.0;
       vt-fits = room-done 3 vt (need_vt m n) t3.0;
       scratch-fits = room-done 4 scratch (svd_scratch m n) t3.1;
+    }
+
+-- the room of an accepted call, by the smaller size k
+pub record SvdRoomFor (m n k u s vt scratch : ℕ) : Type 0 where
+  pub cells : m * n ≤ 4096
+  pub in_u : m * k ≤ 4096
+  pub in_vt : k * n ≤ 4096
+  pub few : k ≤ 4096
+  pub u-fits : 2 * (m * k) ≤ u
+  pub s-fits : k ≤ s
+  pub vt-fits : 2 * (k * n) ≤ vt
+  pub scratch-fits : 6 * (m * n) + 2 * k ≤ scratch
+
+pub few-cells : (m n k : ℕ) → k ≡ side_of m n → m * n ≤ 4096 → (m * k ≤ 4096) × (k * n ≤ 4096) × (k ≤ 4096)
+few-cells m n k e h =
+    let c = side-cells m n k e in
+    (omega (arith, c.0), omega (arith, c.1), omega (arith, c.2))
+
+pub room-for : (a : List Float) (m n u s vt scratch : ℕ) {k : ℕ} {q : Answer} → paper q ≡ svd_tests a m n u s vt scratch → q ≡ Ok tt → k ≡ side_of m n
+    → SvdRoomFor m n k u s vt scratch
+room-for a m n u s vt scratch {k} {q} h d e =
+    let x = accepted a m n u s vt scratch (was-done q _ h d) in
+    let c = few-cells m n k e x.cells in
+    record {
+      cells = x.cells;
+      in_u = c.0;
+      in_vt = c.1;
+      few = c.2;
+      u-fits = rw e x.u-fits;
+      s-fits = rw e x.s-fits;
+      vt-fits = rw e x.vt-fits;
+      scratch-fits = rw e x.scratch-fits;
+    }
+
+-- over parts of exactly the needed lengths
+pub exact-for : (a : List Float) (m n u s vt scratch : ℕ) {k u' s' vt' scratch' : ℕ} {q : Answer} → paper q ≡ svd_tests a m n u s vt scratch → q ≡ Ok tt → k ≡ side_of m n
+    → u' ≡ 2 * (m * k) → s' ≡ k → vt' ≡ 2 * (k * n) → scratch' ≡ 6 * (m * n) + 2 * k → SvdExact m n (length a) u' s' vt' scratch'
+exact-for a m n u s vt scratch {k} {q = q} h d e lu ls lv lt =
+    let x = accepted a m n u s vt scratch (was-done q _ h d) in
+    record {
+      rows = x.rows;
+      columns = x.columns;
+      cells = x.cells;
+      a-is = x.a-is;
+      u-is = rw (← e) lu;
+      s-is = rw (← e) ls;
+      vt_is = rw (← e) lv;
+      scratch-is = rw (← e) lt;
     }
 
 -- ---- the factors
@@ -161,18 +201,6 @@ tall-made a m n h e t =
 
 -- ---- the end
 
-pub finite-first : (u s vt : List Float) → all_finite u ≡ false → false ≡ finite_factors u s vt
-unfolding finite_factors
-finite-first u s vt a = rw a
-
-pub finite-second : (u s vt : List Float) → all_finite u ≡ true → all_finite s ≡ false → false ≡ finite_factors u s vt
-unfolding finite_factors
-finite-second u s vt a b = rw (a, b)
-
-pub finite-third : (u s vt : List Float) {t : Bool} → all_finite u ≡ true → all_finite s ≡ true → t ≡ all_finite vt → t ≡ finite_factors u s vt
-unfolding finite_factors
-finite-third u s vt a b c = rw (a, b) c
-
 pub zeroed-all : (l : List Float) → zeroed (length l) l ≡ zeros (length l)
 unfolding zeroed
 zeroed-all l =
@@ -191,24 +219,30 @@ unfolding svd_end
 finished-bad u s vt r e h eu es ev =
     record { answer = e ∙ rw h; u-is = rw e (eu ∙ zeroed-all u); s-is = rw e (es ∙ zeroed-all s); vt_is = rw e (ev ∙ zeroed-all vt) }
 
-pub worked : (a : List Float) (m n la : ℕ) (u₀ s₀ vt₀ scratch₀ scratch : List Float) {u s vt u' s' vt' scratch' : List Float} {t : Sweeps} (q : Answer) (r : Factored)
+pub worked : (a : List Float) (m n la : ℕ) (u₀ s₀ vt₀ scratch₀ scratch : List Float) {u s vt u' s' vt' scratch' : List Float} {t : Sweeps} (q : Answer) (r : Result Sweeps Refusal)
     → SvdExact m n la (length u₀) (length s₀) (length vt₀) (length scratch₀)
     → length u ≡ length u₀ → length s ≡ length s₀ → length vt ≡ length vt₀
     → SvdFactored a m n t u s vt → (k : ℕ) → k ≡ length scratch₀ → length scratch ≡ length scratch₀ → scratch' ≡ zeroed k scratch → SvdFinished u s vt q u' s' vt'
-    → (r.answer ≡ q) × (r.sweeps ≡ kept_sweeps q t)
+    → (paper r ≡ paper q) × (given no_sweeps r ≡ kept_sweeps q t)
     → SvdWorked a m n r u' s' vt' scratch'
 unfolding zeroed
 worked a m n la u₀ s₀ vt₀ scratch₀ scratch {u} {s} {vt} {u'} {s'} {vt'} {scratch'} q r e lu ls lv f k ek lt z h i =
-    let g : SvdFinished u s vt r.answer u' s' vt' = rw i.0 h in
     let l : length scratch ≤ k = omega arith in
     record {
-      answer = g.answer ∙ rw (f.u-is, f.s-is, f.vt_is);
-      u-is = g.u-is ∙ ap₂ (λ (x : List Float) (y : ℕ). if_done (paper r.answer).0 x (zeros y)) f.u-is (lu ∙ e.u-is);
-      s-is = g.s-is ∙ ap₂ (λ (x : List Float) (y : ℕ). if_done (paper r.answer).0 x (zeros y)) f.s-is (ls ∙ e.s-is);
-      vt_is = g.vt_is ∙ ap₂ (λ (x : List Float) (y : ℕ). if_done (paper r.answer).0 x (zeros y)) f.vt_is (lv ∙ e.vt_is);
+      answer = i.0 ∙ h.answer ∙ rw (f.u-is, f.s-is, f.vt_is);
+      u-is = rw i.0 (h.u-is ∙ ap₂ (λ (x : List Float) (y : ℕ). if_done (paper q).0 x (zeros y)) f.u-is (lu ∙ e.u-is));
+      s-is = rw i.0 (h.s-is ∙ ap₂ (λ (x : List Float) (y : ℕ). if_done (paper q).0 x (zeros y)) f.s-is (ls ∙ e.s-is));
+      vt_is = rw i.0 (h.vt_is ∙ ap₂ (λ (x : List Float) (y : ℕ). if_done (paper q).0 x (zeros y)) f.vt_is (lv ∙ e.vt_is));
       scratch-is = z ∙ rw (drop_of_length-le scratch l, append-nil, ek, e.scratch-is);
-      sweeps-are = kept_by i.0 f.sweeps-are i.1;
+      sweeps-are = kept_by r q i.0 f.sweeps-are i.1;
     }
+
+-- the sweeps, handed on under the answer of the finite test
+pub handed-on : (q : Answer) (t : Sweeps) → q ≡ Ok tt → (paper (Ok t) ≡ paper q) × (t ≡ kept_sweeps q t)
+handed-on q t e = rw e (refl, refl)
+
+pub handed-none : (q : Answer) (t : Sweeps) (e : Refusal) → q ≡ Err e → (table e ≡ paper q) × (no_sweeps ≡ kept_sweeps q t)
+handed-none q t e h = rw h (refl, done-old (table e).0 t no_sweeps (stopped-number e))
 
 -- 0 or 9
 end-number : (u s vt : List Float) → Ended (svd_end u s vt).0
@@ -235,7 +269,7 @@ tests-small a m n u s vt scratch =
     (then-small (svd_lengths m n (length a) u s vt scratch) (components 0 a) (lengths-small m n (length a) u s vt scratch) (components-small 0 a))
 
 -- an accepted call, and a refused one
-pub svd-worked : (a : List Float) (m n : ℕ) (u s vt scratch : List Float) (r : Factored) {u' s' vt' scratch' : List Float} {k : ℕ}
+pub svd-worked : (a : List Float) (m n : ℕ) (u s vt scratch : List Float) (r : Result Sweeps Refusal) {u' s' vt' scratch' : List Float} {k : ℕ}
     → k ≡ side_of m n
     → and_then (svd_tests a m n (length u) (length s) (length vt) (length scratch)) (svd_end (u_of a m n) (s_of a m n) (vt_of a m n))
     ≡ svd_end (u_of a m n) (s_of a m n) (vt_of a m n)
@@ -243,31 +277,29 @@ pub svd-worked : (a : List Float) (m n : ℕ) (u s vt scratch : List Float) (r :
     → Svd a m n u s vt scratch r (u' ++ drop (2 * (m * k)) u) (s' ++ drop k s) (vt' ++ drop (2 * (k * n)) vt) (scratch' ++ drop (6 * (m * n) + 2 * k) scratch)
 unfolding svd_answer zeroed
 svd-worked a m n u s vt scratch r i e w =
-    let p : Ended (paper r.answer).0 = rw w.answer (end-number (u_of a m n) (s_of a m n) (vt_of a m n)) in
+    let p : Ended (paper r).0 = rw w.answer (end-number (u_of a m n) (s_of a m n) (vt_of a m n)) in
     record {
       answer = w.answer ∙ sym e;
-      u-is = rw (i, w.u-is) (join-end (paper r.answer).0 (u_of a m n) (zeros (need_u m n)) (drop (need_u m n) u) u p);
-      s-is = rw (i, w.s-is) (join-end (paper r.answer).0 (s_of a m n) (zeros (side_of m n)) (drop (side_of m n) s) s p);
-      vt_is = rw (i, w.vt_is) (join-end (paper r.answer).0 (vt_of a m n) (zeros (need_vt m n)) (drop (need_vt m n) vt) vt p);
-      scratch-is = rw (i, w.scratch-is) (worked-new (paper r.answer).0 (zeros (svd_scratch m n) ++ drop (svd_scratch m n) scratch) scratch p);
+      u-is = rw (i, w.u-is) (join-end (paper r).0 (u_of a m n) (zeros (need_u m n)) (drop (need_u m n) u) u p);
+      s-is = rw (i, w.s-is) (join-end (paper r).0 (s_of a m n) (zeros (side_of m n)) (drop (side_of m n) s) s p);
+      vt_is = rw (i, w.vt_is) (join-end (paper r).0 (vt_of a m n) (zeros (need_vt m n)) (drop (need_vt m n) vt) vt p);
+      scratch-is = rw (i, w.scratch-is) (worked-new (paper r).0 (zeros (svd_scratch m n) ++ drop (svd_scratch m n) scratch) scratch p);
       sweeps-are = w.sweeps-are;
     }
 
-pub svd-refused : (a : List Float) (m n : ℕ) (u s vt scratch : List Float) (q : Answer) (r : Factored) → (r.answer ≡ q) × (r.sweeps ≡ no_sweeps)
-    → paper q ≡ svd_tests a m n (length u) (length s) (length vt) (length scratch) → ((paper q).0 ≡ 0 → ⊥)
-    → Svd a m n u s vt scratch r u s vt scratch
+pub svd-refused : (a : List Float) (m n : ℕ) (u s vt scratch : List Float) (e : Refusal)
+    → table e ≡ svd_tests a m n (length u) (length s) (length vt) (length scratch) → Svd a m n u s vt scratch (Err e) u s vt scratch
 unfolding svd_answer
-svd-refused a m n u s vt scratch q r i e' h' =
-    let e : paper r.answer ≡ svd_tests a m n (length u) (length s) (length vt) (length scratch) = rw i.0 e' in
-    let h : (paper r.answer).0 ≡ 0 → ⊥ = rw i.0 h' in
-    let b : (paper r.answer).0 < 8 = rw e (tests-small a m n (length u) (length s) (length vt) (length scratch)) in
+svd-refused a m n u s vt scratch e i =
+    let h : (table e).0 ≡ 0 → ⊥ = stopped-number e in
+    let b : (table e).0 < 8 = rw i (tests-small a m n (length u) (length s) (length vt) (length scratch)) in
     record {
-      answer = stays (paper r.answer) (svd_end (u_of a m n) (s_of a m n) (vt_of a m n)) h ∙ ap (λ (x : Reply). and_then x (svd_end (u_of a m n) (s_of a m n) (vt_of a m n))) e;
-      u-is = end-old (paper r.answer).0 _ _ u h b;
-      s-is = end-old (paper r.answer).0 _ _ s h b;
-      vt_is = end-old (paper r.answer).0 _ _ vt h b;
-      scratch-is = worked-old (paper r.answer).0 _ scratch h b;
-      sweeps-are = kept-none r.answer (svd_sweeps a m n) h i.1;
+      answer = stays (table e) (svd_end (u_of a m n) (s_of a m n) (vt_of a m n)) h ∙ ap (λ (x : Reply). and_then x (svd_end (u_of a m n) (s_of a m n) (vt_of a m n))) i;
+      u-is = end-old (table e).0 _ _ u h b;
+      s-is = end-old (table e).0 _ _ s h b;
+      vt_is = end-old (table e).0 _ _ vt h b;
+      scratch-is = worked-old (table e).0 _ scratch h b;
+      sweeps-are = kept-none {A = Sweeps} (Err e) (svd_sweeps a m n) h refl;
     }
 
 -- ---- the turned pairs

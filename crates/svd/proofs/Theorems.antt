@@ -3,8 +3,11 @@ use mathlib.Core.Path.{◌≡◌, sym, ◌∙◌}
 use mathlib.Core.List.{List}
 use Prim.Native.Nat.{ℕ}
 use lib.Ieee.{Float}
-use Rattle.factored.specs.declared.Factored.{Factored}
-use Rattle.answers.proofs.Theorems.{paper-one}
+use Rattle.std.proofs.Common.{Result}
+use Rattle.answers.specs.declared.Refusal.{Refusal}
+use Rattle.answers.specs.Paper.{paper, given}
+use Rattle.sweeps.specs.declared.Sweeps.{Sweeps}
+use Rattle.sweeps.specs.Sweeping.{no_sweeps}
 use Rattle.factored.proofs.Laws.{factored-one}
 use Rattle.svd.specs.Svd.{side_of, Svd}
 use Rattle.factored.proofs.Laws.{kept-ceiling}
@@ -12,11 +15,11 @@ use Rattle.sweeps.proofs.Ceiling.{Ceiling}
 use Rattle.svd.proofs.SvdLaws.{svd-ceiling}
 
 -- Only one outcome meets the contract of `svd_jacobi`: its answer, its sweeps, and every cell of u, s, vt and scratch.
-pub svd-jacobi-one : (a : List Float) (m n : ℕ) (u s vt scratch : List Float) (r q : Factored) (u' s' vt' scratch' u'' s'' vt'' scratch'' : List Float)
+pub svd-jacobi-one : (a : List Float) (m n : ℕ) (u s vt scratch : List Float) (r q : Result Sweeps Refusal) (u' s' vt' scratch' u'' s'' vt'' scratch'' : List Float)
     → Svd a m n u s vt scratch r u' s' vt' scratch' → Svd a m n u s vt scratch q u'' s'' vt'' scratch''
     → (r ≡ q) × (u' ≡ u'') × (s' ≡ s'') × (vt' ≡ vt'') × (scratch' ≡ scratch'')
 svd-jacobi-one a m n u s vt scratch r q u' s' vt' scratch' u'' s'' vt'' scratch'' x y =
-    let e : r.answer ≡ q.answer = paper-one r.answer q.answer (x.answer ∙ sym y.answer) in (
+    let e : paper r ≡ paper q = x.answer ∙ sym y.answer in (
       factored-one r q e (x.sweeps-are ∙ rw e (sym y.sweeps-are)),
       x.u-is ∙ rw e (sym y.u-is),
       x.s-is ∙ rw e (sym y.s-is),
@@ -26,6 +29,6 @@ svd-jacobi-one a m n u s vt scratch r q u' s' vt' scratch' u'' s'' vt'' scratch'
 
 -- Whatever `svd_jacobi` is given, with k the smaller side: at most 100·k(k-1)/2 turned pairs, and at most (sweeps - 1)·k(k-1)/2 where
 -- the last sweep was quiet.
-pub svd-jacobi-ceiling : (a : List Float) (m n : ℕ) (u s vt scratch : List Float) (r : Factored) (u' s' vt' scratch' : List Float)
-    → Svd a m n u s vt scratch r u' s' vt' scratch' → Ceiling 100 (side_of m n) r.sweeps
-svd-jacobi-ceiling a m n u s vt scratch r u' s' vt' scratch' x = kept-ceiling 100 (side_of m n) r.answer x.sweeps-are (svd-ceiling a m n)
+pub svd-jacobi-ceiling : (a : List Float) (m n : ℕ) (u s vt scratch : List Float) (r : Result Sweeps Refusal) (u' s' vt' scratch' : List Float)
+    → Svd a m n u s vt scratch r u' s' vt' scratch' → Ceiling 100 (side_of m n) (given no_sweeps r)
+svd-jacobi-ceiling a m n u s vt scratch r u' s' vt' scratch' x = kept-ceiling 100 (side_of m n) r x.sweeps-are (svd-ceiling a m n)

@@ -1,7 +1,6 @@
 -- The SVD of an m by n matrix: its refusals, its three factors, and what each lent list holds at the end. Assumes nothing.
-use Rattle.std.specs.Prelude.{◌≡◌, Bool, not, cond, ◌&&◌, List, ◌++◌, ℕ, ◌+◌, ◌*◌, ◌≤◌, ltb, length, drop, Float}
-use Rattle.answers.specs.declared.Answer.{Answer}
-use Rattle.answers.specs.Paper.{Reply, paper, done, refuse, and_then, if_done, if_worked, at_end, exactly, room}
+use Rattle.std.specs.Prelude.{◌≡◌, Result, Bool, not, cond, ◌&&◌, List, ◌++◌, ℕ, ◌+◌, ◌*◌, ◌≤◌, ltb, length, drop, Float}
+use Rattle.answers.specs.Paper.{Answer, Reply, paper, given, done, refuse, and_then, if_done, if_worked, at_end, exactly, room}
 use Rattle.matrix_sizes.specs.Sizes.{matrix_sizes}
 unfoldable pub use Rattle.matrix_sizes.specs.Sizes.{side_of, rows_of}
 use Rattle.complex.specs.Cells.{cell_at, components}
@@ -11,7 +10,8 @@ use Rattle.svd_columns.specs.Columns.{directions_of, v_columns_of}
 use Rattle.values.specs.Lists.{all_finite}
 use Rattle.sweeps.specs.declared.Sweeps.{Sweeps}
 use Rattle.svd_thin.specs.Thin.{swept, order_of, values_of}
-use Rattle.factored.specs.declared.Factored.{Factored}
+use Rattle.answers.specs.declared.Refusal.{Refusal}
+use Rattle.sweeps.specs.Sweeping.{no_sweeps}
 use Rattle.factored.specs.Factored.{kept_sweeps}
 
 -- ---- the sizes: the smaller and the larger one are the columns and the rows of the work matrix
@@ -80,13 +80,13 @@ unfoldable pub svd_answer : List Float → ℕ → ℕ → ℕ → ℕ → ℕ �
 svd_answer a m n u s vt scratch = and_then (svd_tests a m n u s vt scratch) (svd_end (u_of a m n) (s_of a m n) (vt_of a m n))
 
 -- the answer, the sweeps, and what u, s, vt and scratch hold at the end
-pub record Svd (a : List Float) (m n : ℕ) (u s vt scratch : List Float) (r : Factored) (u' s' vt' scratch' : List Float) : Type 0 where
-  pub answer : paper r.answer ≡ svd_answer a m n (length u) (length s) (length vt) (length scratch)
-  pub u-is : u' ≡ at_end (paper r.answer).0 (u_of a m n ++ drop (need_u m n) u) (zeroed (need_u m n) u) u
-  pub s-is : s' ≡ at_end (paper r.answer).0 (s_of a m n ++ drop (side_of m n) s) (zeroed (side_of m n) s) s
-  pub vt_is : vt' ≡ at_end (paper r.answer).0 (vt_of a m n ++ drop (need_vt m n) vt) (zeroed (need_vt m n) vt) vt
-  pub scratch-is : scratch' ≡ if_worked (paper r.answer).0 (zeroed (svd_scratch m n) scratch) scratch
-  pub sweeps-are : r.sweeps ≡ kept_sweeps r.answer (svd_sweeps a m n)
+pub record Svd (a : List Float) (m n : ℕ) (u s vt scratch : List Float) (r : Result Sweeps Refusal) (u' s' vt' scratch' : List Float) : Type 0 where
+  pub answer : paper r ≡ svd_answer a m n (length u) (length s) (length vt) (length scratch)
+  pub u-is : u' ≡ at_end (paper r).0 (u_of a m n ++ drop (need_u m n) u) (zeroed (need_u m n) u) u
+  pub s-is : s' ≡ at_end (paper r).0 (s_of a m n ++ drop (side_of m n) s) (zeroed (side_of m n) s) s
+  pub vt_is : vt' ≡ at_end (paper r).0 (vt_of a m n ++ drop (need_vt m n) vt) (zeroed (need_vt m n) vt) vt
+  pub scratch-is : scratch' ≡ if_worked (paper r).0 (zeroed (svd_scratch m n) scratch) scratch
+  pub sweeps-are : given no_sweeps r ≡ kept_sweeps r (svd_sweeps a m n)
 
 -- ---- the steps
 
@@ -113,10 +113,10 @@ pub record SvdFinished (u s vt : List Float) (r : Answer) (u' s' vt' : List Floa
   pub s-is : s' ≡ if_done (paper r).0 s (zeros (length s))
   pub vt_is : vt' ≡ if_done (paper r).0 vt (zeros (length vt))
 
-pub record SvdWorked (a : List Float) (m n : ℕ) (r : Factored) (u s vt scratch : List Float) : Type 0 where
-  pub answer : paper r.answer ≡ svd_end (u_of a m n) (s_of a m n) (vt_of a m n)
-  pub u-is : u ≡ if_done (paper r.answer).0 (u_of a m n) (zeros (need_u m n))
-  pub s-is : s ≡ if_done (paper r.answer).0 (s_of a m n) (zeros (side_of m n))
-  pub vt_is : vt ≡ if_done (paper r.answer).0 (vt_of a m n) (zeros (need_vt m n))
+pub record SvdWorked (a : List Float) (m n : ℕ) (r : Result Sweeps Refusal) (u s vt scratch : List Float) : Type 0 where
+  pub answer : paper r ≡ svd_end (u_of a m n) (s_of a m n) (vt_of a m n)
+  pub u-is : u ≡ if_done (paper r).0 (u_of a m n) (zeros (need_u m n))
+  pub s-is : s ≡ if_done (paper r).0 (s_of a m n) (zeros (side_of m n))
+  pub vt_is : vt ≡ if_done (paper r).0 (vt_of a m n) (zeros (need_vt m n))
   pub scratch-is : scratch ≡ zeros (svd_scratch m n)
-  pub sweeps-are : r.sweeps ≡ kept_sweeps r.answer (svd_sweeps a m n)
+  pub sweeps-are : given no_sweeps r ≡ kept_sweeps r (svd_sweeps a m n)

@@ -6,12 +6,12 @@ ghost use Rattle.std.specs.Prelude.{◌≡◌, ◌*◌, ◌≤◌, length};
 ghost use Rattle.answers.specs.Paper.{paper};
 ghost use Rattle.svd.specs.Svd.{svd_lengths, svd_tests, finite_factors, SvdExact, SvdFactored, SvdFinished, SvdWorked, Svd};
 
-use answers::Answer;
-use factored::Factored;
+use answers::Refusal;
 pub use matrix_sizes::smaller_size;
 use sweeps::Sweeps;
 
 // The first slice of a wrong length, or too short: 6.
+#[tactic(auto, unfolding(crate::specs::Svd::svd_lengths))]
 fn check_lengths(
     m: usize,
     n: usize,
@@ -20,37 +20,33 @@ fn check_lengths(
     s: usize,
     vt: usize,
     scratch: usize,
-) -> Answer
+) -> Result<(), Refusal>
     requires { m * n ≤ 4096 }
     ensures { paper result ≡ svd_lengths m n a u s vt scratch }
 {
     let k = smaller_size(m, n);
-    let in_a = answers::exact_length(0, a, 2 * (m * n));
-    let in_u = answers::enough_room(1, u, 2 * (m * k));
-    let in_s = answers::enough_room(2, s, k);
-    let in_vt = answers::enough_room(3, vt, 2 * (k * n));
-    let in_scratch = answers::enough_room(4, scratch, 6 * (m * n) + 2 * k);
-    answers::and_then(
-        in_a,
-        answers::and_then(
-            in_u,
-            answers::and_then(in_s, answers::and_then(in_vt, in_scratch)),
-        ),
-    )
+    answers::exact_length(0, a, 2 * (m * n))?;
+    answers::enough_room(1, u, 2 * (m * k))?;
+    answers::enough_room(2, s, k)?;
+    answers::enough_room(3, vt, 2 * (k * n))?;
+    answers::enough_room(4, scratch, 6 * (m * n) + 2 * k)
 }
 
 // Every refusal that comes before the work.
-fn check(a: &[f64], m: usize, n: usize, u: usize, s: usize, vt: usize, scratch: usize) -> Answer
+#[tactic(auto, unfolding(crate::specs::Svd::svd_tests))]
+fn check(
+    a: &[f64],
+    m: usize,
+    n: usize,
+    u: usize,
+    s: usize,
+    vt: usize,
+    scratch: usize,
+) -> Result<(), Refusal>
     ensures { paper result ≡ svd_tests a.now m n u s vt scratch }
 {
-    let first = matrix_sizes::check_sizes(m, n);
-    let Answer::Done = first else {
-        return first;
-    };
-    let second = check_lengths(m, n, a.len(), u, s, vt, scratch);
-    let Answer::Done = second else {
-        return second;
-    };
+    matrix_sizes::check_sizes(m, n)?;
+    check_lengths(m, n, a.len(), u, s, vt, scratch)?;
     components::check_components(a)
 }
 
@@ -80,29 +76,24 @@ fn factor(
 }
 
 // Whether every number of the three is finite.
+#[tactic(auto, unfolding(crate::specs::Svd::finite_factors))]
 fn finite_factors(u: &[f64], s: &[f64], vt: &[f64]) -> bool
     ensures { result ≡ finite_factors u.now s.now vt.now }
 {
-    if !values::all_finite(u) {
-        return false;
-    }
-    if !values::all_finite(s) {
-        return false;
-    }
-    values::all_finite(vt)
+    values::all_finite(u) && values::all_finite(s) && values::all_finite(vt)
 }
 
 // Inner. 9 where a number of a factor is not finite, and then all three are +0.0.
-pub fn finish(u: &mut [f64], s: &mut [f64], vt: &mut [f64]) -> Answer
+pub fn finish(u: &mut [f64], s: &mut [f64], vt: &mut [f64]) -> Result<(), Refusal>
     ensures { SvdFinished u.old s.old vt.old result u.new s.new vt.new }
 {
     if finite_factors(u, s, vt) {
-        return Answer::Done;
+        return Ok(());
     }
     complex::zero_first(u, u.len());
     complex::zero_first(s, s.len());
     complex::zero_first(vt, vt.len());
-    Answer::NotFinite
+    Err(Refusal::NotFinite)
 }
 
 // The work of an accepted call, over slices of exactly the needed lengths.
@@ -114,14 +105,14 @@ fn work(
     s: &mut [f64],
     vt: &mut [f64],
     scratch: &mut [f64],
-) -> Factored
+) -> Result<Sweeps, Refusal>
     requires { SvdExact m n (length a.now) (length u.old) (length s.old) (length vt.old) (length scratch.old) }
     ensures { SvdWorked a.now m n result u.new s.new vt.new scratch.new }
 {
     let sweeps = factor(a, m, n, u, s, vt, scratch);
     complex::zero_first(scratch, scratch.len());
-    let answer = finish(u, s, vt);
-    factored::answered(answer, sweeps)
+    finish(u, s, vt)?;
+    Ok(sweeps)
 }
 
 // U, the values and V† of the m by n matrix a, and how many sweeps were begun and whether the last one was quiet.
@@ -133,14 +124,11 @@ pub fn svd_jacobi(
     s: &mut [f64],
     vt: &mut [f64],
     scratch: &mut [f64],
-) -> Factored
+) -> Result<Sweeps, Refusal>
     ensures { Svd a.now m n u.old s.old vt.old scratch.old result
         u.new s.new vt.new scratch.new }
 {
-    let answer = check(a, m, n, u.len(), s.len(), vt.len(), scratch.len());
-    let Answer::Done = answer else {
-        return factored::refused(answer);
-    };
+    check(a, m, n, u.len(), s.len(), vt.len(), scratch.len())?;
     let k = smaller_size(m, n);
     let for_u = 2 * (m * k);
     let for_vt = 2 * (k * n);

@@ -44,12 +44,13 @@ pub fn norms_marked(work: &[f64], rows: usize, side: usize, s: &mut [f64]) -> bo
     for j in 0..side {
         let one = exact_roots::sqrt_marked(squares(work, c, j * rows, rows));
         s[j] = one.root;
-        exact = exact & one.exact;
+        exact &= one.exact;
     }
     exact
 }
 
 // The one place that names the least norm whose column is scaled.
+#[tactic(auto, unfolding(crate::specs::Columns::norm_clamp_min))]
 fn norm_clamp_min() -> f64
     ensures { result ≡ norm_clamp_min }
 {
@@ -57,6 +58,7 @@ fn norm_clamp_min() -> f64
 }
 
 // A cell of a column, times the reciprocal of the column's norm; zero where the norm is too small.
+#[tactic(auto, unfolding(crate::specs::Columns::unit_length))]
 fn unit_length(z: Complex, norm: f64) -> Complex
     ensures { result ≡ unit_length norm z }
 {
@@ -67,6 +69,7 @@ fn unit_length(z: Complex, norm: f64) -> Complex
 }
 
 // A cell of the factor on the work matrix's side: U, or the conjugate as a cell of V† in the wide case.
+#[tactic(auto, unfolding(crate::specs::Columns::direction_of))]
 fn direction(z: Complex, norm: f64, wide: bool) -> Complex
     ensures { result ≡ direction_of wide norm z }
 {
@@ -75,6 +78,7 @@ fn direction(z: Complex, norm: f64, wide: bool) -> Complex
 }
 
 // A cell of the factor on V's side: of V†, or conjugated once more as a cell of U in the wide case.
+#[tactic(auto, unfolding(crate::specs::Columns::v_cell))]
 fn turn(z: Complex, wide: bool) -> Complex
     ensures { result ≡ v_cell wide z }
 {

@@ -15,6 +15,7 @@ pub struct GramSums {
 }
 
 // No row yet: +0.0 everywhere.
+#[tactic(auto, unfolding(crate::specs::Gram::no_sums))]
 fn no_sums() -> GramSums
     ensures { result ≡ no_sums }
 {
@@ -26,6 +27,7 @@ fn no_sums() -> GramSums
 }
 
 // One row more, with the cells ap and aq.
+#[tactic(auto, unfolding(crate::specs::Gram::one_row))]
 fn one_row(g: GramSums, ap: Complex, aq: Complex) -> GramSums
     ensures { result ≡ one_row g ap aq }
 {
@@ -88,16 +90,6 @@ fn add_terms(g: GramSums, terms: &[f64], w: usize) -> GramSums
     sums
 }
 
-// Of the rows that are left, those of one block.
-fn block_width(left: usize) -> usize
-    ensures { (result ≤ 32) × (result ≤ left) × (0 < left → 0 < result) }
-{
-    if left < 32 {
-        return left;
-    }
-    32
-}
-
 // The Gram sums block by block.
 fn gram_blocks(xs: &[f64], c: usize, a: usize, b: usize, m: usize) -> GramSums
     requires { (length xs.now ≡ 2 * c) × (a + m ≤ c) × (b + m ≤ c) }
@@ -105,12 +97,11 @@ fn gram_blocks(xs: &[f64], c: usize, a: usize, b: usize, m: usize) -> GramSums
 {
     let mut terms = [0.0f64; 128];
     let mut g = no_sums();
-    let mut r = 0;
-    while r < m {
-        let w = block_width(m - r);
+    for k in 0..m.div_ceil(32) {
+        let r = 32 * k;
+        let w = (m - r).min(32);
         fill_terms(xs, c, a + r, b + r, w, &mut terms);
         g = add_terms(g, &terms, w);
-        r += w;
     }
     g
 }

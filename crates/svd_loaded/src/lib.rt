@@ -6,7 +6,7 @@ ghost use Rattle.std.specs.Prelude.{◌≡◌, List, ◌*◌, Float, length, tak
 ghost use Rattle.svd.specs.Svd.{work_of, SvdExact, SvdFactored};
 ghost use Rattle.svd_loaded.specs.Loaded.{SvdLoaded};
 
-use factored::Factored;
+use answers::Refusal;
 use sweeps::Sweeps;
 
 // The factors. Where the matrix is wider than tall the work is done on its conjugate transpose, and U and V† change places.
@@ -36,12 +36,12 @@ pub fn factor_loaded(
     s: &mut [f64],
     vt: &mut [f64],
     scratch: &mut [f64],
-) -> Factored
+) -> Result<Sweeps, Refusal>
     requires { SvdExact m n (2 * (m * n)) (length u.old) (length s.old) (length vt.old) (length scratch.old) }
     ensures { (a : List Float) → take (2 * (m * n)) scratch.old ≡ work_of a m n
         → SvdLoaded a m n result u.new s.new vt.new }
 {
     let sweeps = thin(m, n, u, s, vt, scratch);
-    let answer = svd::finish(u, s, vt);
-    factored::answered(answer, sweeps)
+    svd::finish(u, s, vt)?;
+    Ok(sweeps)
 }

@@ -5,3 +5,4 @@ pub mod Signs
 pub mod TurnsLaws
 pub mod ZeroProductsLaws
 pub mod Theorems
+pub mod Asked

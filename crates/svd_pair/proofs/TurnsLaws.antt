@@ -11,8 +11,9 @@ use Rattle.complex.specs.declared.Complex.{Complex}
 use Rattle.complex.specs.Arithmetic.{complex_of}
 use Rattle.complex.specs.Planes.{plane_at, set_plane}
 use Rattle.svd_pair.specs.declared.Factors.{Factors}
-use Rattle.svd_pair.specs.declared.Decision.{Decision}
-use Rattle.svd_pair.specs.declared.Decision.TheVariants.{Leave, Turn}
+use Rattle.std.proofs.Common.{None, Some}
+use Rattle.svd_pair.specs.declared.Turn.{Turn}
+use Rattle.svd_pair.specs.Decisions.{Decision}
 use Rattle.svd_pair.specs.Turns.{Making, turn_factors, turn_row, turn_rows, applied}
 
 pub turn_rows-none : (g : Making) (f : Factors) (c a b : ℕ) (xs : List Float) → turn_rows g f c a b 0 xs ≡ xs
@@ -86,11 +87,11 @@ turn_rows-two g f c a b k xs =
     let right : b + (k + 1) ≡ b + k + 1 = omega arith in
     rw (next, turn_rows-more g f c a b (k + 1) xs, turn_rows-more g f c a b k xs, left, right)
 
-pub applied-left : (g : Making) {d : Decision} (c a b m : ℕ) (xs : List Float) → d ≡ Leave → xs ≡ applied g d c a b m xs
+pub applied-left : (g : Making) {d : Decision} (c a b m : ℕ) (xs : List Float) → d ≡ None → xs ≡ applied g d c a b m xs
 unfolding applied
 applied-left g c a b m xs e = rw e refl
 
-pub applied-turn : (g : Making) {d : Decision} {cosine sine : Float} {phase : Complex} {ys : List Float} (c a b m : ℕ) (xs : List Float) → d ≡ Turn cosine sine phase → ys ≡ turn_rows g (turn_factors cosine sine phase) c a b m xs → ys ≡ applied g d c a b m xs
+pub applied-turn : (g : Making) {d : Decision} {t : Turn} {ys : List Float} (c a b m : ℕ) (xs : List Float) → d ≡ Some t → ys ≡ turn_rows g (turn_factors t.cosine t.sine t.phase) c a b m xs → ys ≡ applied g d c a b m xs
 unfolding applied
 applied-turn g c a b m xs e h = rw e h
 
@@ -106,5 +107,5 @@ turn_rows-nothing g f c a b (suc k) = rw (turn_rows-nothing g f c a b k) (turn_r
 
 pub applied-nothing : (g : Making) (d : Decision) (c a b m : ℕ) → [] ≡ applied g d c a b m []
 unfolding applied
-applied-nothing g Leave c a b m = refl
-applied-nothing g (Turn cosine sine phase) c a b m = sym (turn_rows-nothing g (turn_factors cosine sine phase) c a b m)
+applied-nothing g None c a b m = refl
+applied-nothing g (Some t) c a b m = sym (turn_rows-nothing g (turn_factors t.cosine t.sine t.phase) c a b m)

@@ -1,5 +1,5 @@
 -- The decision on a pair of columns from its Gram sums: leave it, or turn it with a cosine, a sine and a phase. Assumes nothing.
-use Rattle.std.specs.Prelude.{cond, List, [], ◌∷◌, ℕ, Float}
+use Rattle.std.specs.Prelude.{Option, None, Some, cond, List, [], ◌∷◌, ℕ, Float}
 use Rattle.std.specs.Float.Ieee as Ieee
 use Rattle.std.specs.Float.{binary64}
 use Rattle.std.specs.Float.Ieee.{of_bits}
@@ -10,8 +10,11 @@ use Rattle.complex.specs.Arithmetic.{quotient, norm_sqr}
 use Rattle.modulus.specs.Modulus.{modulus_of}
 use Rattle.complex.specs.Zeros.{zero_float}
 use Rattle.svd_gram.specs.declared.GramSums.{GramSums}
-use Rattle.svd_pair.specs.declared.Decision.{Decision}
-use Rattle.svd_pair.specs.declared.Decision.TheVariants.{Leave, Turn}
+use Rattle.svd_pair.specs.declared.Turn.{Turn}
+
+-- a turn, or none: the pair is left as it is
+abbrev pub Decision : Type 0
+Decision = Option Turn
 
 -- ---- the number and the values of each case
 
@@ -21,8 +24,8 @@ pub record Verdict : Type 0 where
 
 -- 0: leave the pair. 1: turn it, with the cosine, the sine and the two parts of the phase
 unfoldable pub verdict : Decision → Verdict
-verdict Leave = record { number = 0; values = [] }
-verdict (Turn c s phase) = record { number = 1; values = c ∷ s ∷ phase.re ∷ phase.im ∷ [] }
+verdict None = record { number = 0; values = [] }
+verdict (Some t) = record { number = 1; values = t.cosine ∷ t.sine ∷ t.phase.re ∷ t.phase.im ∷ [] }
 
 -- ---- the constants, by their bits
 
@@ -59,11 +62,11 @@ abbrev pub cosine_of : Float → Float
 cosine_of t = Ieee.div binary64 one_float (hypotenuse t)
 
 -- the turn by the tangent t, with the phase pq / beta
-unfoldable pub turn_at : Complex → Float → Float → Decision
-turn_at pq beta t = Turn (cosine_of t) (Ieee.mul binary64 t (cosine_of t)) (quotient pq beta)
+unfoldable pub turn_at : Complex → Float → Float → Turn
+turn_at pq beta t = record { cosine = cosine_of t; sine = Ieee.mul binary64 t (cosine_of t); phase = quotient pq beta }
 
-abbrev pub turn_of : GramSums → Float → Decision
+abbrev pub turn_of : GramSums → Float → Turn
 turn_of g beta = turn_at g.pq beta (tangent_of (tau_of g beta))
 
 unfoldable pub decision_of : GramSums → Decision
-decision_of g = cond (Ieee.le (norm_sqr g.pq) (skip_bound g)) Leave (turn_of g (modulus_of g.pq))
+decision_of g = cond (Ieee.le (norm_sqr g.pq) (skip_bound g)) None (Some (turn_of g (modulus_of g.pq)))

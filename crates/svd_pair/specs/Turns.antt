@@ -1,12 +1,11 @@
 -- Two columns of a matrix of c cells turned in place: the whole list after the rows below a count. Assumes nothing.
-use Rattle.std.specs.Prelude.{List, ℕ, zero, suc, ◌+◌, Float}
+use Rattle.std.specs.Prelude.{None, Some, List, ℕ, zero, suc, ◌+◌, Float}
 use Rattle.complex.specs.declared.Complex.{Complex}
 use Rattle.complex.specs.Arithmetic.{complex_of, product, sum_of, negation, conjugate}
 use Rattle.complex.specs.Planes.{plane_at, set_plane}
 use Rattle.complex.specs.Zeros.{zero_float}
 use Rattle.svd_pair.specs.declared.Factors.{Factors}
-use Rattle.svd_pair.specs.declared.Decision.{Decision}
-use Rattle.svd_pair.specs.declared.Decision.TheVariants.{Leave, Turn}
+use Rattle.svd_pair.specs.Decisions.{Decision}
 
 -- a real number as a complex one, with imaginary part +0.0
 abbrev pub real : Float → Complex
@@ -53,5 +52,5 @@ turn_rows g f c a b (suc k) xs = turn_row g f c (a + k) (b + k) (turn_rows g f c
 
 -- what a decision does to two columns of m rows
 unfoldable pub applied : Making → Decision → ℕ → ℕ → ℕ → ℕ → List Float → List Float
-applied g Leave c a b m xs = xs
-applied g (Turn cosine sine phase) c a b m xs = turn_rows g (turn_factors cosine sine phase) c a b m xs
+applied g None c a b m xs = xs
+applied g (Some t) c a b m xs = turn_rows g (turn_factors t.cosine t.sine t.phase) c a b m xs

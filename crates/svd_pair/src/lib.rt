@@ -6,9 +6,9 @@ ghost use Rattle.std.specs.Prelude.{◌≡◌, ◌+◌, ◌*◌, ◌<◌, ◌≤
 ghost use Rattle.complex.specs.Arithmetic.{scaled};
 ghost use Rattle.complex.specs.Planes.{set_plane};
 ghost use Rattle.complex.specs.Zeros.{zero_float};
-ghost use Rattle.svd_pair.specs.Decisions.{verdict, decision_of, tangent_of, turn_at};
-ghost use Rattle.svd_pair.specs.Turns.{turn_factors, new_p, new_q, exact, turn_row, turn_rows};
-ghost use Rattle.svd_pair.specs.Plain.{plain_p, plain_q, plain, making};
+ghost use Rattle.svd_pair.specs.Decisions.{decision_of, tangent_of, turn_at};
+ghost use Rattle.svd_pair.specs.Turns.{turn_factors, new_p, new_q, turn_row, turn_rows};
+ghost use Rattle.svd_pair.specs.Plain.{plain_p, plain_q, making};
 ghost use Rattle.svd_pair.specs.ZeroProducts.{RealTurn};
 
 use complex::Complex;
@@ -19,15 +19,12 @@ const JACOBI_REL_TOL: f64 = 1e-15;
 
 // ---- the decision
 
-// What is to be done with a pair of columns.
+// How a pair of columns is turned. A decision is a turn, or none: the pair is left as it is.
 #[derive(Clone, Copy)]
-pub enum Decision {
-    Leave,
-    Turn {
-        cosine: f64,
-        sine: f64,
-        phase: Complex,
-    },
+pub struct Turn {
+    pub cosine: f64,
+    pub sine: f64,
+    pub phase: Complex,
 }
 
 // The tangent of the angle: the one of smaller magnitude.
@@ -38,25 +35,20 @@ fn tangent(tau: f64, near: Guesses) -> f64
     let root = root_guesses::root_near(x, root_guesses::sharpened(x, near.root, near.root_over));
     // no processor foretells the sign of tau, so it picks two numbers and no way: the first `if` is
     // compiled to a maximum, the second to an index
-    let mut size = tau;
-    if tau < 0.0 {
-        size = -tau;
-    }
-    let mut one = 1.0;
-    if tau >= 0.0 {
-        one = -1.0;
-    }
+    let size = if tau < 0.0 { -tau } else { tau };
+    let one = if tau >= 0.0 { -1.0 } else { 1.0 };
     one / (size + root)
 }
 
 // The turn by the tangent t, for the mixed sum pq of modulus beta.
-pub fn turn_at(pq: Complex, beta: f64, t: f64, near: Guesses) -> Decision
+#[tactic(auto, unfolding(crate::specs::Decisions::turn_at))]
+pub fn turn_at(pq: Complex, beta: f64, t: f64, near: Guesses) -> Turn
     ensures { result ≡ turn_at pq beta t }
 {
     let x = 1.0 + t * t;
     let cosine = 1.0
         / root_guesses::root_near(x, root_guesses::sharpened(x, near.secant, near.cosine));
-    Decision::Turn {
+    Turn {
         cosine,
         sine: t * cosine,
         phase: pq.div_real(beta),
@@ -64,17 +56,18 @@ pub fn turn_at(pq: Complex, beta: f64, t: f64, near: Guesses) -> Decision
 }
 
 // The decision on a pair with these Gram sums.
-pub fn decide(g: GramSums) -> Decision
-    ensures { verdict result ≡ verdict (decision_of g) }
+#[tactic(auto, unfolding(crate::specs::Decisions::decision_of))]
+pub fn decide(g: GramSums) -> Option<Turn>
+    ensures { result ≡ decision_of g }
 {
     let off = g.pq.norm_sqr();
     if off <= JACOBI_REL_TOL * JACOBI_REL_TOL * g.pp * g.qq {
-        return Decision::Leave;
+        return None;
     }
     let near = root_guesses::guess_roots(g.qq - g.pp, off);
     let beta = modulus::modulus_near(g.pq, near.modulus);
     let tau = (g.qq - g.pp) / (2.0 * beta);
-    turn_at(g.pq, beta, tangent(tau, near), near)
+    Some(turn_at(g.pq, beta, tangent(tau, near), near))
 }
 
 // ---- the turn of two columns
@@ -90,6 +83,7 @@ pub struct Factors {
 
 impl Factors {
     // The cosine and the sine are complex numbers with imaginary part +0.0: signs of zeros hang on it.
+    #[tactic(auto, unfolding(crate::specs::Turns::turn_factors))]
     pub fn new(cosine: f64, sine: f64, phase: Complex) -> Factors
         ensures { result ≡ turn_factors cosine sine phase }
     {
@@ -132,6 +126,7 @@ impl Factors {
     }
 
     // Both without the products by zeros.
+    #[tactic(auto, unfolding(crate::specs::Plain::plain_p))]
     fn plain_p(self, ap: Complex, aq: Complex) -> Complex
         ensures { result ≡ plain_p self ap aq }
     {
@@ -139,35 +134,51 @@ impl Factors {
         turned.add(self.pq.mul(aq))
     }
 
+    #[tactic(auto, unfolding(crate::specs::Plain::plain_q))]
     fn plain_q(self, ap: Complex, aq: Complex) -> Complex
         ensures { result ≡ plain_q self ap aq }
     {
         let turned = ap.real_times(self.qp.re);
         turned.add(self.qq.mul(aq))
     }
+
+    // Plainly where PLAIN says so.
+    #[tactic(auto, using(crate::proofs::Asked::asked, crate::proofs::Asked::unasked), unfolding(crate::specs::Plain::making))]
+    fn made_p<const PLAIN: bool>(self, ap: Complex, z: Complex, aq: Complex) -> Complex
+        requires { RealTurn self × (z ≡ scaled ap zero_float) }
+        ensures { result ≡ (making PLAIN).p self ap aq }
+    {
+        if PLAIN {
+            self.plain_p(ap, aq)
+        } else {
+            self.new_p(ap, z, aq)
+        }
+    }
+
+    #[tactic(auto, using(crate::proofs::Asked::asked, crate::proofs::Asked::unasked), unfolding(crate::specs::Plain::making))]
+    fn made_q<const PLAIN: bool>(self, ap: Complex, z: Complex, aq: Complex) -> Complex
+        requires { RealTurn self × (z ≡ scaled ap zero_float) }
+        ensures { result ≡ (making PLAIN).q self ap aq }
+    {
+        if PLAIN {
+            self.plain_q(ap, aq)
+        } else {
+            self.new_q(ap, z, aq)
+        }
+    }
 }
 
 // The cells i and j of a matrix of c cells are turned, both from their old values.
-fn turn_row(xs: &mut [f64], c: usize, i: usize, j: usize, f: Factors)
+#[tactic(auto, unfolding(crate::specs::Turns::turn_row))]
+fn turn_row<const PLAIN: bool>(xs: &mut [f64], c: usize, i: usize, j: usize, f: Factors)
     requires { (length xs.old ≡ 2 * c) × (i < c) × (j < c) × RealTurn f }
-    ensures { xs.new ≡ turn_row exact f c i j xs.old }
+    ensures { xs.new ≡ turn_row (making PLAIN) f c i j xs.old }
 {
     let ap = complex::read_plane(xs, c, i);
     let aq = complex::read_plane(xs, c, j);
     let z = ap.scale(0.0);
-    complex::write_plane(xs, c, i, f.new_p(ap, z, aq));
-    complex::write_plane(xs, c, j, f.new_q(ap, z, aq));
-}
-
-// The same without the products by zeros.
-fn turn_row_plainly(xs: &mut [f64], c: usize, i: usize, j: usize, f: Factors)
-    requires { (length xs.old ≡ 2 * c) × (i < c) × (j < c) }
-    ensures { xs.new ≡ turn_row plain f c i j xs.old }
-{
-    let ap = complex::read_plane(xs, c, i);
-    let aq = complex::read_plane(xs, c, j);
-    complex::write_plane(xs, c, i, f.plain_p(ap, aq));
-    complex::write_plane(xs, c, j, f.plain_q(ap, aq));
+    complex::write_plane(xs, c, i, f.made_p::<PLAIN>(ap, z, aq));
+    complex::write_plane(xs, c, j, f.made_q::<PLAIN>(ap, z, aq));
 }
 
 // The cells i and i + 1 of a matrix of c cells become u and w. The parts of one kind stand side by side and are stored together.
@@ -185,9 +196,9 @@ fn write_two(xs: &mut [f64], c: usize, i: usize, u: Complex, w: Complex)
 }
 
 // Two rows of two columns, the cells i and j and those behind them: all are read before any is written, so that two rows are turned at a time.
-fn turn_two(xs: &mut [f64], c: usize, i: usize, j: usize, f: Factors)
+fn turn_two<const PLAIN: bool>(xs: &mut [f64], c: usize, i: usize, j: usize, f: Factors)
     requires { (length xs.old ≡ 2 * c) × (i + 1 < j) × (j + 1 < c) × RealTurn f }
-    ensures { xs.new ≡ turn_row exact f c (i + 1) (j + 1) (turn_row exact f c i j xs.old) }
+    ensures { xs.new ≡ turn_row (making PLAIN) f c (i + 1) (j + 1) (turn_row (making PLAIN) f c i j xs.old) }
 {
     let ap = complex::read_plane(xs, c, i);
     let aq = complex::read_plane(xs, c, j);
@@ -195,50 +206,32 @@ fn turn_two(xs: &mut [f64], c: usize, i: usize, j: usize, f: Factors)
     let bq = complex::read_plane(xs, c, j + 1);
     let az = ap.scale(0.0);
     let bz = bp.scale(0.0);
-    write_two(xs, c, i, f.new_p(ap, az, aq), f.new_p(bp, bz, bq));
-    write_two(xs, c, j, f.new_q(ap, az, aq), f.new_q(bp, bz, bq));
+    write_two(
+        xs,
+        c,
+        i,
+        f.made_p::<PLAIN>(ap, az, aq),
+        f.made_p::<PLAIN>(bp, bz, bq),
+    );
+    write_two(
+        xs,
+        c,
+        j,
+        f.made_q::<PLAIN>(ap, az, aq),
+        f.made_q::<PLAIN>(bp, bz, bq),
+    );
 }
 
-// The same without the products by zeros.
-fn turn_two_plainly(xs: &mut [f64], c: usize, i: usize, j: usize, f: Factors)
-    requires { (length xs.old ≡ 2 * c) × (i + 1 < j) × (j + 1 < c) }
-    ensures { xs.new ≡ turn_row plain f c (i + 1) (j + 1) (turn_row plain f c i j xs.old) }
-{
-    let ap = complex::read_plane(xs, c, i);
-    let aq = complex::read_plane(xs, c, j);
-    let bp = complex::read_plane(xs, c, i + 1);
-    let bq = complex::read_plane(xs, c, j + 1);
-    write_two(xs, c, i, f.plain_p(ap, aq), f.plain_p(bp, bq));
-    write_two(xs, c, j, f.plain_q(ap, aq), f.plain_q(bp, bq));
-}
-
-// The columns that start at the cells a and b, of m rows, are turned.
-fn turn_exactly(xs: &mut [f64], c: usize, a: usize, b: usize, m: usize, f: Factors)
+// The columns that start at the cells a and b, of m rows, are turned. Whether plainly is a constant, and so no test in the loop.
+fn turn_all<const PLAIN: bool>(xs: &mut [f64], c: usize, a: usize, b: usize, m: usize, f: Factors)
     requires { (length xs.old ≡ 2 * c) × (a + m ≤ b) × (b + m ≤ c) × RealTurn f }
-    ensures { xs.new ≡ turn_rows exact f c a b m xs.old }
+    ensures { xs.new ≡ turn_rows (making PLAIN) f c a b m xs.old }
 {
-    let mut r = 0;
-    while r + 1 < m {
-        turn_two(xs, c, a + r, b + r, f);
-        r += 2;
+    for k in 0..m / 2 {
+        turn_two::<PLAIN>(xs, c, a + 2 * k, b + 2 * k, f);
     }
-    if r < m {
-        turn_row(xs, c, a + r, b + r, f);
-    }
-}
-
-// The same without the products by zeros: a loop of its own, since the back end does not take a test out of one.
-fn turn_plainly(xs: &mut [f64], c: usize, a: usize, b: usize, m: usize, f: Factors)
-    requires { (length xs.old ≡ 2 * c) × (a + m ≤ b) × (b + m ≤ c) }
-    ensures { xs.new ≡ turn_rows plain f c a b m xs.old }
-{
-    let mut r = 0;
-    while r + 1 < m {
-        turn_two_plainly(xs, c, a + r, b + r, f);
-        r += 2;
-    }
-    if r < m {
-        turn_row_plainly(xs, c, a + r, b + r, f);
+    if m % 2 == 1 {
+        turn_row::<PLAIN>(xs, c, a + m - 1, b + m - 1, f);
     }
 }
 
@@ -260,8 +253,8 @@ pub fn turn_columns(
 {
     let f = Factors::new(cosine, sine, phase);
     if plainly {
-        turn_plainly(xs, c, a, b, m, f);
-        return;
+        turn_all::<true>(xs, c, a, b, m, f);
+    } else {
+        turn_all::<false>(xs, c, a, b, m, f);
     }
-    turn_exactly(xs, c, a, b, m, f);
 }

@@ -8,8 +8,8 @@ use native.Mathlib.Omega.{arith}
 use lib.Ieee.{Float}
 use lib.ListN.{length, get_or, set, replicate, get_or-replicate, length-set}
 use lib.Seq.{get_or-set_same, get_or-set_other}
-use Rattle.svd_pair.specs.declared.Decision.{Decision}
-use Rattle.svd_pair.specs.declared.Decision.TheVariants.{Leave, Turn}
+use Rattle.svd_pair.specs.Decisions.{Decision}
+use Rattle.std.proofs.Common.{None, Some}
 use Rattle.svd_pair.specs.Turns.{Making, applied}
 use Rattle.sweeps.specs.declared.Sweeps.{Sweeps}
 use Rattle.sweeps.specs.Sweeping.{State, state, counted, pair_by, pair_step}
@@ -46,7 +46,7 @@ seen_first m n work h =
     record { left = λ k p q l g a b c d. absurd (omega (arith, rw (get_or-replicate {A = ℕ} 64 p 4096 0 (omega arith)) at c)) }
 
 -- the pair was left
-pub seen-left : (m n k p q : ℕ) (marks : List ℕ) (work : List Float) → n ≤ 64 → p < q → q < n → Leave ≡ decision_at m n p q work
+pub seen-left : (m n k p q : ℕ) (marks : List ℕ) (work : List Float) → n ≤ 64 → p < q → q < n → None ≡ decision_at m n p q work
     → Seen m n (look k p q) marks work → Seen m n (look k p q + 1) marks work
 seen-left m n k p q marks work h l g e s =
     record {
@@ -109,7 +109,7 @@ seen-sweep m n k marks work h =
 
 -- marks older than the last look
 pub seen-old : (m n k p q : ℕ) (marks : List ℕ) (work : List Float) → 1 ≤ k → p < q → q < n → get_or marks p 0 < look k p q - 4096
-    → get_or marks q 0 < look k p q - 4096 → Seen m n (look k p q) marks work → Leave ≡ decision_at m n p q work
+    → get_or marks q 0 < look k p q - 4096 → Seen m n (look k p q) marks work → None ≡ decision_at m n p q work
 seen-old m n k p q marks work h l g c d s = s.left (k - 1) p q l g (omega arith) (omega arith) (omega arith) (omega arith)
 
 pub seen_at : {m n t u : ℕ} {marks : List ℕ} {work : List Float} → t ≡ u → Seen m n t marks work → Seen m n u marks work
@@ -119,14 +119,14 @@ pub seen_same : {m n t : ℕ} {marks : List ℕ} {work work' : List Float} → w
 seen_same {m} {n} {t} {marks} e = subst (Seen m n t marks) e
 
 by-counts : (g : Making) (d : Decision) (m n p q : ℕ) (s : State) {work v : List Float} {t : Sweeps} → state work v t ≡ pair_by (svd_pairing g m n) d p q s → t.turned ≡ s.sweeps.turned
-    → (Leave ≡ d) × (s.work ≡ work)
+    → (None ≡ d) × (s.work ≡ work)
 unfolding svd_pairing pair_by counted applied
-by-counts g Leave m n p q s e h = (refl, sym (ap (λ (x : State). x.work) e))
-by-counts g (Turn cosine sine phase) m n p q s e h = absurd (omega (arith, ap (λ (x : State). x.sweeps.turned) e))
+by-counts g None m n p q s e h = (refl, sym (ap (λ (x : State). x.work) e))
+by-counts g (Some t) m n p q s e h = absurd (omega (arith, ap (λ (x : State). x.sweeps.turned) e))
 
 -- a pair that was not counted was left
 pub uncounted : (g : Making) (m n p q : ℕ) (s : State) {work v : List Float} {t : Sweeps} → state work v t ≡ pair_step (svd_pairing g m n) p q s → t.turned ≡ s.sweeps.turned
-    → (Leave ≡ decision_at m n p q s.work) × (s.work ≡ work)
+    → (None ≡ decision_at m n p q s.work) × (s.work ≡ work)
 unfolding svd_pairing pair_step decision_at
 uncounted g m n p q s e h = by-counts g (decision_at m n p q s.work) m n p q s e h
 
@@ -137,10 +137,10 @@ unfolding svd_pairing pair_step pair_by decision_at
 done-to g m n p q s e = ap (λ (x : State). x.work) e
 
 -- a pair that would be left changes nothing
-leave-step : (g : Making) (d : Decision) (m n p q : ℕ) (s : State) → Leave ≡ d → s ≡ pair_by (svd_pairing g m n) d p q s
+leave-step : (g : Making) (d : Decision) (m n p q : ℕ) (s : State) → None ≡ d → s ≡ pair_by (svd_pairing g m n) d p q s
 unfolding svd_pairing pair_by counted applied
 leave-step g d m n p q s e = rw (← e)
 
-pub passed_over : (g : Making) (m n p q : ℕ) (s : State) → Leave ≡ decision_at m n p q s.work → s ≡ pair_step (svd_pairing g m n) p q s
+pub passed_over : (g : Making) (m n p q : ℕ) (s : State) → None ≡ decision_at m n p q s.work → s ≡ pair_step (svd_pairing g m n) p q s
 unfolding svd_pairing pair_step decision_at
 passed_over g m n p q s e = leave-step g (decision_at m n p q s.work) m n p q s e

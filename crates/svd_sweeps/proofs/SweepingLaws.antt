@@ -6,7 +6,7 @@ use Prim.Native.Nat.{ℕ, ◌*◌}
 use native.Mathlib.Omega.{arith}
 use lib.Ieee.{Float}
 use lib.ListN.{length}
-use Rattle.svd_pair.specs.declared.Decision.{Decision}
+use Rattle.svd_pair.specs.Decisions.{Decision}
 use Rattle.svd_pair.specs.declared.Factors.{Factors}
 use Rattle.svd_gram.specs.Gram.{gram_to}
 use Rattle.svd_pair.specs.Decisions.{decision_of}

@@ -7,8 +7,8 @@ use native.Mathlib.Omega.{arith}
 use lib.Ieee.{Float}
 use Rattle.complex.specs.Planes.{plane_at}
 use Rattle.svd_pair.specs.declared.Factors.{Factors}
-use Rattle.svd_pair.specs.declared.Decision.{Decision}
-use Rattle.svd_pair.specs.declared.Decision.TheVariants.{Leave, Turn}
+use Rattle.svd_pair.specs.Decisions.{Decision}
+use Rattle.std.proofs.Common.{None, Some}
 use Rattle.svd_gram.specs.Gram.{gram_to}
 use Rattle.svd_pair.specs.Decisions.{decision_of}
 use Rattle.svd_pair.specs.Turns.{Making, turn_factors, turn_rows, applied}
@@ -35,9 +35,9 @@ apart m p q r s n hr hs e =
 pub column-other : (g : Making) (d : Decision) (m n p q x r : ℕ) (xs : List Float) → p < n → q < n → x < n → (x ≡ p → ⊥) → (x ≡ q → ⊥) → r < m
     → plane_at (applied g d (n * m) (p * m) (q * m) m xs) (n * m) (x * m + r) ≡ plane_at xs (n * m) (x * m + r)
 unfolding applied
-column-other g Leave m n p q x r xs hp hq h np nq hr = refl
-column-other g (Turn cosine sine phase) m n p q x r xs hp hq h np nq hr =
-    rows_other g (turn_factors cosine sine phase) xs (n * m) (x * m + r) (p * m) (q * m) m
+column-other g None m n p q x r xs hp hq h np nq hr = refl
+column-other g (Some t) m n p q x r xs hp hq h np nq hr =
+    rows_other g (turn_factors t.cosine t.sine t.phase) xs (n * m) (x * m + r) (p * m) (q * m) m
     (omega (arith, column_fits x n m h)) (column_fits p n m hp) (column_fits q n m hq)
     (λ s l. apart m x p r s np hr l) (λ s l. apart m x q r s nq hr l)
 

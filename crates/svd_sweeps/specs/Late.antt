@@ -1,20 +1,23 @@
 -- V turned one decision late: what it is once it has caught up. Definitions only.
-use Rattle.std.specs.Prelude.{◌≡◌, true, false, cond, List, ℕ, ◌*◌, ◌<◌, Float}
+use Rattle.std.specs.Prelude.{Option, None, Some, IfSome, List, ℕ, ◌*◌, ◌<◌, Float}
 use Rattle.svd_pair.specs.Turns.{Making, turn_factors, turn_rows}
-use Rattle.complex.specs.Arithmetic.{complex_of}
-use Rattle.complex.specs.Zeros.{zero_float}
 use Rattle.sweeps.specs.Sweeping.{State, state, begin, no_sweeps}
 use Rattle.svd_sweeps.specs.declared.Late.{Late}
+use Rattle.svd_sweeps.specs.declared.Waited.{Waited}
+
+-- V of n columns once a turn that it waits for, if any, is made
+unfoldable pub made_late : Making → ℕ → Option Waited → List Float → List Float
+made_late g n None v = v
+made_late g n (Some t) v = turn_rows g (turn_factors t.turn.cosine t.turn.sine t.turn.phase) (n * n) (t.p * n) (t.q * n) n v
 
 -- V of n columns once the turn that it waits for is made
-unfoldable pub caught_up : Making → ℕ → Late → List Float → List Float
-caught_up g n w v =
-    cond w.waits (turn_rows g (turn_factors w.cosine w.sine w.phase) (n * n) (w.p * n) (w.q * n) n v) v
+abbrev pub caught_up : Making → ℕ → Late → List Float → List Float
+caught_up g n w v = made_late g n w.waiting v
 
 -- where V waits, it is for a turn of two of its columns
 pub record Waiting (n : ℕ) (w : Late) : Type 0 where
-  pub rising : w.waits ≡ true → w.p < w.q
-  pub within : w.waits ≡ true → w.q < n
+  pub rising : IfSome w.waiting (λ t. t.p < t.q)
+  pub within : IfSome w.waiting (λ t. t.q < n)
 
 -- the state that the sweeps speak of
 abbrev pub late_state : Making → ℕ → List Float → List Float → Late → State
@@ -22,10 +25,8 @@ late_state g n work v w = state work (caught_up g n w v) w.s
 
 -- a sweep is counted as it begins; V waits as before
 abbrev pub begun_late : Late → Late
-begun_late w =
-    record { s = begin w.s; waits = w.waits; p = w.p; q = w.q; cosine = w.cosine; sine = w.sine; phase = w.phase }
+begun_late w = record { s = begin w.s; waiting = w.waiting }
 
 -- before the first sweep V waits for nothing
 abbrev pub none_late : Late
-none_late =
-    record { s = no_sweeps; waits = false; p = 0; q = 0; cosine = zero_float; sine = zero_float; phase = complex_of zero_float zero_float }
+none_late = record { s = no_sweeps; waiting = None }

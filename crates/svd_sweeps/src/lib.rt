@@ -11,7 +11,7 @@ ghost use Rattle.svd_sweeps.specs.Marks.{look, Marked, Seen};
 ghost use Rattle.svd_sweeps.specs.Late.{caught_up, Waiting, late_state, begun_late, none_late};
 
 use complex::Complex;
-use svd_pair::Decision;
+use svd_pair::Turn;
 use sweeps::Sweeps;
 
 const MAX_SVD_SWEEPS: usize = 100;
@@ -30,23 +30,25 @@ fn turn_v(
     requires { VRoom n (length v.old) × (n ≤ 64) × (p < q) × (q < n) }
     ensures { v.new ≡ turn_rows (making plain) (turn_factors cosine sine phase) (n * n) (p * n) (q * n) n v.old }
 {
-    if v.len() == 0 {
-        return;
+    if !v.is_empty() {
+        svd_pair::turn_columns(v, n * n, p * n, q * n, n, cosine, sine, phase, plain);
     }
-    svd_pair::turn_columns(v, n * n, p * n, q * n, n, cosine, sine, phase, plain);
 }
 
-// How the sweeps stand, and the turn that V still waits for, if one does. V is turned one decision late: nothing but V waits for that turn, so it
-// fills the time in which the next decision's steps wait for each other.
+// A turn of the columns p and q.
+#[derive(Clone, Copy)]
+pub struct Waited {
+    pub p: usize,
+    pub q: usize,
+    pub turn: Turn,
+}
+
+// How the sweeps stand, and the turn that V still waits for, if it does for one. V is turned one decision late: nothing but V waits for that turn,
+// so it fills the time in which the next decision's steps wait for each other.
 #[derive(Clone, Copy)]
 pub struct Late {
     pub s: Sweeps,
-    pub waits: bool,
-    pub p: usize,
-    pub q: usize,
-    pub cosine: f64,
-    pub sine: f64,
-    pub phase: Complex,
+    pub waiting: Option<Waited>,
 }
 
 // The turn that V waits for is made.
@@ -54,9 +56,17 @@ fn catch_up(v: &mut [f64], n: usize, w: Late, plain: bool)
     requires { VRoom n (length v.old) × (n ≤ 64) × Waiting n w }
     ensures { v.new ≡ caught_up (making plain) n w v.old }
 {
-    if w.waits {
-        let phase = w.phase;
-        turn_v(v, n, w.p, w.q, w.cosine, w.sine, phase, plain);
+    if let Some(t) = w.waiting {
+        turn_v(
+            v,
+            n,
+            t.p,
+            t.q,
+            t.turn.cosine,
+            t.turn.sine,
+            t.turn.phase,
+            plain,
+        );
     }
 }
 
@@ -77,29 +87,25 @@ fn pair(
     ensures waiting { Waiting n result }
 {
     let d = svd_pair::decide(svd_gram::gram_of(work, n * m, p * m, q * m, m));
-    match d {
-        Decision::Leave => {}
-        Decision::Turn {
-            cosine,
-            sine,
-            phase,
-        } => {
-            catch_up(v, n, w, plain);
-            svd_pair::turn_columns(work, n * m, p * m, q * m, m, cosine, sine, phase, plain);
-            let old = w.s;
-            let s = sweeps::count(d, old);
-            return Late {
-                s,
-                waits: true,
-                p,
-                q,
-                cosine,
-                sine,
-                phase,
-            };
-        }
+    let Some(turn) = d else {
+        return w;
+    };
+    catch_up(v, n, w, plain);
+    svd_pair::turn_columns(
+        work,
+        n * m,
+        p * m,
+        q * m,
+        m,
+        turn.cosine,
+        turn.sine,
+        turn.phase,
+        plain,
+    );
+    Late {
+        s: sweeps::count(d, w.s),
+        waiting: Some(Waited { p, q, turn }),
     }
-    w
 }
 
 // Whether neither column was turned since the look with the number `last`.
@@ -107,10 +113,7 @@ pub fn unchanged(marks: &[usize], p: usize, q: usize, last: usize) -> bool
     requires { (p < length marks.now) × (q < length marks.now) }
     ensures { result ≡ true → (get_or marks.now p 0 < last) × (get_or marks.now q 0 < last) }
 {
-    if marks[p] < last {
-        return marks[q] < last;
-    }
-    false
+    marks[p] < last && marks[q] < last
 }
 
 // The pair p, q, which is passed over where neither column was turned since it was left: it would be left again.
@@ -130,18 +133,15 @@ fn visit(
     ensures seen { Seen m n (look w.s.begun p q + 1) marks.new work.new }
     ensures waiting { Waiting n result }
 {
-    let s = w.s;
-    let now = s.begun * 4096 + p * 64 + q;
+    let now = w.s.begun * 4096 + p * 64 + q;
     if unchanged(marks, p, q, now - 4096) {
         return w;
     }
     let t = pair(work, v, m, n, p, q, w, plain);
-    let r = t.s;
-    if r.turned == s.turned {
-        return t;
+    if t.s.turned != w.s.turned {
+        marks[p] = now;
+        marks[q] = now;
     }
-    marks[p] = now;
-    marks[q] = now;
     t
 }
 
@@ -174,21 +174,13 @@ fn begin_sweep(w: Late) -> Late
     requires { w.s.begun < 1000 }
     ensures { result ≡ begun_late w }
 {
-    let old = w.s;
-    let phase = w.phase;
-    let s = Sweeps {
-        begun: old.begun + 1,
-        quiet: true,
-        turned: old.turned,
-    };
     Late {
-        s,
-        waits: w.waits,
-        p: w.p,
-        q: w.q,
-        cosine: w.cosine,
-        sine: w.sine,
-        phase,
+        s: Sweeps {
+            begun: w.s.begun + 1,
+            quiet: true,
+            turned: w.s.turned,
+        },
+        waiting: w.waiting,
     }
 }
 
@@ -219,20 +211,9 @@ fn sweep(
 fn no_sweeps() -> Late
     ensures { result ≡ none_late }
 {
-    let s = Sweeps {
-        begun: 0,
-        quiet: false,
-        turned: 0,
-    };
-    let phase = Complex { re: 0.0, im: 0.0 };
     Late {
-        s,
-        waits: false,
-        p: 0,
-        q: 0,
-        cosine: 0.0,
-        sine: 0.0,
-        phase,
+        s: sweeps::none(),
+        waiting: None,
     }
 }
 
@@ -246,8 +227,7 @@ fn sweep_all(work: &mut [f64], v: &mut [f64], m: usize, n: usize, plain: bool) -
     let mut w = no_sweeps();
     for k in 0..MAX_SVD_SWEEPS {
         w = sweep(work, v, &mut marks, m, n, w, plain);
-        let s = w.s;
-        if s.quiet {
+        if w.s.quiet {
             break;
         }
     }
@@ -261,8 +241,7 @@ pub fn settle(work: &mut [f64], v: &mut [f64], m: usize, n: usize, plain: bool) 
 {
     let w = sweep_all(work, v, m, n, plain);
     catch_up(v, n, w, plain);
-    let s = w.s;
-    s
+    w.s
 }
 
 // The same on the work matrix alone, where no V is wanted. The contract names an empty V; no V changes the work matrix or the

@@ -7,8 +7,8 @@ use native.Mathlib.Omega.{arith}
 use mathlib.Core.List.{List}
 use mathlib.Core.Bool.{Bool, true, false, cond, false≢true}
 use lib.Ieee.{Float}
-use Rattle.svd_pair.specs.declared.Decision.{Decision}
-use Rattle.svd_pair.specs.declared.Decision.TheVariants.{Leave, Turn}
+use Rattle.svd_pair.specs.Decisions.{Decision}
+use Rattle.std.proofs.Common.{None, Some}
 use Rattle.sweeps.specs.declared.Sweeps.{Sweeps}
 use Rattle.sweeps.specs.Sweeping.{State, state, counted, begin, no_sweeps, Pairing, pair_by, pair_step, pairs_to, columns_to, sweep_of, sweeps_to, settled_by}
 use Rattle.sweeps.proofs.Counts.{Within, pairs_below, sweep-after}
@@ -78,8 +78,8 @@ sweeps-begun f n (suc k) s =
 
 counted-still : (d : Decision) (s : Sweeps) → (counted d s).quiet ≡ true → counted d s ≡ s
 unfolding counted
-counted-still Leave s h = refl
-counted-still (Turn cosine sine phase) s h = absurd (false≢true h)
+counted-still None s h = refl
+counted-still (Some t) s h = absurd (false≢true h)
 
 quiet-before : {s t : Sweeps} → t ≡ s → t.quiet ≡ true → s.quiet ≡ true
 quiet-before e h = rw e at h

@@ -5,8 +5,8 @@ use native.Mathlib.Numerals.{add-one}
 use native.Mathlib.Omega.{arith}
 use mathlib.Core.List.{List}
 use lib.Ieee.{Float}
-use Rattle.svd_pair.specs.declared.Decision.{Decision}
-use Rattle.svd_pair.specs.declared.Decision.TheVariants.{Leave, Turn}
+use Rattle.svd_pair.specs.Decisions.{Decision}
+use Rattle.std.proofs.Common.{None, Some}
 use Rattle.sweeps.specs.declared.Sweeps.{Sweeps}
 use Rattle.sweeps.specs.Sweeping.{State, state, counted, begin, Pairing, pair_by, pair_step, pairs_to, columns_to, sweep_of}
 
@@ -17,8 +17,8 @@ pub record Within (s₀ s : Sweeps) (k : ℕ) : Type 0 where
 
 counted-within : (d : Decision) (s : Sweeps) → Within s (counted d s) 1
 unfolding counted
-counted-within Leave s = record { begun = refl; turned = omega arith }
-counted-within (Turn cosine sine phase) s = record { begun = refl; turned = omega arith }
+counted-within None s = record { begun = refl; turned = omega arith }
+counted-within (Some t) s = record { begun = refl; turned = omega arith }
 
 pair-within : (f : Pairing) (p q : ℕ) (s : State) → Within s.sweeps (pair_step f p q s).sweeps 1
 unfolding pair_step pair_by

@@ -8,7 +8,7 @@ use native.Mathlib.Omega.{arith}
 use lib.Ieee.{Float}
 use lib.ListN.{length}
 use Rattle.complex.proofs.Loops.{cond_yes, cond_no}
-use Rattle.svd_pair.specs.declared.Decision.{Decision}
+use Rattle.svd_pair.specs.Decisions.{Decision}
 use Rattle.sweeps.specs.declared.Sweeps.{Sweeps}
 use Rattle.sweeps.specs.Sweeping.{State, state, counted, begin, no_sweeps, Pairing, pair_by, pair_step, pairs_to, columns_to, sweep_of, sweeps_to, settled_by}
 

@@ -1,7 +1,6 @@
 -- The Jacobi sweeps, over what is done with a pair: pairs of a column, columns of a sweep, sweeps until a quiet one. Assumes nothing.
-use Rattle.std.specs.Prelude.{true, false, cond, List, ℕ, zero, suc, ◌+◌, ◌-◌, Float}
-use Rattle.svd_pair.specs.declared.Decision.{Decision}
-use Rattle.svd_pair.specs.declared.Decision.TheVariants.{Leave, Turn}
+use Rattle.std.specs.Prelude.{None, Some, true, false, cond, List, ℕ, zero, suc, ◌+◌, ◌-◌, Float}
+use Rattle.svd_pair.specs.Decisions.{Decision}
 use Rattle.sweeps.specs.declared.Sweeps.{Sweeps}
 
 -- ---- the state
@@ -17,8 +16,8 @@ state work v s = record { work = work; v = v; sweeps = s }
 
 -- a pair that is turned is counted, and its sweep is not quiet
 unfoldable pub counted : Decision → Sweeps → Sweeps
-counted Leave s = s
-counted (Turn cosine sine phase) s = record { begun = s.begun; quiet = false; turned = s.turned + 1 }
+counted None s = s
+counted (Some t) s = record { begun = s.begun; quiet = false; turned = s.turned + 1 }
 
 -- a sweep is counted as it begins, and is quiet until it turns a pair
 abbrev pub begin : Sweeps → Sweeps

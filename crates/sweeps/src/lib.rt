@@ -4,7 +4,7 @@
 ghost use Rattle.std.specs.Prelude.{◌≡◌, ◌<◌};
 ghost use Rattle.sweeps.specs.Sweeping.{counted, no_sweeps};
 
-use svd_pair::Decision;
+use svd_pair::Turn;
 
 // Sweeps begun, whether the last one turned nothing, and pairs turned in all.
 #[derive(Clone, Copy)]
@@ -26,17 +26,14 @@ pub fn none() -> Sweeps
 }
 
 // The counts after a decision.
-pub fn count(d: Decision, s: Sweeps) -> Sweeps
+#[tactic(auto, unfolding(crate::specs::Sweeping::counted))]
+pub fn count(d: Option<Turn>, s: Sweeps) -> Sweeps
     requires { s.turned < 1000000 }
     ensures { result ≡ counted d s }
 {
     match d {
-        Decision::Leave => s,
-        Decision::Turn {
-            cosine: _,
-            sine: _,
-            phase: _,
-        } => Sweeps {
+        None => s,
+        Some(_) => Sweeps {
             begun: s.begun,
             quiet: false,
             turned: s.turned + 1,

@@ -7,9 +7,10 @@ use native.Mathlib.Nat.{add_assoc, pow-suc, pow-le-pow_right}
 use native.Mathlib.Numerals.{add-one}
 use native.Mathlib.Omega.{arith}
 use borrow.Author.Tests.{ltb-true, ltb-false}
+use borrow.Rule.Slice.PartMut.{put_mid}
 use lib.Dec.{ltb}
-use lib.ListN.{length, get_or, set, take, drop, length-append, length-drop}
-use lib.Seq.{take_at, drop_at, drop-drop, length-take-le, set_split, append_snoc, take-suc, take_all, paste-zero}
+use lib.ListN.{length, set, take, drop, length-append, length-drop}
+use lib.Seq.{take_at, drop_at, drop-drop, length-take-le, set_split, append_snoc, paste-zero}
 use Rattle.io.specs.Digits.{last_digits, IsDigitCount}
 use Rattle.texts.specs.Text.{put, Puts, places, decimal, digit, hex, item_text, line, pair_line}
 
@@ -45,25 +46,21 @@ put_next at t d g h =
     let r : at + length t ≤ length d = omega arith in
     put_one (at + length t) g (put at t d) (omega (arith, length-put at t d r)) ∙ put-put at t d r (g ∷ [])
 
--- the loop that copies a text: what it begins with, a step, its length, and its end
+-- what a loop that puts a text begins with
 pub put-none : (at : ℕ) (d : List ℕ) → d ≡ put at [] d
 unfolding put
 put-none at d = paste-zero d at []
 
-pub text-step : (at i : ℕ) (t d out : List ℕ) → at + length t ≤ length d → i < length t → out ≡ put at (take i t) d
-    → set out (at + i) (get_or t i 0) ≡ put at (take (i + 1) t) d
-text-step at i t d out room h e =
-    let l : length (take i t) ≡ i = length-take-le i t (omega arith) in
-    ap (λ (o : List ℕ). set o (at + i) (get_or t i 0)) e
-    ∙ ap (λ (n : ℕ). set (put at (take i t) d) (at + n) (get_or t i 0)) (sym l)
-    ∙ put_next at (take i t) d (get_or t i 0) (omega arith)
-    ∙ ap (λ (s : List ℕ). put at s d) (sym (rw add-one (take-suc t i 0 h)))
-
-pub text-length : (at i : ℕ) (t d out : List ℕ) → at + length t ≤ length d → i ≤ length t → out ≡ put at (take i t) d → length out ≡ length d
-text-length at i t d out room h e = ap length e ∙ length-put at (take i t) d (omega (arith, length-take-le i t h))
-
-pub text-end : (at i : ℕ) (t d out : List ℕ) → length t ≤ i → out ≡ put at (take i t) d → out ≡ put at t d
-text-end at i t d out h e = e ∙ ap (λ (s : List ℕ). put at s d) (take_all i t h)
+-- a text copied to a place
+pub copied : (at k : ℕ) (t ys old : List ℕ) → ys ≡ t → k ≡ length t → Puts at t old (at + length t) (put_mid at k old ys)
+unfolding put
+copied at k t ys old e f = record {
+  next = refl;
+  cells =
+      ap₂ (λ (y : List ℕ) (m : ℕ). take at old ++ (y ++ drop m (drop at old))) e f
+      ∙ ap (λ (rest : List ℕ). take at old ++ (t ++ rest)) (drop-drop (length t) at old)
+      ∙ sym (append_assoc (take at old) t (drop (at + length t) old));
+}
 
 pub puts_then : (at r s : ℕ) (t u old mid new : List ℕ) → at + length t ≤ length old → Puts at t old r mid → Puts r u mid s new → Puts at (t ++ u) old s new
 puts_then at r s t u old mid new room p q = record {
@@ -152,9 +149,6 @@ hex-step at m b g d out room h e p =
     ∙ put_next at (hex m b) d g (omega arith)
     ∙ ap (λ (x : ℕ). put at (hex m b ++ x ∷ []) d) p
     ∙ ap (λ (t : List ℕ). put at t d) (hex-more m b)
-
-pub hex-length : (at m b : ℕ) (d out : List ℕ) → at + 16 ≤ length d → m ≤ 16 → out ≡ put at (hex m b) d → length out ≡ length d
-hex-length at m b d out room h e = ap length e ∙ length-put at (hex m b) d (omega (arith, length-hex m b))
 
 pub hex-end : (at m b : ℕ) (d out : List ℕ) → m ≡ 16 → out ≡ put at (hex m b) d → Puts at (hex 16 b) d (at + 16) out
 hex-end at m b d out h e = record { next = omega (arith, length-hex 16 b); cells = e ∙ ap (λ (n : ℕ). put at (hex n b) d) h }

@@ -7,23 +7,14 @@ ghost use Rattle.texts.specs.Text.{decimal, hex, Puts, item_text, line, pair_lin
 ghost use Rattle.texts.specs.Text.{digit as Text·digit};
 
 // Puts the bytes of text at a place.
+#[tactic(auto, using(crate::proofs::TextLaws::copied))]
 pub fn put_text(out: &mut [u8], at: usize, text: &[u8]) -> usize
     requires { at + length text.now ≤ length out.old }
     ensures { Puts at text.now out.old result out.new }
 {
-    let mut i = 0;
-    while i < text.len() {
-        let place = at + i;
-        out[place] = text[i];
-        i += 1;
-    }
-    at + i
-}
-
-fn wide(n: usize) -> u64
-    ensures { result ≡ n }
-{
-    n as u64
+    let end = at + text.len();
+    copies::copy_over(&mut out[at..end], text);
+    end
 }
 
 // Puts a number in decimal.
@@ -32,7 +23,7 @@ pub fn put_decimal(out: &mut [u8], at: usize, n: usize) -> usize
     ensures { Puts at (decimal n) out.old result out.new }
 {
     let mut digits = [0u8; 20];
-    let count = io::decimal(wide(n), &mut digits);
+    let count = io::decimal(n as u64, &mut digits);
     put_text(out, at, &digits[..count])
 }
 
@@ -48,12 +39,9 @@ pub fn put_hex(out: &mut [u8], at: usize, bits: u64) -> usize
     requires { at + 16 ≤ length out.old }
     ensures { Puts at (hex 16 bits) out.old result out.new }
 {
-    let mut i = 0;
-    while i < 16 {
-        let place = at + i;
+    for i in 0..16 {
         let shift: usize = 60 - 4 * i;
-        out[place] = digit((bits >> shift) % 16);
-        i += 1;
+        out[at + i] = digit((bits >> shift) % 16);
     }
     at + 16
 }

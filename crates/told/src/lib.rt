@@ -1,24 +1,15 @@
 // Inner: how an exported call tells its answer: the number is returned, the place is stored.
 #![tactic(auto)]
 
-ghost use Rattle.std.specs.Prelude.{◌≡◌, ◌≤◌};
 ghost use Rattle.told.specs.Told.{Told};
 
-use answers::Answer;
-
-// A number of the paper's table, as C has it.
-fn small(n: usize) -> u32
-    requires { n ≤ 16 }
-    ensures { result ≡ n }
-{
-    n as u32
-}
+use answers::Refusal;
 
 // The number is returned and the place is stored.
-pub fn told(a: Answer, place: &mut usize) -> u32
-    ensures { Told a result place.new }
+pub fn told<T>(answer: &Result<T, Refusal>, place: &mut usize) -> u32
+    ensures { Told answer.now result place.new }
 {
-    let r = answers::number_of(a);
-    *place = r.place;
-    small(r.number)
+    let reply = answers::number_of(answer);
+    *place = reply.place;
+    reply.number as u32
 }

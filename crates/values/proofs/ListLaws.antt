@@ -1,6 +1,12 @@
--- The laws of `Lists` that the loops cite: at the end, at the value that stops the loop, and past any other. Assumes nothing.
-use mathlib.Core.Path.{◌≡◌, refl, ap}
-use mathlib.Core.Bool.{Bool, true, false, cond}
+-- The laws of `Lists` that the calls cite: at the value that is found, at the end of a loop, and past any other value. Assumes nothing.
+use mathlib.Core.Path.{◌≡◌, refl, sym, ap, ◌∙◌}
+use mathlib.Core.Bool.{Bool, true, false, not, cond}
+use lib.Dec.{ltb}
+use borrow.Author.Tests.{ltb-false}
+use Rattle.std.specs.Prelude.{Option, None, Some, unwrap_or}
+use Rattle.std.specs.List.{position, position_or_len, position_from}
+use Rattle.std.proofs.lemmas.List.Sums.{prefix_len-le-length}
+use Rattle.std.proofs.lemmas.Iterator.Adapters.{position_from-zero}
 use mathlib.Core.List.{List, [], ◌∷◌, ◌++◌, append_assoc, append-nil}
 use Prim.Native.Nat.{ℕ, suc, ◌+◌, ◌≤◌, ◌<◌}
 use native.Mathlib.Numerals.{add-one}
@@ -8,37 +14,52 @@ use native.Mathlib.Omega.{arith}
 use lib.Ieee.{Float, nan, binary64, add, mul, le}
 use lib.ListN.{length, get_or, take, drop, set, drop_of_length-le}
 use lib.Seq.{drop-cons, take-suc-set, drop-set-lt, take_all}
-use Rattle.answers.specs.Paper.{done}
+use Rattle.answers.specs.Paper.{Reply, done, refuse}
 use Rattle.numbers.specs.Numbers.{allowed}
 use Rattle.values.specs.Lists.{values_allowed, kept_above, squares_from, scaled_by}
 
-pub allowed-bad : (l : List Float) (i : ℕ) → i < length l → allowed (get_or l i nan) ≡ false → values_allowed i (drop i l) ≡ (7, i)
-unfolding values_allowed
-allowed-bad l i h e = rw (drop-cons l i nan, e)
+-- the first place that passes, or the length where none does
+pub position-or : (p : Float → Bool) (l : List Float) → unwrap_or (position p l) (length l) ≡ position_or_len p l
+position-or p l = pick (ltb (position_or_len p l) (length l)) refl
+  where
+    pick : (t : Bool) → ltb (position_or_len p l) (length l) ≡ t → unwrap_or (cond t (Some (position_or_len p l)) None) (length l) ≡ position_or_len p l
+    pick true e = refl
+    pick false e =
+        let a : length l ≤ position_or_len p l = ltb-false (position_or_len p l) (length l) e in
+        omega (arith, prefix_len-le-length (λ x. not (p x)) l)
 
-pub allowed-good : (l : List Float) (i : ℕ) → i < length l → allowed (get_or l i nan) ≡ true
-    → values_allowed i (drop i l) ≡ values_allowed (i + 1) (drop (i + 1) l)
-unfolding values_allowed
-allowed-good l i h e = rw (add-one, drop-cons l i nan, e)
+-- 7 at that place, and 0 where there is none
+abbrev bad_at : Option ℕ → Reply
+bad_at None = done
+bad_at (Some i) = (7, i)
 
-pub allowed-end : (l : List Float) (i : ℕ) → length l ≤ i → values_allowed i (drop i l) ≡ done
+allowed-from : (i : ℕ) (l : List Float) → bad_at (position_from (λ x. not (allowed x)) i l) ≡ values_allowed i l
 unfolding values_allowed
-allowed-end l i h = rw (drop_of_length-le l h)
+allowed-from i [] = refl
+allowed-from i (x ∷ l) = rw add-one (pick (not (allowed x)) (allowed-from (suc i) l))
+  where
+    pick : (t : Bool) → bad_at (position_from (λ x. not (allowed x)) (suc i) l) ≡ values_allowed (suc i) l
+        → bad_at (cond t (Some i) (position_from (λ x. not (allowed x)) (suc i) l)) ≡ refuse t (7, i) (values_allowed (suc i) l)
+    pick true h = refl
+    pick false h = h
+
+pub allowed-found : (l : List Float) {r q : Option ℕ} → r ≡ position (λ x. not (allowed x)) l → r ≡ q → bad_at q ≡ values_allowed 0 l
+allowed-found l e f = ap bad_at (sym f ∙ e ∙ position_from-zero (λ x. not (allowed x)) l) ∙ allowed-from 0 l
 
 -- ---- what a floor keeps
 
-pub kept-end : (f : Float) (l : List Float) (i : ℕ) → length l ≤ i → length (kept_above f (drop i l)) ≡ 0
+kept-place : (f : Float) (l : List Float) → length (kept_above f l) ≡ position_or_len (λ x. le x f) l
 unfolding kept_above
-kept-end f l i h = rw (drop_of_length-le l h)
+kept-place f [] = refl
+kept-place f (x ∷ l) = pick (le x f) (kept-place f l)
+  where
+    pick : (t : Bool) → length (kept_above f l) ≡ position_or_len (λ y. le y f) l
+        → length (cond t [] (x ∷ kept_above f l)) ≡ cond (not t) (1 + position_or_len (λ y. le y f) l) 0
+    pick true h = refl
+    pick false h = omega arith
 
-pub kept_here : (f : Float) (l : List Float) (i : ℕ) → i < length l → le (get_or l i nan) f ≡ true → length (kept_above f (drop i l)) ≡ 0
-unfolding kept_above
-kept_here f l i h t = rw (drop-cons l i nan, t)
-
-pub kept-past : (f : Float) (l : List Float) (i : ℕ) → i < length l → le (get_or l i nan) f ≡ false
-    → length (kept_above f (drop i l)) ≡ length (kept_above f (drop (i + 1) l)) + 1
-unfolding kept_above
-kept-past f l i h t = rw (drop-cons l i nan, t, add-one, add-one)
+pub kept-found : (f : Float) (l : List Float) → unwrap_or (position (λ x. le x f) l) (length l) ≡ length (kept_above f l)
+kept-found f l = position-or (λ x. le x f) l ∙ sym (kept-place f l)
 
 -- what is kept is a front part
 pub kept-front : (f : Float) (l : List Float) → take (length (kept_above f l)) l ≡ kept_above f l

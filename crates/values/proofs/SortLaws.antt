@@ -6,27 +6,27 @@ use Prim.Native.Nat.{ℕ, zero, suc, ◌+◌, ◌≤◌, ◌<◌}
 use native.Mathlib.Numerals.{add-one}
 use native.Mathlib.Omega.{arith}
 use lib.Ieee.{Float, nan}
-use lib.ListN.{length, get_or, take, drop, drop_of_length-le}
-use lib.Seq.{drop-cons, take-suc, take_at}
+use lib.ListN.{length, get_or, take, drop}
+use lib.Seq.{take-suc, take_at}
 use Rattle.numbers.specs.Numbers.{total_less}
 use Rattle.stable_order.specs.Push.{push_at}
 use Rattle.stable_order.proofs.PushLaws.{push_at-snoc}
+use Rattle.std.specs.Prelude.{unwrap_or}
+use Rattle.std.specs.List.{position}
+use Rattle.std.proofs.lemmas.List.Recursion.{is_position_or_len}
+use Rattle.values.proofs.ListLaws.{position-or}
 use Rattle.values.specs.Sort.{insert_down, sort_to, seat_of}
 
 -- ---- the place
 
-pub seat-end : (x : Float) (l : List Float) (j : ℕ) → length l ≤ j → seat_of x (drop j l) ≡ 0
+pub seat-found : (x : Float) (l : List Float) → unwrap_or (position (λ y. total_less y x) l) (length l) ≡ seat_of x l
 unfolding seat_of
-seat-end x l j h = rw (drop_of_length-le l h)
-
-pub seat-here : (x : Float) (l : List Float) (j : ℕ) → j < length l → total_less (get_or l j nan) x ≡ true → seat_of x (drop j l) ≡ 0
-unfolding seat_of
-seat-here x l j h t = rw (drop-cons l j nan, t)
-
-pub seat-past : (x : Float) (l : List Float) (j : ℕ) → j < length l → total_less (get_or l j nan) x ≡ false
-    → seat_of x (drop j l) ≡ seat_of x (drop (j + 1) l) + 1
-unfolding seat_of
-seat-past x l j h t = rw (drop-cons l j nan, t, add-one, add-one)
+seat-found x l = position-or (λ y. total_less y x) l ∙ sym (is_position_or_len (seat_of x) (λ y. total_less y x) refl step l)
+  where
+    step : (y : Float) (s : List Float) → seat_of x (y ∷ s) ≡ cond (total_less y x) 0 (1 + seat_of x s)
+    step y s =
+        let h : suc (seat_of x s) ≡ 1 + seat_of x s = omega arith in
+        ap (λ (n : ℕ). cond (total_less y x) 0 n) h
 
 pub seat-le : (x : Float) (l : List Float) → seat_of x l ≤ length l
 unfolding seat_of

@@ -6,20 +6,16 @@ ghost use Rattle.answers.specs.Paper.{paper};
 ghost use Rattle.values.specs.Lists.{values_allowed, all_finite, squares_from, scaled_by, kept_above, minus_zero};
 ghost use Rattle.values.specs.Sort.{seat_of, sort_to};
 
-use answers::Answer;
+use answers::Refusal;
 
 // The first value that is not allowed: 7. A value is one cell.
-pub fn check_values(s: &[f64]) -> Answer
+pub fn check_values(s: &[f64]) -> Result<(), Refusal>
     ensures { paper result ≡ values_allowed 0 s.now }
 {
-    let mut i = 0;
-    while i < s.len() {
-        if !numbers::component_allowed(s[i]) {
-            return Answer::Component(i);
-        }
-        i += 1;
+    match s.iter().position(|x| !numbers::component_allowed(*x)) {
+        Some(at) => Err(Refusal::Component(at)),
+        None => Ok(()),
     }
-    Answer::Done
 }
 
 // Inner. Whether every number of s is finite. A finite scaled sum settles it at two thirds of the cost. The loop has one way out, so that the back end takes several numbers at once.
@@ -30,11 +26,9 @@ pub fn all_finite(s: &[f64]) -> bool
         return true;
     }
     let mut every = true;
-    let mut i = 0;
-    while i < s.len() {
-        let one = numbers::is_finite(s[i]);
+    for x in s {
+        let one = numbers::is_finite(*x);
         every = every & one;
-        i += 1;
     }
     every
 }
@@ -43,14 +37,9 @@ pub fn all_finite(s: &[f64]) -> bool
 pub fn seat(s: &[f64], x: f64) -> usize
     ensures { result ≡ seat_of x s.now }
 {
-    let mut j = 0;
-    while j < s.len() {
-        if numbers::total_less(s[j], x) {
-            return j;
-        }
-        j += 1;
-    }
-    j
+    s.iter()
+        .position(|y| numbers::total_less(*y, x))
+        .unwrap_or(s.len())
 }
 
 // Inner. The values, downward in the total order.
@@ -70,14 +59,7 @@ pub fn sort_down(values: &[f64], sorted: &mut [f64])
 pub fn kept_count(s: &[f64], floor: f64) -> usize
     ensures { result ≡ length (kept_above floor s.now) }
 {
-    let mut i = 0;
-    while i < s.len() {
-        if s[i] <= floor {
-            return i;
-        }
-        i += 1;
-    }
-    i
+    s.iter().position(|x| *x <= floor).unwrap_or(s.len())
 }
 
 // Inner. The squares, summed in order from -0.0 as the Rust's sum is.
@@ -85,9 +67,8 @@ pub fn sum_of_squares(s: &[f64]) -> f64
     ensures { result ≡ squares_from minus_zero s.now }
 {
     let mut total = -0.0;
-    for i in 0..s.len() {
-        let x = s[i];
-        total = total + x * x;
+    for x in s {
+        total = total + *x * *x;
     }
     total
 }
@@ -96,7 +77,7 @@ pub fn sum_of_squares(s: &[f64]) -> f64
 pub fn scale_values(s: &mut [f64], k: f64)
     ensures { s.new ≡ scaled_by k s.old }
 {
-    for i in 0..s.len() {
-        s[i] = s[i] * k;
+    for x in s.iter_mut() {
+        *x = *x * k;
     }
 }

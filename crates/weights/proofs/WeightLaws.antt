@@ -15,7 +15,8 @@ use Rattle.complex.specs.Zeros.{zero_float, zeros, zeroed}
 use Rattle.complex.proofs.ZerosLaws.{length-zeros}
 use Rattle.values.proofs.ListLaws.{kept-le, length-scaled}
 use Rattle.values.proofs.SortLaws.{length-sort}
-use Rattle.finish.specs.declared.Kept.{Kept}
+use Rattle.std.specs.Prelude.{Result}
+use Rattle.answers.specs.declared.Refusal.{Refusal}
 use Rattle.numbers.specs.Numbers.{one_float, larger_of}
 use Rattle.values.specs.Lists.{kept_above, squares_from, minus_zero}
 use Rattle.values.specs.Sort.{sorted_down}
@@ -75,6 +76,10 @@ roots-le f (w ∷ l) = pick (lt f w) (roots-le f l)
     pick true h = omega arith
     pick false h = omega arith
 
+-- there are at most as many roots as weights
+pub roots_few : (f : Float) (n : ℕ) (out : List Float) {k : ℕ} → n ≤ length out → k ≡ length (roots_above f (take n out)) → k ≤ n
+roots_few f n out h e = omega (arith, e, roots-le f (take n out), length-take-le n out h)
+
 -- ---- zeros past the roots that are needed too
 
 zeros-add : (a b : ℕ) → zeros a ++ zeros b ≡ zeros (a + b)
@@ -124,7 +129,7 @@ roots-of-le : (l : List Float) → length (roots_of l) ≤ length l
 unfolding roots_of
 roots-of-le l = roots-le (weight_floor l) l
 
-pub weights-made : (n : ℕ) (old : List Float) {m floor : Float} {values mid : List Float} {r : Kept} {end : List Float} → n ≤ length old
+pub weights-made : (n : ℕ) (old : List Float) {m floor : Float} {values mid : List Float} {r : Result ℕ Refusal} {end : List Float} → n ≤ length old
     → m ≡ largest_from zero_float (take n old) → floor ≡ mul binary64 m value_floor → values ≡ roots_above floor (take n old)
     → mid ≡ zeroed n old → FinishedOutcome values mid r end → WeightOutcome n old r end
 weights-made n old {m} {floor} {values} {mid} {r} {end} h e f g i o =

@@ -6,6 +6,8 @@ ghost use Rattle.complex.specs.Zeros.{zero_float};
 ghost use Rattle.weights.specs.Weights.{largest_from, roots_above};
 ghost use Rattle.weights.specs.WeightOutcome.{WeightOutcome};
 
+use answers::Refusal;
+
 // A weight at or below this part of the largest is noise.
 const VALUE_FLOOR: f64 = 1e-14;
 
@@ -14,8 +16,8 @@ fn largest_weight(s: &[f64]) -> f64
     ensures { result ≡ largest_from zero_float s.now }
 {
     let mut largest = 0.0;
-    for i in 0..s.len() {
-        largest = numbers::larger_of(largest, s[i]);
+    for x in s {
+        largest = numbers::larger_of(largest, *x);
     }
     largest
 }
@@ -26,18 +28,17 @@ fn roots_above(s: &[f64], floor: f64, roots: &mut [f64]) -> usize
     ensures { (result ≡ length (roots_above floor s.now)) × (take result roots.new ≡ roots_above floor s.now) }
 {
     let mut count = 0;
-    for i in 0..s.len() {
-        let w = s[i];
-        if w > floor {
-            roots[count] = numbers::sqrt(w);
+    for w in s {
+        if *w > floor {
+            roots[count] = numbers::sqrt(*w);
             count += 1;
         }
     }
     count
 }
 
-// The n eigenvalues at the front of out become the Schmidt values; spare is used and left as it falls.
-pub fn finish_weights(n: usize, out: &mut [f64], spare: &mut [f64]) -> finish::Kept
+// The n eigenvalues at the front of out become the Schmidt values, and how many were kept; spare is used and left as it falls.
+pub fn finish_weights(n: usize, out: &mut [f64], spare: &mut [f64]) -> Result<usize, Refusal>
     requires { (n ≤ length out.old) × (n ≤ length spare.old) }
     ensures { WeightOutcome n out.old result out.new }
 {

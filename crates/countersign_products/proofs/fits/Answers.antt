@@ -3,4 +3,4 @@ use Rattle.countersign_products.proofs.Bounds.{made-fits}
 use Rattle.countersign_products.proofs.fits.Goals as goal
 
 pub returns : goal.returns
-returns c = made-fits _ _ _ _ _ _ _ _ _ c.gap-d.ensures c.within.ensures
+returns c = made-fits _ _ _ _ _ _ _ _ _ c.gap.ensures c.within.ensures

@@ -1,20 +1,12 @@
 use mathlib.Core.Path.{sym, ◌∙◌}
-use Prim.Native.Nat.{◌-◌}
-use native.Mathlib.Omega.{arith}
-use Rattle.countersign_scans.proofs.ScanLaws.{scan-begin, scan_good, scan-bad, scan-end}
+use Rattle.countersign_scans.proofs.ScanLaws.{scan-found, scan_good, scan-none}
 use Rattle.countersign_scans.proofs.first_product.Goals as goal
 
-pub loop-c-init : goal.loop-c-init
-loop-c-init c = (omega arith, scan-begin _ _)
-
-pub fits-requires : goal.fits-requires
-fits-requires c = record { read = c.requires.read; factors = (c.requires.factors.0, c.requires.factors.1, c.loop-c-test.true) }
+pub returns-then-not-fits : goal.returns-then-not-fits
+returns-then-not-fits c = scan-found _ _ _ c.loop-c.invariant c.loop-c-test.true c.fits.ensures c.if-not-fits.true
 
 pub loop-c-preserved : goal.loop-c-preserved
-loop-c-preserved c = (omega arith, scan_good _ _ _ c.loop-c.invariant.1 c.loop-c-test.true (sym c.fits.ensures ∙ c.if-fits.true))
-
-pub returns-else-fits : goal.returns-else-fits
-returns-else-fits c = scan-bad _ _ _ c.loop-c.invariant.1 c.loop-c-test.true (sym c.fits.ensures ∙ c.if-fits.false)
+loop-c-preserved c = scan_good _ _ _ c.loop-c.invariant c.loop-c-test.true (sym c.fits.ensures ∙ c.if-not-fits.false)
 
 pub returns : goal.returns
-returns c = scan-end _ _ _ c.loop-c.invariant.1 c.loop-c-test.false
+returns c = scan-none _ _ _ c.loop-c.invariant c.loop-c-test.false

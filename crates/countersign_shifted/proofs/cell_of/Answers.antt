@@ -3,4 +3,4 @@ use Rattle.countersign_shifted.proofs.ShiftedLaws.{made-cell}
 use Rattle.countersign_shifted.proofs.cell_of.Goals as goal
 
 pub returns : goal.returns
-returns c = made-cell _ _ c.requires.0 _ c.requires.1 c.wide-re.ensures c.wide-im.ensures
+returns c = made-cell _ _ c.requires.0 _ c.requires.1 c.from-re.ensures c.from-im.ensures

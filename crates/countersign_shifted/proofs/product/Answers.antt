@@ -3,12 +3,6 @@ use native.Mathlib.Omega.{arith}
 use Rattle.countersign_shifted.proofs.ShiftedLaws.{product-least, product-most}
 use Rattle.countersign_shifted.proofs.product.Goals as goal
 
-pub overflow_mul-result : goal.overflow_mul-result
-overflow_mul-result c = record { fits = omega (arith, product-most _ _ c.requires.0 c.requires.1) }
-
-pub overflow_add-result : goal.overflow_add-result
-overflow_add-result c = record { fits = omega (arith, product-most _ _ c.requires.0 c.requires.1) }
-
 pub overflow_sub-result : goal.overflow_sub-result
 overflow_sub-result c = product-least _ _ c.requires.0 c.requires.1
 

@@ -9,8 +9,8 @@ fill_planes-requires c = (turned _ _ _ _ _ _ _ c.requires.0 c.if-cut.true, c.req
 pub returns-then-cut : goal.returns-then-cut
 returns-then-cut c = c.fill_planes.ensures ∙ wide_is _ _ _ _ _ _ _ c.requires.0 c.if-cut.true
 
-pub fill_planes-requires-2 : goal.fill_planes-requires-2
-fill_planes-requires-2 c = c.requires
+pub fill_planes-requires-else-cut : goal.fill_planes-requires-else-cut
+fill_planes-requires-else-cut c = c.requires
 
-pub returns : goal.returns
-returns c = c.fill_planes-2.ensures ∙ square-is _ _ _ _ _ _ _ c.requires.0 c.if-cut.false
+pub returns-else-cut : goal.returns-else-cut
+returns-else-cut c = c.fill_planes-else-cut.ensures ∙ square-is _ _ _ _ _ _ _ c.requires.0 c.if-cut.false

@@ -1,11 +1,7 @@
 -- `cut_sides::write_others` meets its contract. The loop's invariant and steps are those of `SideLaws`; here they meet the code.
 -- Assumes nothing.
-use Prim.Native.Nat.{◌-◌}
 use Rattle.cut_sides.proofs.SideLaws.{Risen}
 use Rattle.cut_sides.proofs.write_others.Given as goal
 
 abbrev pub invariant-loop-q : goal.invariant-loop-q
 invariant-loop-q l = Risen l.list l.n l.initial.out l.q l.j l.out
-
-abbrev pub decreases-loop-q : goal.decreases-loop-q
-decreases-loop-q l = l.n - l.q

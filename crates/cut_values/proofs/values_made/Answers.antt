@@ -1,6 +1,13 @@
 -- `cut_values::values_made` meets its contract: the singular values and the finish. Assumes nothing.
-use mathlib.Core.Path.{refl, sym, ◌∙◌}
+use mathlib.Core.Path.{◌≡◌, refl, sym, ◌∙◌}
+use mathlib.Core.Bool.{Bool, true, false, ◌&&◌}
 use lib.Seq.{length-take-le, take_at}
+use Rattle.std.specs.Prelude.{Ok, Err}
+use Rattle.std.proofs.lemmas.Result.{err_from_is_err_and}
+use Rattle.answers.specs.Paper.{table}
+use Rattle.answers.proofs.Stopped.{stopped-number}
+use Rattle.answers.proofs.PaperLaws.{done-old}
+use Rattle.sweeps.specs.Sweeping.{no_sweeps}
 use Rattle.cut_values.proofs.SchmidtLaws.{front_length, front-in, same-le, made}
 use Rattle.cut_values.proofs.values_made.Goals as goal
 
@@ -19,14 +26,23 @@ slice_bounds-values-end-2 c = front-in _ c.singular_values-swept.new.values _ (c
 pub slice_bounds-finish_finite-end : goal.slice_bounds-finish_finite-end
 slice_bounds-finish_finite-end c = sym (front_length _ c.singular_values-swept.new.values _ (c.singular_values-swept.auto.values ∙ length-take-le _ _ c.requires.0.few))
 
-pub finish_finite-kept-requires : goal.finish_finite-kept-requires
-finish_finite-kept-requires c = same-le (front_length _ c.singular_values-swept.new.values _ (c.singular_values-swept.auto.values ∙ length-take-le _ _ c.requires.0.few)) c.requires.1
+pub finish_finite-requires : goal.finish_finite-requires
+finish_finite-requires c = same-le (front_length _ c.singular_values-swept.new.values _ (c.singular_values-swept.auto.values ∙ length-take-le _ _ c.requires.0.few)) c.requires.1
+
+pub returns-in_err-kept : goal.returns-in_err-kept
+returns-in_err-kept c =
+    let p = err_from_is_err_and c.from_residual.result c.from_residual.ensures.1 in
+    let v = c.singular_values-swept in
+    let k = v.auto.values ∙ length-take-le _ _ c.requires.0.few in
+    let e = c.in_err-kept.field-0.0 in
+    rw (p.1, p.2) (made _ _ _ _ _ (Err e) (Err e) v.result.exact (take_at _ _ _ k ∙ v.ensures.0) (front_length _ v.new.values _ k) v.ensures.2 c.in_err-kept.ensures refl refl (done-old (table e).0 _ no_sweeps (stopped-number e)) (none v.result.exact))
+  where
+    none : (b : Bool) → false ≡ (b && false)
+    none true = refl
+    none false = refl
 
 pub returns : goal.returns
 returns c =
-    let p = c.requires in
     let v = c.singular_values-swept in
-    let f = c.finish_finite-kept in
-    let k = v.auto.values ∙ length-take-le _ _ p.0.few in
-    let t = c.answered_count-counted.ensures in
-    made _ _ _ _ _ f.result _ (take_at _ _ _ k ∙ v.ensures.0) (front_length _ v.new.values _ k) v.ensures.1 v.ensures.2 f.ensures (refl, t.1, t.2) refl
+    let k = v.auto.values ∙ length-take-le _ _ c.requires.0.few in
+    made _ _ _ _ _ (Ok c.in_ok-kept.kept) _ v.result.exact (take_at _ _ _ k ∙ v.ensures.0) (front_length _ v.new.values _ k) v.ensures.2 c.in_ok-kept.ensures refl refl v.ensures.1 refl

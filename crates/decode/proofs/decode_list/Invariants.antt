@@ -1,13 +1,9 @@
 -- `decode::decode_list` meets its contract. The loop's invariant: the first i cells are the entries, the others as they were.
 -- Assumes nothing.
 use mathlib.Core.Path.{◌≡◌}
-use Prim.Native.Nat.{◌≤◌, ◌-◌}
 use Rattle.cutfile.specs.Layout.{file_entry}
 use Rattle.tables.specs.Tables.{filled}
 use Rattle.decode.proofs.decode_list.Given as goal
 
 abbrev pub invariant-loop-i : goal.invariant-loop-i
-invariant-loop-i l = (l.i ≤ l.k) × (l.out ≡ filled l.i (file_entry l.file) l.initial.out)
-
-abbrev pub decreases-loop-i : goal.decreases-loop-i
-decreases-loop-i l = l.k - l.i
+invariant-loop-i l = l.out ≡ filled l.i (file_entry l.file) l.initial.out

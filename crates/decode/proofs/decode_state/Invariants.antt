@@ -1,13 +1,9 @@
 -- `decode::decode_state` meets its contract. The loop's invariant: the first j cells are the file's components, the others as they were.
 -- Assumes nothing.
 use mathlib.Core.Path.{◌≡◌}
-use Prim.Native.Nat.{◌≤◌, ◌-◌}
 use Rattle.cutfile.specs.Layout.{component_at}
 use Rattle.tables.specs.Tables.{filled}
 use Rattle.decode.proofs.decode_state.Given as goal
 
 abbrev pub invariant-loop-j : goal.invariant-loop-j
-invariant-loop-j l = (l.j ≤ l.components) × (l.out ≡ filled l.j (component_at l.file l.k) l.initial.out)
-
-abbrev pub decreases-loop-j : goal.decreases-loop-j
-decreases-loop-j l = l.components - l.j
+invariant-loop-j l = l.out ≡ filled l.j (component_at l.file l.k) l.initial.out

@@ -1,29 +1,28 @@
 -- `densities::fill_density` meets its contract: the table, the lower half and the mirror hand on to each other by the laws of `DensityLaws`. Assumes nothing.
-use lib.ListN.{length}
+use mathlib.Core.Path.{◌∙◌, ap}
+use mathlib.Core.List.{List}
+use Prim.Native.Nat.{ℕ}
 use native.Mathlib.Omega.{arith}
+use lib.ListN.{length, get_or}
+use Rattle.qubit_offsets.proofs.CallLaws.{offset_at}
 use Rattle.densities.proofs.DensityLaws.{side-small, density-square, density-few, density-ready, density-end}
 use Rattle.densities.proofs.fill_density.Goals as goal
 
-pub bit-dim-requires : goal.bit-dim-requires
-bit-dim-requires c = omega (arith, c.requires.0.few)
+pub fill_offsets-requires-clause-count_in_bounds : goal.fill_offsets-requires-clause-count_in_bounds
+fill_offsets-requires-clause-count_in_bounds c = rw c.bit-dim.ensures (side-small (length c.args.list.now) c.requires.0.few)
 
-pub overflow_sub-n : goal.overflow_sub-n
-overflow_sub-n c = omega (arith, c.requires.0.listed.short)
+pub fill_lower-requires-clause-entries_ready : goal.fill_lower-requires-clause-entries_ready
+fill_lower-requires-clause-entries_ready c =
+    let small = side-small (length c.args.list.now) c.requires.0.few in (
+      density-ready _ _ _ c.args.out.now c.requires.0 _ _ _ c.bit-dim.ensures
+          (λ k h. ap (λ (t : List ℕ). get_or t k 0) c.fill_offsets.ensures ∙ offset_at _ _ _ k h)
+          (omega (arith, small, c.bit-dim.ensures, c.fill_offsets.auto.out)) c.requires.1,
+      c.requires.0.allowed,
+    )
 
-pub bit-groups-requires : goal.bit-groups-requires
-bit-groups-requires c = omega (arith, c.requires.0.listed.small)
-
-pub fill_offsets-requires : goal.fill_offsets-requires
-fill_offsets-requires c = record { listed = c.requires.0.listed; dim_in_bounds = rw c.bit-dim.ensures (side-small (length c.args.list.now) c.requires.0.few) }
-
-pub fill_lower-requires : goal.fill_lower-requires
-fill_lower-requires c = let dim = c.bit-dim.ensures in record {
-  entries_ready = (
-    density-ready _ _ _ c.args.out.now c.requires.0 _ _ _ _ dim c.fill_offsets.ensures (rw dim (side-small (length c.args.list.now) c.requires.0.few)) c.requires.1,
-    c.requires.0.allowed,
-  );
-  square = (density-square _ _ _ _ c.requires.0 _ dim, density-few _ _ _ c.args.out.now c.requires.0 _ _ dim c.bit-groups.ensures);
-}
+pub fill_lower-requires-clause-square : goal.fill_lower-requires-clause-square
+fill_lower-requires-clause-square c =
+    (density-square _ _ _ _ c.requires.0 _ c.bit-dim.ensures, density-few _ _ _ c.args.out.now c.requires.0 _ _ c.bit-dim.ensures c.bit-groups.ensures)
 
 pub mirror-requires : goal.mirror-requires
 mirror-requires c =
@@ -32,5 +31,6 @@ mirror-requires c =
 
 pub returns : goal.returns
 returns c =
-    density-end _ _ _ _ c.requires.0 _ _ _ _ _ _ _ c.bit-dim.ensures c.fill_offsets.ensures c.requires.1 c.bit-groups.ensures
+    density-end _ _ _ _ c.requires.0 _ _ _ _ _ _ c.bit-dim.ensures
+    (λ k h. ap (λ (t : List ℕ). get_or t k 0) c.fill_offsets.ensures ∙ offset_at _ _ _ k h) c.requires.1 c.bit-groups.ensures
     c.fill_lower.ensures c.mirror.ensures

@@ -1,11 +1,8 @@
 -- `density_block::width_of` meets its contract. The loop's invariant: no larger power was found. Assumes nothing.
 use mathlib.Core.Path.{◌≡◌}
-use Prim.Native.Nat.{◌≤◌}
+use Prim.Native.Nat.{◌-◌}
 use Rattle.density_block.specs.Factor.{width_of}
 use Rattle.density_block.proofs.width_of.Given as goal
 
 abbrev pub invariant-loop-q : goal.invariant-loop-q
-invariant-loop-q l = (l.q ≤ 6) × (width_of 6 l.dim ≡ width_of l.q l.dim)
-
-abbrev pub decreases-loop-q : goal.decreases-loop-q
-decreases-loop-q l = l.q
+invariant-loop-q l = width_of 6 l.dim ≡ width_of (l.q - 1) l.dim

@@ -12,8 +12,7 @@ overflow_mul-number c = omega (arith, packed-small _ _ _ _ _ c.loop-q.invariant 
 
 pub overflow_add-number : goal.overflow_add-number
 overflow_add-number c =
-    let z = c.args in
-    omega (arith, packed-small _ _ _ _ _ c.loop-q.invariant c.requires, digit-is z.x (c.loop-q.q - 1))
+    omega (arith, packed-small _ _ _ _ _ c.loop-q.invariant c.requires, digit-is c.args.x (c.loop-q.q - 1))
 
 pub loop-q-preserved-then-mask-q-eq1 : goal.loop-q-preserved-then-mask-q-eq1
 loop-q-preserved-then-mask-q-eq1 c =

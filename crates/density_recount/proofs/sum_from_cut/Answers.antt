@@ -6,27 +6,9 @@ use Rattle.densities.proofs.DensityLaws.{side-small}
 use Rattle.density_recount.proofs.RecountLaws.{layout-room, layout_is, layout-scale, recount-square, recount-ready, recount-end}
 use Rattle.density_recount.proofs.sum_from_cut.Goals as goal
 
-pub sides_of-s-requires : goal.sides_of-s-requires
-sides_of-s-requires c = c.requires.parted
-
-pub bit-requires : goal.bit-requires
-bit-requires c = omega (arith, c.requires.parted.listed.small)
-
 pub layout_of-z-requires : goal.layout_of-z-requires
 layout_of-z-requires c =
     layout-room c.args.list.now c.args.n c.requires.parted _ _ c.sides_of-s.ensures c.bit.ensures
-
-pub bit-dim-requires : goal.bit-dim-requires
-bit-dim-requires c = omega (arith, c.requires.few)
-
-pub overflow_sub-n : goal.overflow_sub-n
-overflow_sub-n c = omega (arith, c.requires.parted.part)
-
-pub bit-groups-requires : goal.bit-groups-requires
-bit-groups-requires c = omega (arith, c.requires.parted.listed.small)
-
-pub mask_of-mask-requires : goal.mask_of-mask-requires
-mask_of-mask-requires c = c.requires.parted.listed
 
 pub fill_numbers-requires : goal.fill_numbers-requires
 fill_numbers-requires c = let scale = layout-scale c.args.list.now c.args.n c.requires.parted _ _ c.sides_of-s.ensures c.bit.ensures _ c.layout_of-z.ensures in record { listed = c.requires.parted.listed; mask_value = (c.mask_of-mask.ensures.0, scale, rw c.bit-dim.ensures (side-small (length c.args.list.now) c.requires.few)) }

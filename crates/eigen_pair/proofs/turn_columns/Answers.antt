@@ -1,5 +1,5 @@
 use mathlib.Core.Path.{◌≡◌, refl}
-use Prim.Native.Nat.{◌*◌, ◌-◌, ◌<◌, ◌+◌}
+use Prim.Native.Nat.{◌*◌, ◌<◌, ◌+◌}
 use native.Mathlib.Omega.{arith}
 use Rattle.eigen_pair.proofs.TurnLaws.{line-none, line-more}
 use lib.Arith.{digits_lt}

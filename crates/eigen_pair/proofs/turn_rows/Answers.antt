@@ -1,5 +1,4 @@
 use mathlib.Core.Path.{◌≡◌, refl}
-use Prim.Native.Nat.{◌-◌}
 use native.Mathlib.Omega.{arith}
 use Rattle.eigen_pair.proofs.TurnLaws.{line-none, line-more}
 use Rattle.eigen_pair.proofs.turn_rows.Goals as goal

@@ -1,11 +1,10 @@
-use mathlib.Core.Path.{◌≡◌, ◌∙◌}
-use Prim.Native.Nat.{◌*◌, ◌+◌, ◌-◌, ◌<◌}
+use mathlib.Core.Path.{◌≡◌}
+use Prim.Native.Nat.{◌*◌, ◌+◌, ◌<◌}
 use native.Mathlib.Omega.{arith}
 use lib.Arith.{digits_lt}
 use Rattle.eigen_pair.proofs.CellPlanesLaws.{plane-re}
-use Rattle.eigen_sweeps.proofs.SweepingLaws.{largest-none, largest-more, largest-same}
+use Rattle.eigen_sweeps.proofs.SweepingLaws.{largest-none, largest-more}
 use Rattle.eigen_sweeps.proofs.largest_diagonal.Goals as goal
-use Rattle.eigen_sweeps.proofs.largest_diagonal.Goals.{then-x-largest, else-x-largest}
 
 pub loop-i-init : goal.loop-i-init
 loop-i-init c = (omega arith, largest-none _ _)
@@ -39,13 +38,7 @@ pub loop-i-preserved : goal.loop-i-preserved
 loop-i-preserved c =
     let at : let n = c.args.n in c.loop-i.i * n + c.loop-i.i < n * n = digits_lt c.loop-i-test.true c.loop-i-test.true in
     let a = c.args in
-    let x = plane-re (a.n * a.n) (c.loop-i.i * a.n + c.loop-i.i) a.xs.now at in (
-      omega arith,
-      elim c.if-x-largest.branch [
-        | then-x-largest w ↦ w.largest-is ∙ largest-more _ _ _ c.loop-i.invariant.1 x w.if-x-largest.true
-        | else-x-largest w ↦ w.largest-is ∙ largest-same _ _ _ c.loop-i.invariant.1 x w.if-x-largest.false
-      ],
-    )
+    (omega arith, largest-more _ _ _ c.loop-i.invariant.1 (plane-re (a.n * a.n) (c.loop-i.i * a.n + c.loop-i.i) a.xs.now at) c.larger_of-largest.ensures)
 
 pub returns : goal.returns
 returns c =

@@ -2,7 +2,6 @@
 use mathlib.Core.Path.{◌∙◌}
 use Prim.Native.Nat.{◌*◌, ◌+◌, ◌<◌}
 use native.Mathlib.Omega.{arith}
-use Rattle.svd_pair.proofs.Theorems.{verdict-one}
 use Rattle.eigen_pair.proofs.CellPlanesLaws.{plane-read, plane-re}
 use lib.Arith.{digits_lt}
 use Rattle.eigen_sweeps.proofs.SweepingLaws.{pair_made}
@@ -88,4 +87,4 @@ returns c =
     let start = z.before.before.before in
     let a = c.args in
     let xs = a.xs.now in
-    pair_made _ _ _ _ _ _ _ _ _ _ _ _ (c.read_cell-apq.ensures ∙ plane-read _ _ xs (pq)) (plane-re _ _ xs (pp)) (plane-re _ _ xs (qq)) (verdict-one _ _ c.decide-d.ensures) c.apply.ensures c.count.ensures
+    pair_made _ _ _ _ _ _ _ _ _ _ _ _ (c.read_cell-apq.ensures ∙ plane-read _ _ xs (pq)) (plane-re _ _ xs (pp)) (plane-re _ _ xs (qq)) c.decide-d.ensures c.apply.ensures c.count.ensures

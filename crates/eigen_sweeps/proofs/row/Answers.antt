@@ -1,5 +1,4 @@
 use mathlib.Core.Path.{◌≡◌, refl, ◌∙◌}
-use Prim.Native.Nat.{◌-◌}
 use native.Mathlib.Omega.{arith}
 use Rattle.sweeps.proofs.Counts.{pair-after}
 use Rattle.sweeps.proofs.SweepingLaws.{pairs-none, pairs-more}

@@ -1,5 +1,4 @@
 use mathlib.Core.Path.{refl, ◌∙◌}
-use Prim.Native.Nat.{◌-◌}
 use native.Mathlib.Omega.{arith}
 use Rattle.sweeps.proofs.Counts.{sweep-after, pairs-few}
 use Rattle.sweeps.proofs.SweepingLaws.{sweeps-done, sweeps-more, sweeps-quiet}

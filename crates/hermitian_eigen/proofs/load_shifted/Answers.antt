@@ -1,5 +1,5 @@
 use mathlib.Core.Path.{refl, ◌∙◌}
-use Prim.Native.Nat.{◌*◌, ◌-◌}
+use Prim.Native.Nat.{◌*◌}
 use native.Mathlib.Nat.{zero-mul}
 use Rattle.complex.proofs.Loops.{stop}
 use Rattle.svd_load.specs.Loading.{planes_to}

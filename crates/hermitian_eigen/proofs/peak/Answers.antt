@@ -1,5 +1,4 @@
 use mathlib.Core.Path.{◌∙◌}
-use Prim.Native.Nat.{◌-◌}
 use Rattle.complex.proofs.Loops.{stop}
 use Rattle.hermitian_eigen.specs.Shifted.{peak_to}
 use Rattle.hermitian_eigen.proofs.ShiftedLaws.{peak-none, peak-more}

@@ -4,4 +4,4 @@ use Rattle.hermitian_eigen.proofs.StepsLaws.{rising-made}
 use Rattle.hermitian_eigen.proofs.rank_rising.Goals as goal
 
 pub returns : goal.returns
-returns c = rising-made _ _ _ (omega (arith, c.rank.auto.scratch, c.requires.scratch-is)) c.rank.ensures c.reverse.ensures c.reverse-2.ensures
+returns c = rising-made _ _ _ (omega (arith, c.rank.auto.scratch, c.requires.scratch-is)) c.rank.ensures c.reverse.ensures.after c.reverse-2.ensures.after

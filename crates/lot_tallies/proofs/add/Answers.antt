@@ -10,23 +10,8 @@ overflow_add-out c = omega (arith, answer-few _ _ c.requires.0 c.args.number (om
 pub returns-then-number-gt0 : goal.returns-then-number-gt0
 returns-then-number-gt0 c = λ rs is n. refused-more _ _ _ _ c.requires.2 rs is n (λ e. omega arith)
 
-pub overflow_sub-at : goal.overflow_sub-at
-overflow_sub-at c = omega (arith, (c.requires.2.accepted (omega arith)).0)
-
-pub offset_bounds-out-at : goal.offset_bounds-out-at
-offset_bounds-out-at c = omega (arith, (c.requires.2.accepted (omega arith)).1)
-
-pub bounds-out-at : goal.bounds-out-at
-bounds-out-at c = omega (arith, c.requires.2.accepted (omega arith))
-
 pub overflow_add-out-2 : goal.overflow_add-out-2
 overflow_add-out-2 c = omega (arith, rank-few _ _ c.requires.0 (c.args.rank - 1) (omega (arith, c.requires.2.accepted (omega arith))), c.requires.1)
-
-pub offset_bounds-out-at-2 : goal.offset_bounds-out-at-2
-offset_bounds-out-at-2 c = omega (arith, (c.requires.2.accepted (omega arith)).1)
-
-pub bounds-out-at-2 : goal.bounds-out-at-2
-bounds-out-at-2 c = omega (arith, c.requires.2.accepted (omega arith))
 
 pub overflow_add-out-3 : goal.overflow_add-out-3
 overflow_add-out-3 c = omega (arith, sum-light _ _ c.requires.0, c.requires.1, fair-small _ _ c.requires.2)

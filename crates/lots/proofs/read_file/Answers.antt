@@ -1,11 +1,10 @@
 use Rattle.lots.proofs.LotLaws.{copy-begins, copy-inside, copy-room, copy_more, copy-ends}
-use Prim.Native.Nat.{◌-◌}
 use native.Mathlib.Omega.{arith}
 use borrow.Author.Rules.{rules}
 use Rattle.lots.proofs.read_file.Goals as goal
 
 pub loop-i-init : goal.loop-i-init
-loop-i-init c = copy-begins _ _ _ _ _ (search rules) c.bytes_here-many.ensures
+loop-i-init c = copy-begins _ _ _ _ _ (search rules) (omega arith)
 
 pub overflow_add-room : goal.overflow_add-room
 overflow_add-room c = let h = copy-inside _ _ _ _ _ _ c.loop-i.invariant c.loop-i-test.true in search rules

@@ -1,18 +1,11 @@
 -- `modulus::same` meets its contract: a float that is no NaN is what its bits say. Assumes nothing.
 use mathlib.Core.Path.{sym, ap, subst, ◌∙◌}
-use mathlib.Core.Bool.{false≢true}
 use borrow.Author.Tests.{eqb-true}
 use lib.Dec.{T}
 use lib.Ieee.{binary64, fits, of_bits}
 use lib.Ieee.Bits.{of_bits-to_bits}
 use Rattle.numbers.proofs.Cases.{no_nan}
 use Rattle.modulus.proofs.same.Goals as goal
-
-pub returns-then-x : goal.returns-then-x
-returns-then-x c = λ h. absurd (false≢true h)
-
-pub returns-then-y : goal.returns-then-y
-returns-then-y c = λ h. absurd (false≢true h)
 
 pub float_to_bits-result : goal.float_to_bits-result
 float_to_bits-result c = no_nan _ c.if-x.false

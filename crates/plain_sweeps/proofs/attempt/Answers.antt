@@ -15,9 +15,9 @@ from_unit-sweeps-requires c = record { work = length-take-le _ _ (omega (arith, 
 pub slice_bounds-all_clean-end-2 : goal.slice_bounds-all_clean-end-2
 slice_bounds-all_clean-end-2 c = sym (length-take-le _ _ (search rules))
 
-pub returns-then-all_clean : goal.returns-then-all_clean
-returns-then-all_clean c =
-    tried-clean _ _ _ _ c.from_unit-sweeps.new.work _ _ _ (length-take-le _ _ (omega (arith, c.requires.scratch-fits, c.copy_behind.auto.s))) c.copy_behind.ensures (c.from_unit-sweeps.auto.work ∙ length-take-le _ _ (omega (arith, c.requires.scratch-fits, c.copy_behind.auto.s))) c.from_unit-sweeps.ensures (c.all_clean.ensures c.if-all_clean.true) c.all_clean-then-all_clean.ensures
+pub returns-then-all_clean-2 : goal.returns-then-all_clean-2
+returns-then-all_clean-2 c =
+    tried-clean _ _ _ _ c.from_unit-sweeps.new.work _ _ (length-take-le _ _ (omega (arith, c.requires.scratch-fits, c.copy_behind.auto.s))) c.copy_behind.ensures (c.from_unit-sweeps.auto.work ∙ length-take-le _ _ (omega (arith, c.requires.scratch-fits, c.copy_behind.auto.s))) c.from_unit-sweeps.ensures (c.all_clean.ensures c.if-all_clean.true) (c.all_clean-then-all_clean.ensures c.if-all_clean-2.true)
 
 pub returns : goal.returns
-returns c = tried-unclean _ _ _ _ c.from_unit-sweeps.new.work _ _ c.copy_behind.ensures (c.from_unit-sweeps.auto.work ∙ length-take-le _ _ (omega (arith, c.requires.scratch-fits, c.copy_behind.auto.s)))
+returns c = tried-unclean _ _ _ _ c.from_unit-sweeps.new.work _ c.copy_behind.ensures (c.from_unit-sweeps.auto.work ∙ length-take-le _ _ (omega (arith, c.requires.scratch-fits, c.copy_behind.auto.s)))

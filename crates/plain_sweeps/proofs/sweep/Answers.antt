@@ -1,5 +1,5 @@
 -- `plain_sweeps::sweep` meets its contract: a clean trial, or the sweeps of what was kept. Assumes nothing.
-use mathlib.Core.Path.{sym, ◌∙◌}
+use mathlib.Core.Path.{refl, sym, ◌∙◌}
 use native.Mathlib.Omega.{arith}
 use lib.Seq.{length-take-le}
 use Rattle.plain_sweeps.proofs.TrialLaws.{swept_same}
@@ -8,8 +8,5 @@ use Rattle.plain_sweeps.proofs.sweep.Goals as goal
 pub slice_bounds-promising-end-2 : goal.slice_bounds-promising-end-2
 slice_bounds-promising-end-2 c = sym (length-take-le _ _ (omega (arith, c.requires.scratch-fits)))
 
-pub returns-then-trial : goal.returns-then-trial
-returns-then-trial c = c.attempt-trial.ensures.done c.if-trial.true
-
 pub returns : goal.returns
-returns c = swept_same (c.copy_back.ensures ∙ c.attempt-trial.ensures.kept c.if-trial.false) c.exactly-2.ensures
+returns c = swept_same (c.copy_back.ensures ∙ c.in_default.ensures.kept refl) c.exactly-2.ensures

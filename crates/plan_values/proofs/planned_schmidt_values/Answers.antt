@@ -1,26 +1,12 @@
--- `plan_values::planned_schmidt_values` meets its contract: no list makes the plan, or the work over the kept sides is the list's call.
--- Assumes nothing.
-use mathlib.Core.Bool.{true}
-use mathlib.Core.Path.{◌≡◌, sym, ◌∙◌}
-use Rattle.plans.specs.Plans.{made}
+-- `plan_values::planned_schmidt_values` meets its contract: the work over the kept sides is the list's call. Assumes nothing.
+use mathlib.Core.Path.{sym, ◌∙◌}
 use Rattle.plans.proofs.PlanLaws.{made-parted}
-use Rattle.plan_values.proofs.PlannedValuesLaws.{not_made, of-over}
+use Rattle.plan_values.proofs.PlannedValuesLaws.{of-over}
 use Rattle.plan_values.proofs.planned_schmidt_values.Goals as goal
-
-pub returns-then-not-is_made : goal.returns-then-not-is_made
-returns-then-not-is_made c = not_made _ _ _ _ (sym c.is_made.ensures ∙ c.if-not-is_made.true) _ c.refused.ensures
-
-pub kept_sides-cut-requires : goal.kept_sides-cut-requires
-kept_sides-cut-requires c =
-    let is-plan : made c.args.plan ≡ true = sym c.is_made.ensures ∙ c.if-not-is_made.false in
-    is-plan
 
 pub values_over-requires : goal.values_over-requires
 values_over-requires c =
-    let is-plan : made c.args.plan ≡ true = sym c.is_made.ensures ∙ c.if-not-is_made.false in
-    record { list = _; parted = made-parted _ (is-plan); are = c.kept_sides-cut.ensures }
+    record { list = _; parted = made-parted _ (sym c.is_made.ensures ∙ c.if-not-is_made.false); are = c.kept_sides-cut.ensures }
 
 pub returns : goal.returns
-returns c =
-    let is-plan : made c.args.plan ≡ true = sym c.is_made.ensures ∙ c.if-not-is_made.false in
-    of-over _ _ _ _ (is-plan) _ _ _ _ c.kept_sides-cut.ensures c.values_over.ensures
+returns c = of-over _ _ _ _ (sym c.is_made.ensures ∙ c.if-not-is_made.false) _ _ _ _ c.kept_sides-cut.ensures c.values_over.ensures

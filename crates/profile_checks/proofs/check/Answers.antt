@@ -1,28 +1,13 @@
 -- `profile_checks::check` meets its contract: its four parts in their order. Assumes nothing.
 use mathlib.Core.Path.{sym, ◌∙◌}
-use Rattle.answers.proofs.Stopped.{refused, passed, was-done}
+use Rattle.answers.proofs.Stopped.{passed}
 use Rattle.profile_checks.specs.Checks.{profile_tests}
-use Rattle.profile_checks.proofs.CheckLaws.{sizes-within}
+use Rattle.profile_checks.proofs.CheckLaws.{accepts}
 use Rattle.profile_checks.proofs.check.Goals as goal
 
-pub returns-in_default : goal.returns-in_default
+pub returns-clause-accepted : goal.returns-clause-accepted
 unfolding profile_tests
-returns-in_default c = refused c.check_sizes-sized.result _ _ c.check_sizes-sized.ensures c.in_default.not-Done
-
-pub check_page-page-requires : goal.check_page-page-requires
-check_page-page-requires c = sizes-within _ _ (was-done _ _ c.check_sizes-sized.ensures c.in-Done.is)
-
-pub returns-in_default-page : goal.returns-in_default-page
-unfolding profile_tests
-returns-in_default-page c = refused c.check_page-page.result _ _ c.check_page-page.ensures c.in_default-page.not-Done ∙ sym (passed _ _ _ c.check_sizes-sized.ensures c.in-Done.is)
-
-pub check_index-index-requires : goal.check_index-index-requires
-check_index-index-requires c = sizes-within _ _ (was-done _ _ c.check_sizes-sized.ensures c.in-Done.is)
-
-pub returns-in_default-index : goal.returns-in_default-index
-unfolding profile_tests
-returns-in_default-index c = refused c.check_index-index.result _ _ c.check_index-index.ensures c.in_default-index.not-Done ∙ sym (passed _ _ _ c.check_page-page.ensures c.in-Done-page.is) ∙ sym (passed _ _ _ c.check_sizes-sized.ensures c.in-Done.is)
-
-pub returns : goal.returns
-unfolding profile_tests
-returns c = c.check_components.ensures ∙ sym (passed _ _ _ c.check_index-index.ensures c.in-Done-index.is) ∙ sym (passed _ _ _ c.check_page-page.ensures c.in-Done-page.is) ∙ sym (passed _ _ _ c.check_sizes-sized.ensures c.in-Done.is)
+returns-clause-accepted c =
+    accepts c.args.state.now _ _ _ _ _ _ _ _ c.check_components.result
+    (c.check_components.ensures ∙ sym (passed _ _ _ c.check_index.ensures c.in_ok-check_index.was)
+    ∙ sym (passed _ _ _ c.check_page.ensures c.in_ok-check_page.was) ∙ sym (passed _ _ _ c.check_sizes.ensures c.in_ok-check_sizes.was))

@@ -1,6 +1,6 @@
 -- `qr::check_lengths` meets its contract: four lengths, one after the other. Assumes nothing.
 use native.Mathlib.Omega.{arith}
-use Rattle.qr.proofs.CallLaws.{q-cells, r-cells, rows-within, made-lengths}
+use Rattle.qr.proofs.CallLaws.{q-cells, r-cells, rows-within}
 use Rattle.qr.proofs.check_lengths.Goals as goal
 
 pub overflow_mul-rows : goal.overflow_mul-rows
@@ -10,19 +10,16 @@ pub overflow_mul-rows-2 : goal.overflow_mul-rows-2
 overflow_mul-rows-2 c = omega (arith, c.requires)
 
 pub overflow_mul-cap : goal.overflow_mul-cap
-overflow_mul-cap c = omega (arith, q-cells c.args.rows c.args.cols c.smaller-cap.ensures, c.requires)
+overflow_mul-cap c = omega (arith, q-cells c.args.rows c.args.cols c.min-cap.ensures, c.requires)
 
 pub overflow_mul-cap-2 : goal.overflow_mul-cap-2
-overflow_mul-cap-2 c = omega (arith, q-cells c.args.rows c.args.cols c.smaller-cap.ensures, c.requires)
+overflow_mul-cap-2 c = omega (arith, q-cells c.args.rows c.args.cols c.min-cap.ensures, c.requires)
 
 pub overflow_mul-cap-3 : goal.overflow_mul-cap-3
-overflow_mul-cap-3 c = omega (arith, r-cells c.args.rows c.args.cols c.smaller-cap.ensures, c.requires)
+overflow_mul-cap-3 c = omega (arith, r-cells c.args.rows c.args.cols c.min-cap.ensures, c.requires)
 
 pub overflow_mul-cap-4 : goal.overflow_mul-cap-4
-overflow_mul-cap-4 c = omega (arith, r-cells c.args.rows c.args.cols c.smaller-cap.ensures, c.requires)
+overflow_mul-cap-4 c = omega (arith, r-cells c.args.rows c.args.cols c.min-cap.ensures, c.requires)
 
 pub overflow_mul-rows-3 : goal.overflow_mul-rows-3
 overflow_mul-rows-3 c = omega (arith, rows-within c.args.rows c.args.cols c.requires.some-columns, c.requires)
-
-pub returns : goal.returns
-returns c = made-lengths _ _ _ _ _ _ c.smaller-cap.ensures c.exact_length-in_a.ensures c.enough_room-in_q.ensures c.enough_room-in_r.ensures c.enough_room-in_scratch.ensures c.and_then.ensures c.and_then-2.ensures c.and_then-3.ensures

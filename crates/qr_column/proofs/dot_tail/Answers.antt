@@ -1,4 +1,3 @@
-use Prim.Native.Nat.{◌-◌}
 use native.Mathlib.Omega.{arith}
 use Rattle.complex.proofs.Loops.{stop}
 use Rattle.qr_column.specs.Dot.{tail_to}

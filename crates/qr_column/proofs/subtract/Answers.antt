@@ -1,4 +1,3 @@
-use Prim.Native.Nat.{◌-◌}
 use native.Mathlib.Omega.{arith}
 use Rattle.qr_column.proofs.WovenLaws.{fill-begin, fill_step, less-cell, less-end}
 use Rattle.qr_column.proofs.subtract.Goals as goal

@@ -1,5 +1,4 @@
 use mathlib.Core.Path.{refl}
-use Prim.Native.Nat.{◌-◌}
 use Rattle.complex.proofs.Loops.{stop}
 use Rattle.qr_passes.specs.GramSchmidt.{qr_columns_to}
 use Rattle.qr_passes.proofs.GramSchmidtLaws.{columns-none, columns-more}

@@ -1,4 +1,3 @@
-use Prim.Native.Nat.{◌-◌}
 use native.Mathlib.Omega.{arith}
 use Rattle.qr_column.proofs.ColumnLaws.{column-cell}
 use Rattle.qr_column.proofs.WovenLaws.{fill-begin, fill_step, column-end}

@@ -1,5 +1,4 @@
 use mathlib.Core.Path.{refl}
-use Prim.Native.Nat.{◌-◌}
 use Rattle.qr_passes.proofs.GramSchmidtLaws.{step-stop, step-go, step-spent}
 use borrow.Author.Rules.{rules}
 use Rattle.qr_passes.proofs.orthogonalize.Goals as goal

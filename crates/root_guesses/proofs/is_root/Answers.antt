@@ -1,6 +1,5 @@
 -- `root_guesses::is_root` meets its contract (`Guess.antt`). Assumes nothing.
 use Rattle.std.proofs.Common.{◌+◌, ◌/◌, ◌^◌, T, sym, subst, arith}
-use mathlib.Core.Bool.{false≢true}
 use lib.Ieee.{binary64, fits, to_bits}
 use Rattle.numbers.specs.Steps.{digits}
 use Rattle.numbers.proofs.Cases.{no_nan}
@@ -8,26 +7,11 @@ use Rattle.numbers.proofs.Scaling.{in-range}
 use Rattle.root_guesses.proofs.Guess.{half-most, half-exponent, is-the-root}
 use Rattle.root_guesses.proofs.is_root.Goals as goal
 
-pub returns-then-x : goal.returns-then-x
-returns-then-x c = λ h. absurd (false≢true h)
-
-pub returns-then-t : goal.returns-then-t
-returns-then-t c = λ h. absurd (false≢true h)
-
 pub float_to_bits-b : goal.float_to_bits-b
 float_to_bits-b c = no_nan _ c.if-x.false
 
-pub returns-then-b-lt4503599627370496 : goal.returns-then-b-lt4503599627370496
-returns-then-b-lt4503599627370496 c = λ h. absurd (false≢true h)
-
-pub returns-then-half-ge1023 : goal.returns-then-half-ge1023
-returns-then-half-ge1023 c = λ h. absurd (false≢true h)
-
 pub float_to_bits-a : goal.float_to_bits-a
 float_to_bits-a c = no_nan _ c.if-t.false
-
-pub returns-then-a-half : goal.returns-then-a-half
-returns-then-a-half c = λ h. absurd (false≢true h)
 
 pub is_nearest-requires : goal.is_nearest-requires
 is_nearest-requires c = let r = in-range (digits (to_bits binary64 c.args.x)) (to_bits binary64 c.args.x / 2 ^ 52 + 51) (omega arith) (omega arith) in (r.0, r.1, omega arith, omega arith)

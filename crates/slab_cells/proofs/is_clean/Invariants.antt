@@ -2,12 +2,8 @@
 -- nothing.
 use mathlib.Core.Path.{◌≡◌}
 use mathlib.Core.Bool.{true}
-use Prim.Native.Nat.{◌-◌, ◌≤◌}
 use Rattle.slab_cells.proofs.CellLaws.{clean_to}
 use Rattle.slab_cells.proofs.is_clean.Given as goal
 
 abbrev pub invariant-loop-c : goal.invariant-loop-c
-invariant-loop-c l = (l.c ≤ 4096) × (clean_to l.map l.cells l.c ≡ true)
-
-abbrev pub decreases-loop-c : goal.decreases-loop-c
-decreases-loop-c l = 4096 - l.c
+invariant-loop-c l = clean_to l.map l.cells l.c ≡ true

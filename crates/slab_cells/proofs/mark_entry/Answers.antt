@@ -1,9 +1,6 @@
--- `slab_cells::mark_entry` meets its contract. Assumes nothing.
-use Rattle.slab_cells.proofs.CellLaws.{entry-skipped, entry-marked}
+use borrow.Author.Rules.{rules}
+use Rattle.slab_cells.proofs.CellLaws.{put-marked}
 use Rattle.slab_cells.proofs.mark_entry.Goals as goal
 
 pub returns-then-i-skip : goal.returns-then-i-skip
-returns-then-i-skip c = entry-skipped _ _ _ _ c.if-i-skip.true
-
-pub returns : goal.returns
-returns c = entry-marked _ _ _ _ c.if-i-skip.false c.mark.ensures
+returns-then-i-skip c = put-marked c.args.x _ _ _ c.if-i-skip.true (search rules) (search rules)

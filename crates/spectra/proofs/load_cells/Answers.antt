@@ -1,5 +1,4 @@
 use mathlib.Core.Path.{refl}
-use Prim.Native.Nat.{◌-◌}
 use native.Mathlib.Omega.{arith}
 use Rattle.complex.proofs.Loops.{stop}
 use Rattle.complex.specs.Cells.{cell_at, written}

@@ -30,7 +30,7 @@ slice_bounds-all_finite-end-2 c = sym (length-take-le _ _ (omega (arith, c.requi
 pub returns-then-all_finite : goal.returns-then-all_finite
 returns-then-all_finite c =
     let s = c.spectrum-sweeps.ensures in
-    worked-done _ _ _ _ _ _ _ s.0 (zeroed-part _ _ _ c.requires.spare s.1) s.2 _ c.all_finite.ensures c.if-all_finite.true _ c.answered.ensures
+    worked-done _ _ _ _ _ _ _ s.0 (zeroed-part _ _ _ c.requires.spare s.1) s.2 _ c.all_finite.ensures c.if-all_finite.true
 
 pub zero_first-requires : goal.zero_first-requires
 zero_first-requires c = omega (arith, c.requires.room, c.spectrum-sweeps.auto.out)
@@ -38,4 +38,4 @@ zero_first-requires c = omega (arith, c.requires.room, c.spectrum-sweeps.auto.ou
 pub returns : goal.returns
 returns c =
     let s = c.spectrum-sweeps.ensures in
-    worked-infinite _ _ _ _ _ _ _ s.0 (zeroed-part _ _ _ c.requires.spare s.1) s.2 _ c.all_finite.ensures c.if-all_finite.false _ c.zero_first.ensures _ c.refused.ensures
+    worked-infinite _ _ _ _ _ _ _ s.0 (zeroed-part _ _ _ c.requires.spare s.1) s.2 _ c.all_finite.ensures c.if-all_finite.false _ c.zero_first.ensures

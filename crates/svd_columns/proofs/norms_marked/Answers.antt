@@ -1,7 +1,6 @@
-use mathlib.Core.Path.{refl, ap, ◌∙◌}
-use Prim.Native.Nat.{ℕ, ◌+◌, ◌*◌, ◌-◌, ◌≤◌}
+use mathlib.Core.Path.{ap, ◌∙◌}
+use Prim.Native.Nat.{ℕ, ◌*◌}
 use native.Mathlib.Omega.{arith}
-use lib.ListN.{length-set}
 use lib.Ieee.{Float}
 use Rattle.numbers.specs.Root.{sqrt_of}
 use Rattle.complex.proofs.Loops.{stop}
@@ -17,32 +16,27 @@ use borrow.Author.Rules.{rules}
 use Rattle.svd_columns.proofs.norms_marked.Goals as goal
 
 pub loop-j-init : goal.loop-j-init
-loop-j-init c = (search rules, refl, filled_none _ _, all_none _)
+loop-j-init c = record { values = filled_none _ _; mark = all_none _ }
 
 pub overflow_mul-j : goal.overflow_mul-j
-overflow_mul-j c =
-    let col : let a = c.args in c.loop-j.j * a.rows + a.rows ≤ a.side * a.rows = column_fits _ _ _ c.loop-j-test.true in
-    omega (arith, col)
+overflow_mul-j c = omega (arith, column_fits c.loop-j.j c.args.side c.args.rows c.loop-j-test.true)
 
 pub squares-requires : goal.squares-requires
-squares-requires c =
-    let col : let a = c.args in c.loop-j.j * a.rows + a.rows ≤ a.side * a.rows = column_fits _ _ _ c.loop-j-test.true in
-    (col, search rules)
+squares-requires c = (column_fits c.loop-j.j c.args.side c.args.rows c.loop-j-test.true, search rules)
 
 pub loop-j-preserved : goal.loop-j-preserved
 loop-j-preserved c =
-    let sum = c.squares.ensures in (
-      search rules,
-      simp length-set c.loop-j.invariant.1,
-      filled-step _ _ _ (omega (arith, c.requires.2, c.loop-j-test.true)) c.loop-j.invariant.2 (c.sqrt_marked-one.ensures.0 ∙ ap sqrt_of sum),
-      all_more _ _ c.loop-j.invariant.3 (c.sqrt_marked-one.ensures.1 ∙ ap exact_root sum),
-    )
+    let sum = c.squares.ensures in
+    record {
+      values = filled-step _ _ _ (omega (arith, c.requires.2, c.loop-j-test.true)) c.loop-j.invariant.values (c.sqrt_marked-one.ensures.0 ∙ ap sqrt_of sum);
+      mark = all_more _ _ c.loop-j.invariant.mark (c.sqrt_marked-one.ensures.1 ∙ ap exact_root sum);
+    }
 
 pub returns : goal.returns
 unfolding norms_of norms_exact
 returns c =
     let a = c.args in
     let f : ℕ → Float = λ i. squares_to (plane_from a.work.now (a.side * a.rows) (i * a.rows)) a.rows in (
-      stop (λ k. filled k (λ i. sqrt_of (f i)) a.s.now) c.loop-j.invariant.2 (search rules) (search rules) ∙ filled-all _ _ _ c.requires.2,
-      stop (λ k. all_exact k f) c.loop-j.invariant.3 (search rules) (search rules),
+      stop (λ k. filled k (λ i. sqrt_of (f i)) a.s.now) c.loop-j.invariant.values (search rules) (search rules) ∙ filled-all _ _ _ c.requires.2,
+      stop (λ k. all_exact k f) c.loop-j.invariant.mark (search rules) (search rules),
     )

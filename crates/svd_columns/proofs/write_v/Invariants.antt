@@ -1,7 +1,7 @@
 -- `svd_columns::write_v` meets its contract. The invariant: the first j columns are written. Assumes nothing.
 use mathlib.Core.Path.{◌≡◌}
-use Prim.Native.Nat.{◌+◌, ◌*◌, ◌-◌, ◌≤◌}
-use lib.ListN.{length, get_or}
+use Prim.Native.Nat.{◌+◌, ◌*◌}
+use lib.ListN.{get_or}
 use Rattle.complex.specs.Cells.{written}
 use Rattle.complex.specs.Planes.{plane_at}
 use Rattle.stable_order.specs.Places.{places_in}
@@ -9,7 +9,4 @@ use Rattle.svd_columns.specs.Columns.{v_cell, in_columns}
 use Rattle.svd_columns.proofs.write_v.Given as goal
 
 abbrev pub invariant-loop-j : goal.invariant-loop-j
-invariant-loop-j l = (l.j ≤ l.side) × (length l.out ≡ length l.initial.out) × (l.out ≡ written (l.j * l.side) (in_columns l.side (λ k r. v_cell l.wide (plane_at l.v (l.side * l.side) (get_or (places_in l.order) k 0 * l.side + r)))) l.initial.out)
-
-abbrev pub decreases-loop-j : goal.decreases-loop-j
-decreases-loop-j l = l.side - l.j
+invariant-loop-j l = l.out ≡ written (l.j * l.side) (in_columns l.side (λ k r. v_cell l.wide (plane_at l.v (l.side * l.side) (get_or (places_in l.order) k 0 * l.side + r)))) l.initial.out

@@ -1,7 +1,6 @@
-use mathlib.Core.Path.{refl, ap, ◌∙◌}
-use Prim.Native.Nat.{◌-◌}
+use mathlib.Core.Path.{ap, ◌∙◌}
 use native.Mathlib.Omega.{arith}
-use lib.ListN.{get_or, length-set}
+use lib.ListN.{get_or}
 use lib.Ieee.{nan}
 use Rattle.complex.proofs.Loops.{stop}
 use Rattle.stable_order.specs.Places.{places_in}
@@ -13,20 +12,14 @@ use borrow.Author.Rules.{rules}
 use Rattle.svd_columns.proofs.write_values.Goals as goal
 
 pub loop-j-init : goal.loop-j-init
-loop-j-init c = (search rules, refl, filled_none _ _)
+loop-j-init c = filled_none _ _
 
 pub read_place-o-requires : goal.read_place-o-requires
 read_place-o-requires c = (search rules, search rules, c.requires.3)
 
-pub offset_bounds-norms-o : goal.offset_bounds-norms-o
-offset_bounds-norms-o c = omega (arith, c.read_place-o.ensures.1)
-
-pub bounds-norms-o : goal.bounds-norms-o
-bounds-norms-o c = omega (arith, c.read_place-o.ensures.1)
-
 pub loop-j-preserved : goal.loop-j-preserved
-loop-j-preserved c = (search rules, simp length-set c.loop-j.invariant.1, filled-step _ _ _ (omega (arith, c.requires.4, c.loop-j-test.true)) c.loop-j.invariant.2 (ap (λ o. get_or c.args.norms.now o nan) c.read_place-o.ensures.0))
+loop-j-preserved c = filled-step _ _ _ (omega (arith, c.requires.4, c.loop-j-test.true)) c.loop-j.invariant (ap (λ o. get_or c.args.norms.now o nan) c.read_place-o.ensures.0)
 
 pub returns : goal.returns
 unfolding sorted_of
-returns c = let a = c.args in stop (λ k. filled k (λ i. get_or a.norms.now (get_or (places_in a.order.now) i 0) nan) a.s.now) c.loop-j.invariant.2 (search rules) (search rules) ∙ filled-all _ _ _ c.requires.4
+returns c = let a = c.args in stop (λ k. filled k (λ i. get_or a.norms.now (get_or (places_in a.order.now) i 0) nan) a.s.now) c.loop-j.invariant (search rules) (search rules) ∙ filled-all _ _ _ c.requires.4

@@ -1,5 +1,5 @@
-use mathlib.Core.Path.{refl, ◌∙◌}
-use Prim.Native.Nat.{◌*◌, ◌-◌}
+use mathlib.Core.Path.{◌∙◌}
+use Prim.Native.Nat.{◌*◌}
 use native.Mathlib.Nat.{zero-mul}
 use Rattle.complex.proofs.Loops.{stop}
 use Rattle.svd_load.specs.Loading.{conjugate_transposed, planes_to}
@@ -8,13 +8,10 @@ use borrow.Author.Rules.{rules}
 use Rattle.svd_load.proofs.load_wide.Goals as goal
 
 pub loop-col-init : goal.loop-col-init
-loop-col-init c = (search rules, refl, rw zero-mul (planes-none _ _ _ _))
-
-pub load_row-requires : goal.load_row-requires
-load_row-requires c = (search rules, search rules, search rules, search rules)
+loop-col-init c = rw zero-mul (planes-none _ _ _ _)
 
 pub loop-col-preserved : goal.loop-col-preserved
-loop-col-preserved c = (search rules, search rules, planes-column _ _ _ _ _ c.loop-col.invariant.2 c.load_row.ensures)
+loop-col-preserved c = planes-column _ _ _ _ _ c.loop-col.invariant c.load_row.ensures
 
 pub returns : goal.returns
-returns c = stop (λ k. planes_to (c.args.m * c.args.n) (conjugate_transposed c.args.a.now c.args.m c.args.n) 0 (k * c.args.n) c.args.work.now) c.loop-col.invariant.2 (search rules) (search rules) ∙ planes-all _ _ _ c.requires.2
+returns c = stop (λ k. planes_to (c.args.m * c.args.n) (conjugate_transposed c.args.a.now c.args.m c.args.n) 0 (k * c.args.n) c.args.work.now) c.loop-col.invariant (search rules) (search rules) ∙ planes-all _ _ _ c.requires.2

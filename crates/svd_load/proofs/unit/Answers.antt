@@ -1,7 +1,5 @@
 use mathlib.Core.Path.{refl}
-use Prim.Native.Nat.{◌+◌, ◌*◌, ◌-◌, ◌≤◌}
 use native.Mathlib.Omega.{arith}
-use lib.ListN.{length-set}
 use Rattle.complex.proofs.Loops.{stop}
 use Rattle.whole_numbers.proofs.WholeLaws.{column_fits}
 use Rattle.svd_load.specs.Loading.{unit_to}
@@ -10,30 +8,22 @@ use borrow.Author.Rules.{rules}
 use Rattle.svd_load.proofs.unit.Goals as goal
 
 pub loop-k-init : goal.loop-k-init
-loop-k-init c = (search rules, refl, unit-none _ _)
+loop-k-init c = unit-none _ _
 
 pub overflow_mul-at : goal.overflow_mul-at
-overflow_mul-at c =
-    let col : let a = c.args in c.loop-k.k * a.n + a.n ≤ a.n * a.n = column_fits _ _ _ c.loop-k-test.true in
-    omega (arith, col)
+overflow_mul-at c = omega (arith, column_fits c.loop-k.k c.args.n c.args.n c.loop-k-test.true)
 
 pub overflow_add-at : goal.overflow_add-at
-overflow_add-at c =
-    let col : let a = c.args in c.loop-k.k * a.n + a.n ≤ a.n * a.n = column_fits _ _ _ c.loop-k-test.true in
-    omega (arith, col)
+overflow_add-at c = omega (arith, column_fits c.loop-k.k c.args.n c.args.n c.loop-k-test.true)
 
 pub offset_bounds-v-at : goal.offset_bounds-v-at
-offset_bounds-v-at c =
-    let col : let a = c.args in c.loop-k.k * a.n + a.n ≤ a.n * a.n = column_fits _ _ _ c.loop-k-test.true in
-    omega (arith, col)
+offset_bounds-v-at c = omega (arith, column_fits c.loop-k.k c.args.n c.args.n c.loop-k-test.true)
 
 pub bounds-v-at : goal.bounds-v-at
-bounds-v-at c =
-    let col : let a = c.args in c.loop-k.k * a.n + a.n ≤ a.n * a.n = column_fits _ _ _ c.loop-k-test.true in
-    omega (arith, col)
+bounds-v-at c = omega (arith, column_fits c.loop-k.k c.args.n c.args.n c.loop-k-test.true)
 
 pub loop-k-preserved : goal.loop-k-preserved
-loop-k-preserved c = (search rules, simp length-set c.loop-k.invariant.1, unit-more _ _ _ c.loop-k.invariant.2)
+loop-k-preserved c = unit-more _ _ _ c.loop-k.invariant
 
 pub returns : goal.returns
-returns c = unit-all _ c.args.v.now c.requires refl c.zero_first.ensures (stop (unit_to _ _) c.loop-k.invariant.2 (search rules) (search rules))
+returns c = unit-all _ c.args.v.now c.requires refl c.zero_first.ensures (stop (unit_to _ _) c.loop-k.invariant (search rules) (search rules))

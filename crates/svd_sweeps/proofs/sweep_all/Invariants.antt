@@ -10,7 +10,11 @@ use Rattle.svd_sweeps.specs.Late.{Waiting, late_state}
 use Rattle.svd_sweeps.proofs.sweep_all.Given as goal
 
 abbrev pub invariant-loop-k : goal.invariant-loop-k
-invariant-loop-k l = (l.k ≤ 100) × (length l.work ≡ length l.initial.work) × (length l.v ≡ length l.initial.v) × (length l.marks ≡ 64) × (sweeps_to (svd_pairings (making l.plain) l.m l.n) l.n (100 - l.k) (late_state (making l.plain) l.n l.work l.v l.w) ≡ settled_with (making l.plain) l.m l.n l.initial.work l.initial.v) × (l.w.s.begun ≤ l.k) × (l.w.s.turned ≤ l.k * 4096) × Seen l.m l.n (look (l.w.s.begun + 1) 0 0) l.marks l.work × Waiting l.n l.w
-
-abbrev pub decreases-loop-k : goal.decreases-loop-k
-decreases-loop-k l = 100 - l.k
+invariant-loop-k l = record {
+  marks : length l.marks ≡ 64;
+  state : sweeps_to (svd_pairings (making l.plain) l.m l.n) l.n (100 - l.k) (late_state (making l.plain) l.n l.work l.v l.w) ≡ settled_with (making l.plain) l.m l.n l.initial.work l.initial.v;
+  begun : l.w.s.begun ≤ l.k;
+  turned : l.w.s.turned ≤ l.k * 4096;
+  seen : Seen l.m l.n (look (l.w.s.begun + 1) 0 0) l.marks l.work;
+  waiting : Waiting l.n l.w;
+}

@@ -1,13 +1,10 @@
 -- `svd_sweeps::turn_v` meets its contract: the columns of V are within it, and to no V nothing is done. Assumes nothing.
 use Prim.Native.Nat.{◌+◌, ◌*◌, ◌≤◌}
-use native.Mathlib.Nat.{mul-le-mul, pos_of_ne-zero}
+use native.Mathlib.Nat.{mul-le-mul}
 use native.Mathlib.Omega.{arith}
 use Rattle.whole_numbers.proofs.WholeLaws.{column_fits}
 use Rattle.svd_sweeps.proofs.SweepingLaws.{v-none}
 use Rattle.svd_sweeps.proofs.turn_v.Goals as goal
-
-pub returns-then-v-eq0 : goal.returns-then-v-eq0
-returns-then-v-eq0 c = v-none _ _ _ _ _ _ _ (omega (arith, c.if-v-eq0.true))
 
 pub overflow_mul-n : goal.overflow_mul-n
 overflow_mul-n c =
@@ -31,4 +28,7 @@ pub turn_columns-requires : goal.turn_columns-requires
 turn_columns-requires c =
     let p-fits : c.args.p * c.args.n + c.args.n ≤ c.args.q * c.args.n = column_fits _ _ _ c.requires.2 in
     let q-fits : c.args.q * c.args.n + c.args.n ≤ c.args.n * c.args.n = column_fits _ _ _ c.requires.3 in
-    (c.requires.0.full (pos_of_ne-zero c.if-v-eq0.false), p-fits, q-fits)
+    (c.requires.0.full (grind (arith, c.is_empty.ensures)), p-fits, q-fits)
+
+pub returns-else-not-is_empty : goal.returns-else-not-is_empty
+returns-else-not-is_empty c = v-none _ _ _ _ _ _ _ (grind (arith, c.is_empty.ensures))

@@ -1,17 +1,22 @@
-use mathlib.Core.Path.{refl, sym, ◌∙◌}
-use native.Mathlib.Omega.{arith}
-use Prim.Native.Nat.{◌-◌}
-use Rattle.values.proofs.ListLaws.{allowed-bad, allowed-good, allowed-end}
+-- `values::check_values` meets its contract: it is the first value that is not allowed. Assumes nothing.
+use mathlib.Core.Path.{◌≡◌}
+use mathlib.Core.Bool.{not}
+use Rattle.std.proofs.Common.{rules, tests}
+use Rattle.std.proofs.lemmas.Iterator.{YieldsList-from_slice}
+use Rattle.std.proofs.lemmas.Iterator.Search.{position_from_yields_List}
+use Rattle.std.specs.List.{position}
+use Rattle.numbers.specs.Numbers.{allowed}
+use Rattle.values.proofs.ListLaws.{allowed-found}
 use Rattle.values.proofs.check_values.Goals as goal
 
-pub loop-i-init : goal.loop-i-init
-loop-i-init c = (omega arith, refl)
+pub returns-in-Some : goal.returns-in-Some
+returns-in-Some c =
+    let e : c.position.result ≡ position (λ x. not (allowed x)) c.args.s.now =
+    position_from_yields_List (λ x. not (allowed x)) _ _ _ c.position.ensures.ran (YieldsList-from_slice c.args.s.now (cc)) (λ x b q k. search (rules, tests)) in
+    allowed-found _ e c.in-Some.is
 
-pub returns-then-not-component_allowed : goal.returns-then-not-component_allowed
-returns-then-not-component_allowed c = sym (c.loop-i.invariant.1 ∙ allowed-bad _ _ c.loop-i-test.true (sym c.component_allowed.ensures ∙ c.if-not-component_allowed.true))
-
-pub loop-i-preserved : goal.loop-i-preserved
-loop-i-preserved c = (omega arith, c.loop-i.invariant.1 ∙ allowed-good _ _ c.loop-i-test.true (sym c.component_allowed.ensures ∙ c.if-not-component_allowed.false))
-
-pub returns : goal.returns
-returns c = sym (c.loop-i.invariant.1 ∙ allowed-end _ _ c.loop-i-test.false)
+pub returns-in-None : goal.returns-in-None
+returns-in-None c =
+    let e : c.position.result ≡ position (λ x. not (allowed x)) c.args.s.now =
+    position_from_yields_List (λ x. not (allowed x)) _ _ _ c.position.ensures.ran (YieldsList-from_slice c.args.s.now (cc)) (λ x b q k. search (rules, tests)) in
+    allowed-found _ e c.in-None.is

@@ -1,13 +1,15 @@
-use native.Mathlib.Omega.{arith}
-use Prim.Native.Nat.{◌-◌}
-use Rattle.values.proofs.ListLaws.{kept-end, kept_here, kept-past}
+-- `values::kept_count` meets its contract: it is the first place at or below the floor. Assumes nothing.
+use mathlib.Core.Path.{◌≡◌, ◌∙◌}
+use Rattle.std.proofs.Common.{rules, tests}
+use Rattle.std.proofs.lemmas.Iterator.{YieldsList-from_slice}
+use Rattle.std.proofs.lemmas.Iterator.Search.{position_from_yields_List}
+use lib.Ieee.{le}
+use Rattle.std.specs.List.{position}
+use Rattle.values.proofs.ListLaws.{kept-found}
 use Rattle.values.proofs.kept_count.Goals as goal
 
-pub returns-then-s-i : goal.returns-then-s-i
-returns-then-s-i c = omega (arith, kept_here c.args.floor c.args.s.now c.loop-i.i c.loop-i-test.true c.if-s-i.true)
-
-pub loop-i-preserved : goal.loop-i-preserved
-loop-i-preserved c = (omega arith, omega (arith, kept-past c.args.floor c.args.s.now c.loop-i.i c.loop-i-test.true c.if-s-i.false))
-
 pub returns : goal.returns
-returns c = omega (arith, kept-end c.args.floor c.args.s.now c.loop-i.i c.loop-i-test.false)
+returns c =
+    let e : c.position.result ≡ position (λ x. le x c.args.floor) c.args.s.now =
+    position_from_yields_List (λ x. le x c.args.floor) _ _ _ c.position.ensures.ran (YieldsList-from_slice c.args.s.now (cc)) (λ x b q k. search (rules, tests)) in
+    c.unwrap_or.ensures ∙ rw e (kept-found _ _)

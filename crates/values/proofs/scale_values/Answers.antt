@@ -1,15 +1,12 @@
-use mathlib.Core.Path.{refl, sym, ◌∙◌}
+use mathlib.Core.Path.{sym, ◌∙◌}
+use Prim.Native.Nat.{◌<◌}
 use native.Mathlib.Omega.{arith}
-use Prim.Native.Nat.{◌≤◌, ◌-◌, ◌<◌}
-use lib.ListN.{length, length-set}
+use lib.ListN.{length}
 use Rattle.values.proofs.ListLaws.{scaled-end, scaled-more}
 use Rattle.values.proofs.scale_values.Goals as goal
 
-pub loop-i-init : goal.loop-i-init
-loop-i-init c = (refl, omega arith, refl, refl)
-
-pub loop-i-preserved : goal.loop-i-preserved
-loop-i-preserved c = let h : c.loop-i.i < length c.loop-i.s = omega arith in (refl, omega arith, simp length-set c.loop-i.invariant.2, scaled-more _ _ _ h ∙ c.loop-i.invariant.3)
+pub loop-x-preserved : goal.loop-x-preserved
+loop-x-preserved c = let h : c.loop-x.x-index < length c.loop-x.s = omega arith in scaled-more _ _ _ h ∙ c.loop-x.invariant
 
 pub returns : goal.returns
-returns c = let h : length c.loop-i.s ≤ c.loop-i.i = omega arith in sym (scaled-end _ _ _ h) ∙ c.loop-i.invariant.3
+returns c = sym (scaled-end _ _ _ (omega arith)) ∙ c.loop-x.invariant

@@ -1,13 +1,9 @@
--- `values::scale_values` meets its contract. The loop's invariant: scaling the values from i on gives the same list. Assumes nothing.
+-- `values::scale_values` meets its contract. The loop's invariant: scaling the values that are left gives the same list. Assumes nothing.
 use mathlib.Core.Path.{◌≡◌}
-use Prim.Native.Nat.{◌≤◌, ◌-◌}
 use mathlib.Core.List.{◌++◌}
-use lib.ListN.{length, drop, take}
+use lib.ListN.{drop, take}
 use Rattle.values.specs.Lists.{scaled_by}
 use Rattle.values.proofs.scale_values.Given as goal
 
-abbrev pub invariant-loop-i : goal.invariant-loop-i
-invariant-loop-i l = (l.i-end ≡ length l.initial.s) × (l.i ≤ l.i-end) × (length l.s ≡ length l.initial.s) × (take l.i l.s ++ scaled_by l.k (drop l.i l.s) ≡ scaled_by l.k l.initial.s)
-
-abbrev pub decreases-loop-i : goal.decreases-loop-i
-decreases-loop-i l = l.i-end - l.i
+abbrev pub invariant-loop-x : goal.invariant-loop-x
+invariant-loop-x l = take l.x-index l.s ++ scaled_by l.k (drop l.x-index l.s) ≡ scaled_by l.k l.initial.s

@@ -2,11 +2,8 @@
 use mathlib.Core.Path.{refl, sym}
 use Prim.Native.Nat.{◌≤◌}
 use native.Mathlib.Omega.{arith}
-use lib.ListN.{take}
 use lib.Seq.{length-take-le}
-use lib.Ieee.{binary64, mul}
-use Rattle.finish.specs.Finish.{value_floor}
-use Rattle.weights.proofs.WeightLaws.{roots-le, weights-made}
+use Rattle.weights.proofs.WeightLaws.{roots_few, weights-made}
 use Rattle.weights.proofs.finish_weights.Goals as goal
 
 pub slice_bounds-largest_weight-end-2 : goal.slice_bounds-largest_weight-end-2
@@ -20,17 +17,17 @@ roots_above-count-requires c = omega (arith, length-take-le c.args.n c.args.out.
 
 pub slice_bounds-finish_values-end : goal.slice_bounds-finish_values-end
 slice_bounds-finish_values-end c =
-    let few : c.roots_above-count.result ≤ c.args.n = let l = take c.args.n c.args.out.now in omega (arith, c.roots_above-count.ensures.0, roots-le (mul binary64 c.largest_weight-floor.result value_floor) l, length-take-le c.args.n c.args.out.now c.requires.0) in
+    let few : c.roots_above-count.result ≤ c.args.n = roots_few _ _ _ c.requires.0 c.roots_above-count.ensures.0 in
     omega (arith, few, c.roots_above-count.auto.roots, c.requires.1)
 
 pub slice_bounds-finish_values-end-2 : goal.slice_bounds-finish_values-end-2
 slice_bounds-finish_values-end-2 c =
-    let few : c.roots_above-count.result ≤ c.args.n = let l = take c.args.n c.args.out.now in omega (arith, c.roots_above-count.ensures.0, roots-le (mul binary64 c.largest_weight-floor.result value_floor) l, length-take-le c.args.n c.args.out.now c.requires.0) in
+    let few : c.roots_above-count.result ≤ c.args.n = roots_few _ _ _ c.requires.0 c.roots_above-count.ensures.0 in
     sym (length-take-le _ _ (omega (arith, few, c.roots_above-count.auto.roots, c.requires.1)))
 
 pub finish_values-requires : goal.finish_values-requires
 finish_values-requires c =
-    let few : c.roots_above-count.result ≤ c.args.n = let l = take c.args.n c.args.out.now in omega (arith, c.roots_above-count.ensures.0, roots-le (mul binary64 c.largest_weight-floor.result value_floor) l, length-take-le c.args.n c.args.out.now c.requires.0) in
+    let few : c.roots_above-count.result ≤ c.args.n = roots_few _ _ _ c.requires.0 c.roots_above-count.ensures.0 in
     let n = few in let k = c.roots_above-count.auto.roots in let p = c.requires in omega (arith, length-take-le c.roots_above-count.result c.roots_above-count.new.roots (omega (arith, n, k, p.1)), n, p.0, c.zero_first.auto.s)
 
 pub returns : goal.returns

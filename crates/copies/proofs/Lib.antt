@@ -1,0 +1,1 @@
+-- No law: the contract says all.

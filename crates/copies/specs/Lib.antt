@@ -1,0 +1,1 @@
+-- No definition: the contract speaks of lists alone.

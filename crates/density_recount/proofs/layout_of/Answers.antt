@@ -1,8 +1,0 @@
--- `density_recount::layout_of` meets its contract. Assumes nothing.
-use Rattle.density_recount.proofs.layout_of.Goals as goal
-
-pub returns-then-named : goal.returns-then-named
-returns-then-named c = rw c.if-named.true
-
-pub returns : goal.returns
-returns c = rw c.if-named.false

@@ -1,8 +1,0 @@
--- `numbers::larger_of` meets its contract: the test is the definition's. Assumes nothing.
-use Rattle.numbers.proofs.larger_of.Goals as goal
-
-pub returns-then-a-b : goal.returns-then-a-b
-returns-then-a-b c = rw c.if-a-b.true
-
-pub returns : goal.returns
-returns c = rw c.if-a-b.false
