@@ -16,33 +16,40 @@ fn print_complex(rt: &impl Print, z: Complex) -> io::Result<()> {
 }
 
 fn roots(rt: &impl Print, text: &[u8], at: usize) -> io::Result<usize> {
-    replay::print_word(rt, numbers::sqrt_bits(replay::word_at(text, at)))?;
-    let marked = exact_roots::sqrt_marked(replay::float_at(text, at));
+    let word = replay::read_word(text, at);
+    replay::print_word(rt, numbers::sqrt_bits(word.value))?;
+    let marked = exact_roots::sqrt_marked(replay::float_of(word.value));
     replay::print_number(rt, marked.root)?;
     replay::print_yes(rt, marked.exact)?;
-    Ok(replay::past(text, at))
+    Ok(word.next)
 }
 
 fn helpers(rt: &impl Print, text: &[u8], at: usize) -> io::Result<usize> {
-    let x = replay::float_at(text, at);
+    let word = replay::read_word(text, at);
+    let x = replay::float_of(word.value);
     replay::print_number(rt, numbers::magnitude(x))?;
     replay::print_number(rt, numbers::sign(x))?;
     replay::print_yes(rt, numbers::is_finite(x))?;
     replay::print_yes(rt, numbers::component_allowed(x))?;
-    Ok(replay::past(text, at))
+    Ok(word.next)
 }
 
 fn order(rt: &impl Print, text: &[u8], at: usize) -> io::Result<usize> {
-    let second = replay::past(text, at);
-    let order = numbers::total_order(replay::float_at(text, at), replay::float_at(text, second));
+    let first = replay::read_word(text, at);
+    let second = replay::read_word(text, first.next);
+    let order = numbers::total_order(
+        replay::float_of(first.value),
+        replay::float_of(second.value),
+    );
     replay::print_number(rt, numbers::order_number(order))?;
-    Ok(replay::past(text, second))
+    Ok(second.next)
 }
 
 fn cell(text: &[u8], at: usize) -> Complex {
+    let re = replay::read_word(text, at);
     Complex {
-        re: replay::float_at(text, at),
-        im: replay::float_at(text, replay::past(text, at)),
+        re: replay::float_of(re.value),
+        im: replay::float_at(text, re.next),
     }
 }
 

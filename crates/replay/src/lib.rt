@@ -2,7 +2,7 @@
 // to standard output. What they promise is only what a loop over a text needs; the gate compares the output.
 #![tactic(auto)]
 
-ghost use Rattle.std.specs.Prelude.{◌≡◌, ◌<◌, ◌≤◌, IfSome, length};
+ghost use Rattle.std.specs.Prelude.{◌≡◌, ◌<◌, ◌≤◌, IfSome, max, length};
 
 use answers::Refusal;
 use std::io;
@@ -65,9 +65,19 @@ pub fn next_word(text: &[u8], at: usize) -> Option<Word>
     }
 }
 
+// The same, and past the last word 0 each time. From there the text goes on at its end, so what no word stands in is gone over once.
+pub fn read_word(text: &[u8], at: usize) -> Word
+    ensures { (at < length text.now → at < result.next) × (at ≤ result.next) × (result.next ≤ max at (length text.now)) }
+{
+    next_word(text, at).unwrap_or(Word {
+        value: 0,
+        next: at.max(text.len()),
+    })
+}
+
 // The word of the text from `at` on: 0 past the text's end.
 pub fn word_at(text: &[u8], at: usize) -> u64 {
-    next_word(text, at).map_or(0, |word| word.value)
+    read_word(text, at).value
 }
 
 // The same as a size.
@@ -82,7 +92,7 @@ pub fn float_at(text: &[u8], at: usize) -> f64 {
 
 // Where the text goes on after that word.
 pub fn past(text: &[u8], at: usize) -> usize {
-    next_word(text, at).map_or(at, |word| word.next)
+    read_word(text, at).next
 }
 
 // Where the text goes on after so many words from `at` on.
@@ -162,8 +172,9 @@ impl Number for f64 {
 pub fn read_numbers<T: Number>(text: &[u8], at: usize, out: &mut [T], count: usize) -> usize {
     let mut next = at;
     for i in 0..count.min(out.len()) {
-        out[i] = T::of_word(word_at(text, next));
-        next = past(text, next);
+        let word = read_word(text, next);
+        out[i] = T::of_word(word.value);
+        next = word.next;
     }
     next
 }
@@ -172,10 +183,10 @@ pub fn read_numbers<T: Number>(text: &[u8], at: usize, out: &mut [T], count: usi
 pub fn change<T: Number>(text: &[u8], at: usize, out: &mut [T], count: usize) -> usize {
     let mut next = at;
     for _ in 0..count {
-        let place = size_at(text, next);
-        next = past(text, next);
-        set(out, place, word_at(text, next));
-        next = past(text, next);
+        let place = read_word(text, next);
+        let word = read_word(text, place.next);
+        set(out, place.value as usize, word.value);
+        next = word.next;
     }
     next
 }
