@@ -6,7 +6,7 @@ use Prim.Native.Nat.{ℕ, zero, suc, ◌+◌, ◌≤◌, ◌<◌}
 use native.Mathlib.Numerals.{add-one}
 use native.Mathlib.Omega.{arith}
 use native.Mathlib.Nat.{add-zero}
-use borrow.Author.Tests.{le-leb, lt-leb, leb-false}
+use borrow.Author.Tests.{eq-eqb, ne_eqb, le-leb, lt-leb, leb-false}
 use lib.Dec.{leb, eqb}
 use lib.ListN.{length, take, drop, get_or, drop_of_length-le}
 use lib.Seq.{drop-cons}
@@ -14,6 +14,19 @@ use Rattle.std.specs.List.{list_any}
 use Rattle.answers.specs.Paper.{done, refuse}
 use Rattle.answers.proofs.PaperLaws.{refuse-done}
 use Rattle.qubits.specs.Lists.{stands, places_from}
+
+module _ (l : List ℕ) (i q : ℕ) where
+  pub stands_here : i < length l → get_or l i 0 ≡ q → stands q (drop i l) ≡ true
+  unfolding stands
+  stands_here h e = rw (drop-cons l i 0, eq-eqb (get_or l i 0) q e)
+
+  pub stands-past : i < length l → (get_or l i 0 ≡ q → ⊥) → stands q (drop i l) ≡ stands q (drop (i + 1) l)
+  unfolding stands
+  stands-past h e = rw (add-one, drop-cons l i 0, ne_eqb (get_or l i 0) q e)
+
+  pub stands-end : length l ≤ i → stands q (drop i l) ≡ false
+  unfolding stands
+  stands-end h = rw (drop_of_length-le l h)
 
 -- the library's `contains`
 pub stands-any : (q : ℕ) (l : List ℕ) → list_any (λ x. eqb x q) l ≡ stands q l
