@@ -223,15 +223,19 @@ fn turn_two<const PLAIN: bool>(xs: &mut [f64], c: usize, i: usize, j: usize, f: 
 }
 
 // The columns that start at the cells a and b, of m rows, are turned. Whether plainly is a constant, and so no test in the loop.
+// A `while`: a `for` over half of the rows is compiled for four rows at once, which takes every call that sweeps some 350 bytes of stack more,
+// over the 5 KB that docs/CONVENTIONS.md has, and no less time.
 fn turn_all<const PLAIN: bool>(xs: &mut [f64], c: usize, a: usize, b: usize, m: usize, f: Factors)
     requires { (length xs.old ≡ 2 * c) × (a + m ≤ b) × (b + m ≤ c) × RealTurn f }
     ensures { xs.new ≡ turn_rows (making PLAIN) f c a b m xs.old }
 {
-    for k in 0..m / 2 {
-        turn_two::<PLAIN>(xs, c, a + 2 * k, b + 2 * k, f);
+    let mut r = 0;
+    while r + 1 < m {
+        turn_two::<PLAIN>(xs, c, a + r, b + r, f);
+        r += 2;
     }
-    if m % 2 == 1 {
-        turn_row::<PLAIN>(xs, c, a + m - 1, b + m - 1, f);
+    if r < m {
+        turn_row::<PLAIN>(xs, c, a + r, b + r, f);
     }
 }
 
