@@ -9,10 +9,12 @@ use Rattle.complex.specs.declared.Complex.{Complex}
 use Rattle.complex.specs.Arithmetic.{conjugate}
 use Rattle.complex.specs.Cells.{cell_at, set_cell}
 use Rattle.complex.specs.Planes.{plane_at, set_plane}
+use Rattle.std.specs.Prelude.{Some, None}
 use Rattle.svd_pair.specs.declared.Turn.{Turn}
+use Rattle.svd_pair.specs.Decisions.{Decision}
 use Rattle.eigen_pair.specs.CellPlanes.{as_planes}
 use Rattle.eigen_pair.proofs.CellPlanesLaws.{length-set_cell, plane-read, plane-set}
-use Rattle.eigen_pair.specs.Turn.{eigen_new_p, eigen_new_q, turn_two, turn_line, angle, turned}
+use Rattle.eigen_pair.specs.Turn.{eigen_new_p, eigen_new_q, turn_two, turn_line, angle, turned, eigen_applied}
 
 -- ---- laws
 
@@ -43,3 +45,12 @@ pub turned-made : (w : Turn) (n p q : ℕ) (xs : List Float) {back : Complex} {y
     → zs ≡ turned w n p q xs
 unfolding turned
 turned-made w n p q xs e f g = rw (← e, ← f) g
+
+pub applied-turn : {d : Decision} {w : Turn} {ys : List Float} (n p q : ℕ) (xs : List Float) → d ≡ Some w → ys ≡ turned w n p q xs
+    → ys ≡ eigen_applied d n p q xs
+unfolding eigen_applied
+applied-turn n p q xs e f = rw e f
+
+pub applied-leave : {d : Decision} (n p q : ℕ) (xs : List Float) → d ≡ None → xs ≡ eigen_applied d n p q xs
+unfolding eigen_applied
+applied-leave n p q xs e = rw e

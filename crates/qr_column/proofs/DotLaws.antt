@@ -6,9 +6,19 @@ use native.Mathlib.Numerals.{add-one}
 use lib.Ieee.{Float}
 use Rattle.complex.specs.declared.Complex.{Complex}
 use Rattle.qr_column.specs.declared.Sums.{Sums}
-use Rattle.qr_column.specs.Dot.{add_first, joined, dot_term, quads_to, tail_to, dot_of}
+use Rattle.qr_column.specs.Dot.{no_sums, add_quad, add_first, joined, dot_term, quads_to, tail_to, dot_of}
 
 -- ---- laws
+
+pub quads_to-none : (q : List Float) (o : ℕ) (v : List Float) → no_sums ≡ quads_to q o v 0
+unfolding quads_to
+quads_to-none q o v = refl
+
+pub quads_to-more : (q : List Float) (o : ℕ) (v : List Float) (k : ℕ) {a b : Sums} {x y z w : Complex} → a ≡ quads_to q o v k
+    → x ≡ dot_term q o v (4 * k) → y ≡ dot_term q o v (4 * k + 1) → z ≡ dot_term q o v (4 * k + 2) → w ≡ dot_term q o v (4 * k + 3)
+    → b ≡ add_quad a x y z w → b ≡ quads_to q o v (k + 1)
+unfolding quads_to
+quads_to-more q o v k e f g h i j = rw (add-one, ← e, ← f, ← g, ← h, ← i) j
 
 pub tail_to-none : (q : List Float) (o : ℕ) (v : List Float) (s : ℕ) (a : Sums) → a ≡ tail_to q o v s a 0
 unfolding tail_to

@@ -28,9 +28,17 @@ pub record FiniteCell (a : Complex) : Type 0 where
 pub like-self : (a : Complex) → Like a a
 like-self a = record { re = refl; im = refl }
 
+-- the other way round
+pub like-sym : {a b : Complex} → Like a b → Like b a
+like-sym h = record { re = sym h.re; im = sym h.im }
+
 -- and by way of a third
 pub like-trans : {a b c : Complex} → Like a b → Like b c → Like a c
 like-trans h g = record { re = h.re ∙ g.re; im = h.im ∙ g.im }
+
+-- one that is like a finite one is finite
+pub like-finite-cell : {a b : Complex} → Like a b → FiniteCell a → FiniteCell b
+like-finite-cell {a} {b} h f = record { re = sym (like-finite a.re b.re h.re) ∙ f.re; im = sym (like-finite a.im b.im h.im) ∙ f.im }
 
 -- ---- the arithmetic
 
@@ -46,6 +54,11 @@ like-product h g = record {
 pub like-sum : {a a' b b' : Complex} → Like a a' → Like b b' → Like (sum_of a b) (sum_of a' b')
 unfolding sum_of
 like-sum h g = record { re = like-add _ _ _ _ h.re g.re; im = like-add _ _ _ _ h.im g.im }
+
+-- differences
+pub like-difference : {a a' b b' : Complex} → Like a a' → Like b b' → Like (difference a b) (difference a' b')
+unfolding difference
+like-difference h g = record { re = like-sub _ _ _ _ h.re g.re; im = like-sub _ _ _ _ h.im g.im }
 
 -- negations
 pub like-negation : {a a' : Complex} → Like a a' → Like (negation a) (negation a')
