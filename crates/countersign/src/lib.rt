@@ -5,7 +5,7 @@
 
 ghost use Rattle.std.specs.Prelude.{◌≡◌, ◌≤◌, length};
 ghost use Rattle.countersign_products.specs.Products.{Read};
-ghost use Rattle.countersign.specs.Verdict.{says, verdict_of, Accepted, Countersign};
+ghost use Rattle.countersign.specs.Verdict.{says, found, verdict_of, Accepted, Countersign};
 
 use answers::Refusal;
 
@@ -38,6 +38,20 @@ pub fn verdict_of(f: Finding) -> Verdict
         Finding::Values(c) => (false, 4, c),
     };
     Verdict { yes, test, cell }
+}
+
+// The same of a call's answer: a refused one says no, 0, 0.
+pub fn verdict_of_call(answer: &Result<Finding, Refusal>) -> Verdict
+    ensures { (result.yes ≡ (found answer.now).0) × (result.test ≡ (found answer.now).1) × (result.cell ≡ (found answer.now).2) }
+{
+    match answer {
+        Ok(finding) => verdict_of(*finding),
+        Err(_) => Verdict {
+            yes: false,
+            test: 0,
+            cell: 0,
+        },
+    }
 }
 
 // The four tests in their order, over slices of an accepted call; the factors' numbers stand in us, ss and vs.

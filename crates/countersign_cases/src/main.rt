@@ -4,7 +4,6 @@
 // Each case writes one line of words: the answer's number and place, 1 for yes or 0, the test, the cell.
 #![tactic(auto)]
 
-use countersign::Verdict;
 use std::io;
 
 // Sets the numbers that the text names from the slice's length on, at most as many as a slice has; where it goes on.
@@ -27,14 +26,7 @@ fn report(
 ) -> io::Result<()> {
     let found = countersign::countersign(a, m, n, u, s, vt, tolerance);
     replay::print_answer(rt, &found)?;
-    let verdict = match found {
-        Ok(finding) => countersign::verdict_of(finding),
-        Err(_) => Verdict {
-            yes: false,
-            test: 0,
-            cell: 0,
-        },
-    };
+    let verdict = countersign::verdict_of_call(&found);
     replay::print_yes(rt, verdict.yes)?;
     replay::print_number(rt, verdict.test)?;
     replay::print_number(rt, verdict.cell)

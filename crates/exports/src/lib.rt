@@ -60,7 +60,6 @@ ghost use Rattle.certificate_pages.specs.Pages.{pages_of, Called};
 
 use answers::Refusal;
 use complex::Complex;
-use countersign::Verdict;
 use cut_values::CutCounted;
 use entropy_bands::Entropy;
 use factored::Counted;
@@ -407,14 +406,7 @@ pub extern "C" fn zg_countersign(
     ensures { ExportedResult found (λ k. Countersign a.now m n u.now s.now vt.now tolerance k) result place.new (yes.new, test.new, cell.new) }
 {
     let k = countersign::countersign(a, m, n, u, s, vt, tolerance);
-    let verdict = match k {
-        Ok(finding) => countersign::verdict_of(finding),
-        Err(_) => Verdict {
-            yes: false,
-            test: 0,
-            cell: 0,
-        },
-    };
+    let verdict = countersign::verdict_of_call(&k);
     *yes = verdict.yes;
     *test = verdict.test;
     *cell = verdict.cell;
