@@ -1,7 +1,7 @@
 -- Laws of the state's tests and of the first rows. Assumes nothing.
 use mathlib.Core.Path.{◌≡◌, refl, sym, ap, ◌∙◌}
-use mathlib.Core.Bool.{Bool, true, false, ◌&&◌}
-use mathlib.Core.List.{List, [], ◌∷◌}
+use mathlib.Core.Bool.{Bool, true, false}
+use mathlib.Core.List.{List}
 use Prim.Native.Nat.{ℕ, zero, suc, ◌+◌, ◌-◌, ◌*◌, ◌/◌, ◌%◌, ◌^◌, ◌≤◌, ◌<◌}
 use native.Mathlib.Nat.{zero-add, zero-mul, suc-add, add-mul, mul-le-mul, mul-le-mul_left, mul-le-mul_right, mul_assoc, mul_comm, pow-suc, le_trans}
 use native.Mathlib.Numerals.{add-one}
@@ -14,8 +14,6 @@ use lib.Pow.{pow_pos, pow_mono, pow-add}
 use lib.Ieee as Ieee
 use lib.Ieee.{Float, nan, inf, fin, down, binary64, of_bits}
 use borrow.Author.Tests.{le-leb, leb-true, eqb-true, eqb-false}
-use Rattle.std.specs.Bool.{MatchBool}
-use Rattle.std.specs.List.{AllWithin, HoldsAt}
 use Rattle.answers.specs.Paper.{done}
 use Rattle.complex.specs.declared.Complex.{Complex}
 use Rattle.svd_columns.proofs.Grids.{written_step, columns-all}
@@ -53,26 +51,17 @@ pub state-end : (k : ℕ) (l : List Float) (i : ℕ) → length l ≤ i → comp
 unfolding components_for
 state-end k l i h = rw (drop_of_length-le l h)
 
-zero-every : (l : List Float) → AllWithin (λ x. Ieee.eq x (of_bits binary64 0) ≡ true) l 0 (length l) → state_zero l ≡ true
+pub zero-bad : (l : List Float) (i : ℕ) → i < length l → Ieee.eq (get_or l i nan) (of_bits binary64 0) ≡ false → state_zero (drop i l) ≡ false
 unfolding state_zero
-zero-every [] h = refl
-zero-every (x ∷ l) h = rw (h 0 nan (omega arith) (omega arith)) (zero-every l (λ k d a b. h (suc k) d (omega arith) (omega arith)))
+zero-bad l i h e = rw (drop-cons l i nan, e)
 
-zero-some : (l : List Float) (k : ℕ) → k < length l → HoldsAt (λ x. Ieee.eq x (of_bits binary64 0) ≡ false) l k → state_zero l ≡ false
+pub zero-good : (l : List Float) (i : ℕ) → i < length l → Ieee.eq (get_or l i nan) (of_bits binary64 0) ≡ true → state_zero (drop i l) ≡ state_zero (drop (i + 1) l)
 unfolding state_zero
-zero-some [] k h p = absurd (omega arith)
-zero-some (x ∷ l) zero h p = rw (p nan)
-zero-some (x ∷ l) (suc k) h p = rw (zero-some l k (omega arith) p) (pick (Ieee.eq x (of_bits binary64 0)))
-  where
-    pick : (b : Bool) → (b && false) ≡ false
-    pick true = refl
-    pick false = refl
+zero-good l i h e = rw (add-one, drop-cons l i nan, e)
 
-pub zero-cases : (l : List Float) (r : Bool)
-    → MatchBool r (AllWithin (λ x. Ieee.eq x (of_bits binary64 0) ≡ true) l 0 (length l))
-    ((k : ℕ) × (k < length l) × HoldsAt (λ x. Ieee.eq x (of_bits binary64 0) ≡ false) l k) → r ≡ state_zero l
-zero-cases l true h = sym (zero-every l h)
-zero-cases l false h = sym (zero-some l h.0 h.1 h.2)
+pub zero-end : (l : List Float) (i : ℕ) → length l ≤ i → state_zero (drop i l) ≡ true
+unfolding state_zero
+zero-end l i h = rw (drop_of_length-le l h)
 
 -- ---- the bits in the other order
 

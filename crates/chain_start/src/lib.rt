@@ -13,8 +13,8 @@ use answers::Refusal;
 fn state_allowed(x: f64) -> bool
     ensures { result ≡ allowed_for 190 x }
 {
-    let bound = 1569275433846670190958947355801916604025588861116008628224.0;
-    x <= bound && -bound <= x
+    x <= 1569275433846670190958947355801916604025588861116008628224.0
+        && -1569275433846670190958947355801916604025588861116008628224.0 <= x
 }
 
 // The first cell of s with a component that is not: 7.
@@ -33,7 +33,16 @@ pub fn check_state(s: &[f64]) -> Result<(), Refusal>
 pub fn all_zero(s: &[f64]) -> bool
     ensures { result ≡ state_zero s.now }
 {
-    s.iter().all(|x| *x == 0.0)
+    let mut k = 0;
+    while k < s.len() {
+        let x = s[k];
+        if x == 0.0 {
+            k += 1;
+        } else {
+            return false;
+        }
+    }
+    true
 }
 
 // The n bits of x in the other order.

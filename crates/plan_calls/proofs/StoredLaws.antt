@@ -4,9 +4,9 @@ use mathlib.Core.Bool.{Bool, true, false, cond}
 use mathlib.Core.List.{List}
 use Prim.Native.Nat.{ℕ, zero, suc, ◌≤◌}
 use lib.ListN.{length}
-use Rattle.std.specs.Prelude.{Ok, Err}
+use Rattle.std.specs.Prelude.{Result, Ok, Err}
 use Rattle.answers.specs.declared.Refusal.{Refusal}
-use Rattle.answers.specs.Paper.{Reply, Done, table, done, if_done}
+use Rattle.answers.specs.Paper.{Reply, Answer, Done, paper, table, done, if_done}
 use Rattle.answers.proofs.PaperLaws.{done-new, done-old}
 use Rattle.answers.proofs.Stopped.{stopped-number}
 use Rattle.qubits.specs.Spread.{other_qubits}
@@ -16,7 +16,7 @@ use Rattle.plans.specs.declared.Plan.{Plan}
 use Rattle.plans.specs.Plans.{list_of, made}
 use Rattle.plans.proofs.PlanLaws.{made-is}
 use Rattle.plan_changes.specs.Changes.{Change, change_reply, changed, Changed}
-use Rattle.plan_calls.specs.Stored.{ChangeStored}
+use Rattle.plan_calls.specs.Stored.{numbers_kept, ChangeStored}
 use Rattle.plan_changes.proofs.ChangeLaws.{short-list, long-named, few-switched}
 use Rattle.plan_numbers.specs.Numbers.{numbers_of, plan_at}
 use Rattle.plan_numbers.proofs.Theorems.{read_back}
@@ -32,6 +32,11 @@ module _ (c : Change) (w : List ℕ) (p : Plan) (e : p ≡ plan_at w) where
   change-stored q end h g =
       let a : done ≡ change_reply c (plan_at w) = h.answer ∙ ap (change_reply c) e in
       record { answer = a; numbers = g ∙ ap numbers_of (h.plan ∙ ap (changed c) e) ∙ done-new _ _ w (ap (λ (x : Reply). x.0) (sym a)) }
+
+  pub change-told : (r : Result Plan Refusal) (a : Answer) (end : List ℕ) → Changed c p r → paper a ≡ paper r → end ≡ numbers_kept r w
+      → ChangeStored c w a end
+  change-told (Ok q) a end h s k = let z = change-stored q end h k in record { answer = s ∙ z.answer; numbers = z.numbers }
+  change-told (Err f) a end h s k = let z = change-kept f h in record { answer = s ∙ z.answer; numbers = k ∙ z.numbers }
 
 no_longer : (b : Bool) (x y : List ℕ) → length x ≤ 12 → length y ≤ 12 → length (cond b x y) ≤ 12
 no_longer true x y h g = h

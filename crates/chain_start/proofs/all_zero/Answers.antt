@@ -1,14 +1,21 @@
-use borrow.Author.Rules.{rules}
-use borrow.Author.Tests.{tests}
-use mathlib.Core.Bool.{true, false}
-use mathlib.Core.Path.{◌≡◌}
-use lib.Ieee as Ieee
-use lib.Ieee.{binary64, of_bits}
-use Rattle.std.proofs.lemmas.Iterator.{cases_from_all, YieldsList-from_slice}
-use Rattle.chain_start.proofs.StartLaws.{zero-cases}
+use mathlib.Core.Path.{refl, sym, ◌∙◌}
+use Prim.Native.Nat.{◌-◌}
+use native.Mathlib.Omega.{arith}
+use Rattle.chain_start.proofs.StartLaws.{zero-bad, zero-good, zero-end}
 use Rattle.chain_start.proofs.all_zero.Goals as goal
 
+-- src/lib.rt:41:5
+pub loop-k-init : goal.loop-k-init
+loop-k-init c = (omega arith, refl)
+
+-- src/lib.rt:41:5
+pub loop-k-preserved : goal.loop-k-preserved
+loop-k-preserved c = (omega (arith, c.loop-k-test.true), c.loop-k.invariant.1 ∙ zero-good _ _ c.loop-k-test.true c.if-x.true)
+
+-- src/lib.rt:46:13
+pub returns-else-x : goal.returns-else-x
+returns-else-x c = sym (c.loop-k.invariant.1 ∙ zero-bad _ _ c.loop-k-test.true c.if-x.false)
+
+-- src/lib.rt:37:1
 pub returns : goal.returns
-returns c =
-    zero-cases _ _ (cases_from_all _ _ _ (λ x. Ieee.eq x (of_bits binary64 0) ≡ true) (λ x. Ieee.eq x (of_bits binary64 0) ≡ false)
-    c.all.ensures.ran (YieldsList-from_slice c.args.s.now cc) (λ x q k. search (rules, tests)) (λ x q k. search (rules, tests)))
+returns c = sym (c.loop-k.invariant.1 ∙ zero-end _ _ c.loop-k-test.false)

@@ -5,10 +5,10 @@ use lib.Ieee.{of_bits}
 use Rattle.numbers.proofs.Bounds.{small, large}
 use Rattle.chain_start.proofs.state_allowed.Goals as goal
 
-pub returns-then-x-bound : goal.returns-then-x-bound
+pub returns-then-x : goal.returns-then-x
 unfolding of_bits
-returns-then-x-bound c = small 190 c.args.x c.if-x-bound.true
+returns-then-x c = small 190 c.args.x c.if-x.true
 
-pub returns-else-x-bound : goal.returns-else-x-bound
+pub returns-else-x : goal.returns-else-x
 unfolding of_bits
-returns-else-x-bound c = c.if-x-bound.false ∙ large 190 c.args.x c.if-x-bound.false
+returns-else-x c = c.if-x.false ∙ large 190 c.args.x c.if-x.false
