@@ -132,6 +132,11 @@ class Promises(unittest.TestCase):
                     named.add(other)
                 for line in re.findall(r'^\s*unfolding (.*)$', text, re.M):
                     self.assertEqual((set(line.split()) - own) & theirs, set(), path)
+                for root, module in re.findall(r'\b(\w+)::((?:specs|proofs)::[\w:]+)', text):
+                    self.assertIn((root, module), {('crate', module), ('whole_numbers', 'proofs::WholeLaws::le_or_lt')}, path)
+                for attribute in re.findall(r'#!?\[tactic\(([^\]]*)\)\]', text):
+                    for line in re.findall(r'\bunfolding\(([^)]*)\)', attribute):
+                        self.assertLessEqual({name.strip().split('::')[-1] for name in line.split(',')}, own, path)
             self.assertIn(crate, named)
 
 
