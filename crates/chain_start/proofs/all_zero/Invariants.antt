@@ -1,3 +1,4 @@
+-- `chain_start::all_zero` meets its contract. The loop's invariant: what is left gives the same answer. Assumes nothing.
 use mathlib.Core.Path.{◌≡◌}
 use Prim.Native.Nat.{◌≤◌, ◌-◌}
 use lib.ListN.{length, drop}
